@@ -136,6 +136,5 @@ def main():
     return parts[0][0] or int(any(status or it[1] for status, it in parts))
 
 
-if __name__ == "__main__":
-    signal.signal(signal.SIGTERM, lambda *_: sys.exit(130))
-    sys.exit(main())
+signal.signal(signal.SIGTERM, lambda *_: sys.exit(130))
+sys.exit(main())

@@ -64,8 +64,8 @@ def try_gates():
 
 
 def lay_out(folder):
-    """A tree of the tools and the small crate alone. Its sources have other endings in .ci/planted, since `rt ci` refuses a
-    source of no crate. What each planted edit has to come to, by its name: its line `told:`, none where it is refused."""
+    """A tree of the tools and the small crate alone. Its sources have other endings in .ci/planted, since `rt ci` refuses
+    a source of no crate. What each planted edit has to come to, by its name: its line `told:`, none if it is refused."""
     shutil.copytree(TOP / "tools", folder / "tools")
     shutil.copy(TOP / "HANDLES", folder)
     (folder / "crates.txt").write_text("small:\n", encoding="utf-8")
@@ -103,9 +103,9 @@ def try_edits():
         source = small / "src" / "idle.rt"
         source.write_text(source.read_text(encoding="utf-8").replace(LEN, WRONG_LEN), encoding="utf-8")
         shutil.copytree(small / "later", small / "edits", dirs_exist_ok=True)
-        failed += try_case(room, "of a function that isn't proved as it stands", ["--built", f"small/{half}"], {half: later[half]},
-                           REFUSED_TOO)
-        return failed + try_case(room, "beside a function that isn't proved", ["--built", f"small/{beside}"], {beside: later[beside]})
+        cases = [("of a function that isn't proved as it stands", ["--built", f"small/{half}"], {half: later[half]}, REFUSED_TOO),
+                 ("beside a function that isn't proved", ["--built", f"small/{beside}"], {beside: later[beside]})]
+        return failed + sum(try_case(room, *case) for case in cases)
 
 
 def try_case(folder, what, *its):
@@ -125,5 +125,4 @@ def main():
     return bool(failed)
 
 
-if __name__ == "__main__":
-    sys.exit(main())
+sys.exit(main())

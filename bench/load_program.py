@@ -1,8 +1,8 @@
-"""Our load program, `dq_load`: its sources in load/, and the tree outside of the repository in which it is proved and built.
+"""Our load program, `dq_load`: its sources in load/, and the tree outside of the repository where it is proved and built.
 
-The sources have the ending .rattle, and load/crates.line is the program's line of a crates.txt, since `rt ci` would prove
-whatever stands in crates/ under .rt. The tree lies in the user's cache folder. It has the program under the names that rt
-wants, the crates of the repository, and what rt made of them, so that a second run proves what changed.
+The sources have the ending .rattle, and load/crates.line is the program's line of a crates.txt, since `rt ci` would
+prove whatever stands in crates/ under .rt. The tree lies in the user's cache folder. It has the program under the names
+that rt wants, the crates of the repository, and what rt made of them, so that a second run proves what changed.
 """
 
 import hashlib
@@ -25,7 +25,7 @@ PROGRAM = TREE / "crates" / NAME / "out" / NAME
 def lay_out(tree=TREE):
     """Lays the sources out anew, and leaves what rt made of them."""
     tree.mkdir(parents=True, exist_ok=True)
-    lines = [(folder / name).read_text(encoding="utf-8") for folder, name in ((TOP, "crates.txt"), (SOURCES, "crates.line"))]
+    lines = [it.read_text(encoding="utf-8") for it in (TOP / "crates.txt", SOURCES / "crates.line")]
     (tree / "crates.txt").write_text("".join(lines), encoding="utf-8")
     shutil.copy(TOP / "HANDLES", tree)
     for home in [SOURCES, *(it.parent for it in (TOP / "crates").glob("*/src"))]:
@@ -49,10 +49,11 @@ def build():
 
 
 def faults():
-    """Lays the sources out in an empty folder, and tells which modules aren't there as rt wants them. Nothing is compiled."""
+    """Lays the sources out in an empty folder, and tells which modules aren't there as rt wants them."""
     with tempfile.TemporaryDirectory(prefix="hontkhale-load-") as folder:
         lay_out(pathlib.Path(folder))
         sources = pathlib.Path(folder, "crates", NAME, "src").glob("*.rt")
         texts = {it.stem: it.read_text(encoding="utf-8") for it in sources}
     named = {it for text in texts.values() for it in re.findall(r"^ *(?:pub(?:\([a-z]+\))? )?mod (\w+);", text, re.M)}
-    return [f"{it} is a module that isn't there, or a file that none names" for it in sorted(named ^ (texts.keys() - {"main"}))]
+    strange = sorted(named ^ (texts.keys() - {"main"}))
+    return [f"{it} is a module that isn't there, or a file that none names" for it in strange]

@@ -25,10 +25,8 @@ def spin():
 
 
 class Pace:
-    """Finds processors that run at full speed, and counts the samples that were taken anew.
-
-    A sample of one thread has one processor to itself, any; one of several threads has all of them.
-    """
+    """Finds processors that run at full speed, and counts the samples that were taken anew. A sample of one thread has one
+    processor to itself, any; one of several threads has all of them."""
 
     def __init__(self, alone):
         self.threads = "one thread" if alone else "several threads"

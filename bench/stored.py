@@ -1,8 +1,8 @@
 """A run of the bench: its rows and peers, and its samples as they are stored.
 
 results/latest.tsv has what is said about the run, in lines that begin with `#`, and every sample, rounded once.
-results/latest.longest.tsv has how long the calls of the rows of the longest call took. The tables of the pages and the charts
-are made of these two.
+results/latest.longest.tsv has how long the calls of the rows of the longest call took. The tables of the pages and the
+charts are made of these two.
 """
 
 import pathlib
@@ -75,7 +75,8 @@ class Case:
 def write_samples(all_cases, about):
     """Stores what was timed."""
     RESULTS.mkdir(exist_ok=True)
-    lines = [*(f"# {line}" for line in about), "peer\trow\tentries\tthreads\tnanoseconds an operation, one number for each round"]
+    head = "peer\trow\tentries\tthreads\tnanoseconds an operation, one number for each round"
+    lines = [*(f"# {line}" for line in about), head]
     spreads = ["peer\trow\tentries\tcall\tcalls\tnanoseconds that " + ", ".join(SHARES) + " of the calls take at most"]
     for case in all_cases:
         for peer, taken in case.samples.items():

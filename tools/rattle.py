@@ -171,9 +171,9 @@ def homes(tokens):
 
 @dataclasses.dataclass
 class Function:
-    """A function: its name behind those of what it stands in, and the places in the text where what is above it begins, its
-    header, its body, and where it ends; and whether another may stand beside it, as none may that a trait names, and whether
-    it is public."""
+    """A function: its name behind those of what it stands in, and the places in the text where what is above it begins,
+    its header, its body, and where it ends; and whether another may stand beside it, as none may that a trait names, and
+    whether it is public."""
 
     name: str
     above: int

@@ -23,13 +23,10 @@ OTHERS = re.compile(r"<!-- names of others: ([^>]*?) -->")
 LINK = re.compile(r"\[[^\]]*\]\(([^)\s]+)\)")
 
 
-def slug(heading):
-    kept = re.sub(r"[^\w\- ]", "", heading.strip().lower().replace("`", ""))
-    return kept.replace(" ", "-")
-
-
 def headings(text):
-    return {slug(it) for it in re.findall(r"(?m)^#+ (.*)$", text)}
+    """The anchors of a page."""
+    found = re.findall(r"(?m)^#+ (.*)$", text)
+    return {re.sub(r"[^\w\- ]", "", it.strip().lower()).replace(" ", "-") for it in found}
 
 
 def bad_links(page):

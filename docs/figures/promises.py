@@ -19,9 +19,9 @@ ALONE = re.compile(r"proved alone|by inspection", re.I)
 
 def tests():
     """Each test that has to name its promise, or does: its file, its name, and what it names."""
-    wanted = {(path, name) for it in tree.crates() for path in it.sources for name in tree.TEST.findall(text_of(path))}
-    wanted |= {(path, name) for folder in tree.PLAIN for path in files(folder, ".rs") for name in tree.TEST.findall(text_of(path))}
-    paths = {path for path, _ in wanted} | {it for part in ("src", "tests") for it in files(TOP / "rust" / "hontkhale" / part, ".rs")}
+    ours = [path for it in tree.crates() for path in it.sources] + [it for folder in tree.PLAIN for it in files(folder, ".rs")]
+    wanted = {(path, name) for path in ours for name in tree.TEST.findall(text_of(path))}
+    paths = {*ours, *(it for part in ("src", "tests") for it in files(TOP / "rust" / "hontkhale" / part, ".rs"))}
     named = {(path, name): ids.split() for path in paths for ids, name in OF_TEST.findall(text_of(path))}
     return [(path, name, named.get((path, name), [])) for path, name in sorted(wanted | named.keys())]
 
@@ -32,9 +32,9 @@ def edits():
     return [(path, path.stem, [it for line in OF_EDIT.findall(text_of(path)) for it in line.split()]) for path in paths]
 
 
-def filled(text, faults):
-    """The page with its last column made anew; adds to `faults` each file, and what it says of no promise."""
-    carriers = {found[2]: ([], []) for found in ROW.finditer(text)}
+def filled(text):
+    """The page with its last column made anew, and the faults: each file, and what it says of no promise."""
+    carriers, faults = {found[2]: ([], []) for found in ROW.finditer(text)}, []
     for place, its in enumerate((tests(), edits())):
         for path, name, promises in its:
             if not promises:
@@ -51,4 +51,4 @@ def filled(text, faults):
             faults.append((PAGE, f"{found[2]} has no test and no edit, and says neither `proved alone` nor `by inspection`"))
         return f"{found[1]} {told} |" if told else f"{found[1]} |"
 
-    return ROW.sub(row, text)
+    return ROW.sub(row, text), faults

@@ -58,7 +58,8 @@ def us_text(value):
 def speed():
     """The bench's table: medians at 10,000 entries."""
     peers = PLAN["speed_peers"]
-    return grid(["", *peers.values()], ([words, *(ns_text(ns(name, it)) for it in peers)] for name, words in PLAN["speed"].items()))
+    rows = ([words, *(ns_text(ns(name, it)) for it in peers)] for name, words in PLAN["speed"].items())
+    return grid(["", *peers.values()], rows)
 
 
 def shared_speed():
@@ -68,31 +69,35 @@ def shared_speed():
     heads[0], heads[3] = f"1 shard, 1 thread: {heads[0]}", f"4 shards, 4 threads: {heads[3]}"
     names = {"insert-burst": "insert, 64 under one lock", "poll-burst": "poll, 64 under one lock"}
     calls = ("insert", "extend", "reset", "remove", "poll", *names)
-    return grid(["", *heads], ([names.get(it, it), *(ns_text(ns(f"{it}/{many}", peer, threads=many)) for many in ("1", "4") for peer in peers)]
-                               for it in calls))
+    cells = list(itertools.product(("1", "4"), peers))
+    rows = ([names.get(it, it), *(ns_text(ns(f"{it}/{many}", peer, threads=many)) for many, peer in cells)] for it in calls)
+    return grid(["", *heads], rows)
 
 
 def headline():
-    """What a reader links by default, beside locked queues: the longest calls, then the median of each kind of call and its best run."""
+    """What a reader links by default, beside locked queues: the longest calls, then each call's median and best run."""
     def both(name, threads, peers):
         its = [(peer, name, "10000", threads) for peer in peers if (peer, name, "10000", threads) in run()]
         return f"{ns_text(run()[its[0]])} ({ns_text(run(min)[its[0]])})" if its else ""
 
-    rows = [[f"longest poll after 65,536 {call}s, no locks", *(f"{us_text(longest_of(f'longest-{call}', its[0].removesuffix('-locked'), '65536'))} µs"
-                                                               for its in PLAN["front"].values())] for call in ("cancel", "extend")]
-    return grid(["", *PLAN["front"]], [*rows, *([words, *(both(*its, peers) for peers in PLAN["front"].values())] for words, its in PLAN["front_rows"].items())])
+    front, rows = PLAN["front"].values(), []
+    for call in ("cancel", "extend"):
+        taken = (longest_of(f"longest-{call}", its[0].removesuffix("-locked"), "65536") for its in front)
+        rows.append([f"longest poll after 65,536 {call}s, no locks", *(f"{us_text(it)} µs" for it in taken)])
+    rows += ([words, *(both(*its, peers) for peers in front)] for words, its in PLAN["front_rows"].items())
+    return grid(["", *PLAN["front"]], rows)
 
 
 def beside_delay_queue():
-    """How many times as fast as tokio-util's queue each product is: the least of three sizes rounded down, and the most rounded up."""
-    calls = {"insert": "insert", "reset": "reset", "remove": "remove", "poll": "poll", "extend": "extend", "cancel": "cancel, with its freeing",
-             "mixed": "idle timeouts"}
+    """How many times as fast as tokio-util's queue each product is: of three sizes the least and the most, rounded away."""
+    calls = PLAN["product_calls"]
 
     def span(name, ours):
         ratios = [ns(name, "delay-queue", it) / ns(name, ours, it) for it in SIZES]
         return f"{math.floor(min(ratios) * 10) / 10:.1f} to {math.ceil(max(ratios) * 10) / 10:.1f}"
 
-    return grid(["", *calls.values()], ([words, *(span(it, ours) for it in calls)] for words, ours in PLAN["products"].items()))
+    rows = ([words, *(span(it, ours) for it in calls)] for words, ours in PLAN["products"].items())
+    return grid(["", *calls.values()], rows)
 
 
 # Rows in which a peer pays for all that its calls leave behind.
@@ -140,8 +145,7 @@ def ahead(ours, kind, calls):
 
 
 def shard_standing():
-    return ahead("ours-shards", "calls", {"all": "", "insert": "insert/", "reset": "reset", "remove": "remove", "poll": "poll/",
-                 "insert, in bursts": "insert-burst", "poll, in bursts": "poll-burst", "extend": "extend", "own shard": "own-"})
+    return ahead("ours-shards", "calls", PLAN["shard_calls"])
 
 
 def life_standing():
@@ -184,13 +188,15 @@ def beside():
 
 def fair():
     """What another thread's calls by name wait beside a poll, and what that takes, in microseconds."""
-    ways = {"whole": "`poll`", "pieces": "`poll_some` again and again", "through": "`poll_through`"}
-    queues = {"name": "`SharedDelayQueue`", "lasting": "`LastingQueue`"}
+    ways, queues, rows = PLAN["fair_ways"], PLAN["fair_queues"], []
     found = {tuple(it[:3]): it[4:] for it in rows_of("fair")}
-    us = lambda queue, way, pace, size, at: f"{float(found[way, f'fair-{queue}-{pace}', size][at]) / 1000:,.1f}"
-    return grid(["Entries", "Queue", "Polled by", "calm: 99.9%", "all", "its poll", "rushed: 99.9%", "all", "its poll", "beside nobody"],
-                ([f"{int(size):,}", queues[queue], ways[way], *(us(queue, way, pace, size, at) for pace in ("calm", "rushed") for at in (2, 3, 4)),
-                  us(queue, way, "absent", size, 4)] for size, queue, way in itertools.product(SIZES[1:], queues, ways)), 3)
+    cells = [*itertools.product(("calm", "rushed"), (2, 3, 4)), ("absent", 4)]
+    for size, queue, way in itertools.product(SIZES[1:], queues, ways):
+        us = (float(found[way, f"fair-{queue}-{pace}", size][at]) / 1000 for pace, at in cells)
+        rows.append([f"{int(size):,}", queues[queue], ways[way], *(f"{it:,.1f}" for it in us)])
+    calls = ["99.9%", "all", "its poll"]
+    return grid(["Entries", "Queue", "Polled by", f"calm: {calls[0]}", *calls[1:], f"rushed: {calls[0]}", *calls[1:],
+                 "beside nobody"], rows, 3)
 
 
 def renewing():
@@ -241,6 +247,14 @@ def adapter_soak():
     """What a soak of the adapter did."""
     heads = ["Seconds", "Values made, each dropped once", "Entries that came out", "Calls of tasks and threads"]
     return grid(heads, ([f"{int(it):,}" for it in figures] for figures in rows_of("adapter-soak")), 0)
+
+
+def adapter_times():
+    """What a touch of an idle timeout takes by the adapter's handle, and by its peer in a `Mutex`, worst first."""
+    found = [(threads, once, int(entries), float(peer), float(here)) for threads, once, entries, peer, here in rows_of("adapter-times")]
+    return grid(["Threads at once", "The clock is read", "Entries", "peer in a `Mutex`, ns", "here, ns", "ratio"],
+                ([threads, once, f"{entries:,}", f"{peer:,.0f}", f"{here:,.0f}", f"{peer / here:.1f}"]
+                 for threads, once, entries, peer, here in sorted(found, key=lambda it: it[3] / it[4])), 2)
 
 
 def adapter_memory():
@@ -301,16 +315,13 @@ def evidence():
     return grid(["What", "How many"], told.items(), 2)
 
 
-# The rows of the table of sizes: the crates of a role together.
-ROLES = {"queue": "what a user runs", "tests": "the tests' crates", "bench": "the bench's load", "example": "the examples"}
-
-
 def sizes():
     """Lines by kind, and edits, of the crates of each role."""
-    kinds = {"Code": "code", "Contracts": "contract", "Definitions": "specs", "Proofs": "proofs", "Tests": "test"}
-    which = {**{words: role for role, words in ROLES.items()}, "all": "all"}
-    counts = ([words, *(tree.lines(kind, role) for kind in kinds.values()), tree.edits(role)] for words, role in which.items())
-    return grid(["Crates", *kinds, "Edits"], ([words, *(f"{it:,}" if it else "" for it in its)] for words, *its in counts))
+    kinds, rows = PLAN["kinds"], []
+    for words, role in PLAN["roles"].items():
+        counts = [*(tree.lines(it, role) for it in kinds.values()), tree.edits(role)]
+        rows.append([words, *(f"{it:,}" if it else "" for it in counts)])
+    return grid(["Crates", *kinds, "Edits"], rows)
 
 
 def edit(name):

@@ -127,7 +127,8 @@ class Crate:
     def words(self):
         """The words before `::` in its code, and the libraries that its contracts and proofs import."""
         paths = [*self.sources, *(it for part in ("specs", "proofs") for it in files(self.folder / part, ".antt"))]
-        return {word for it in paths for pair in re.findall(r"\b(\w+)::|\bRattle\.(\w+)\.", text_of(it)) for word in pair}
+        found = re.findall(r"\b(\w+)::|\bRattle\.(\w+)\.", "".join(map(text_of, paths)))
+        return {word for pair in found for word in pair}
 
     def stale_edits(self):
         """The edits that can't be applied, which is told here in seconds, each with the reason."""

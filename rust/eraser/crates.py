@@ -15,7 +15,7 @@ TOP = Path(__file__).resolve().parent.parent.parent
 OUT = TOP / "rust" / "hontkhale" / "src"
 
 MODULES = dict(TABLES["modules"])
-# What is told where another shard's state stands in a shard's place: a closure of `lend`, or who entered both, put it there.
+# What is told where another shard's state stands in a shard's place: a closure of `lend`, or who entered both, put it so.
 SWAPPED = "the state of another shard was put here"
 
 
@@ -47,7 +47,8 @@ def guarded(source, rule, *arguments):
 
 def sources(hand):
     found = [(crate, path) for crate in MODULES for path in sorted((TOP / "crates" / crate / "src").rglob("*.rt"))]
-    found = [Source(*it, hand.applied(it[1], it[1].read_text(encoding="utf-8"))) for it in found if not hand.leaves_out(it[1])]
+    found = [(*it, it[1].read_text(encoding="utf-8")) for it in found if not hand.leaves_out(it[1])]
+    found = [Source(crate, path, hand.applied(path, text)) for crate, path, text in found]
     hand.all_used()
     return found
 

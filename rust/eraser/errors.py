@@ -1,5 +1,5 @@
-"""`derive(Error)` with its texts, as `Display` and `std::error::Error` written out. An enum of errors may have more variants
-one day, so each is `#[non_exhaustive]`. An error that is said by another's text has that one as its source."""
+"""`derive(Error)` with its texts, as `Display` and `std::error::Error` written out. An enum of errors may get more
+variants one day, so each is `#[non_exhaustive]`. An error that is said by another's text has that one as its source."""
 import re
 
 from lists import elements
@@ -82,5 +82,6 @@ def one_error(tokens, at):
         tokens[start:start] = made("#[non_exhaustive]", tokens[start], "\n")
     else:
         text = tokens[at + 4].text
-        arms = f"        let {name} {{ {pattern(fields_of(tokens[body:end]), text)} }} = self;\n        write!(f, {text})\n"
+        its = pattern(fields_of(tokens[body:end]), text)
+        arms = f"        let {name} {{ {its} }} = self;\n        write!(f, {text})\n"
         tokens[end + 1:end + 1] = tokens_of(impls(name, arms, ""))[:-1]

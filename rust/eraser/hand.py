@@ -31,7 +31,8 @@ class Hand:
                 if edit is None:
                     edit = Edit(file, said, number)
                     self.edits.append(edit)
-                edit.old, edit.new = (edit.old + rest + "\n", edit.new) if mark == "-" else (edit.old, edit.new + rest + "\n")
+                side = "old" if mark == "-" else "new"
+                setattr(edit, side, getattr(edit, side) + rest + "\n")
                 continue
             edit = None
             if mark == "@":

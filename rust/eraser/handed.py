@@ -38,7 +38,7 @@ def erased_types(tokens):
 
 
 def kept_type(element, types, is_where):
-    """An element of a list of types without the bound `Drop`; nothing of one of those types, or of what has no bound left."""
+    """An element of a list of types without the bound `Drop`; nothing of those types, or of what has no bound left."""
     texts = texts_of(element)
     colon = texts.index(":") if ":" in texts else len(texts)
     if element[0].text in types and (colon == 1 or len(element) == 1):
@@ -53,7 +53,7 @@ def kept_type(element, types, is_where):
 
 
 def without_types(tokens, types):
-    """Takes those types out of each list of types, with their bounds, and the bound `Drop`, which each type of Rust meets."""
+    """Takes those types out of each list of types, with their bounds, and the bound `Drop`, which all of Rust meets."""
     for at, end in type_lists(tokens):
         its = list(elements(tokens, at + 1, end))
         kept = [kept_type(it, types, tokens[at].text == "where") for it in its]
@@ -145,9 +145,8 @@ def without_handed(tokens, fields_of_crate):
     types = erased_types(tokens)
     # From the last function to the first, so that what was found before stays where it is.
     for _, at, _, head, body in reversed(functions(tokens)):
-        end = tokens[close_of(tokens, body)] if tokens[body].text == "{" else None
-        body_token = tokens[body]
+        start, end = tokens[body], tokens[close_of(tokens, body)] if tokens[body].text == "{" else None
         names = without_members(tokens, head, types)
         if end is not None:
-            without_values(tokens, tokens.index(body_token, at) + 1, end, names, fields_of_crate)
+            without_values(tokens, tokens.index(start, at) + 1, end, names, fields_of_crate)
     return without_types(tokens, types)

@@ -35,7 +35,7 @@ def with_indexes(tokens):
                 continue
             if is_index(tokens, at):
                 one_index(tokens, at, refs)
-            elif tokens[at - 1].text in (")", "]") and tokens[at - 1].line == tokens[at].line and tokens[at].before == "":
+            elif tokens[at - 1].text in (")", "]") and tokens[at].before == "":
                 raise Refused(f"line {tokens[at].line}: an index of what a call or an index gives")
 
 

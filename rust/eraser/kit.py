@@ -6,7 +6,7 @@ WAKES = "// A waker that is dropped wakes.\n"
 
 
 def forever(tokens, lent):
-    """`for _ in rt.forever() { .. }` is a loop where it returns, and else waits for what never comes: a panic says so."""
+    """`for _ in rt.forever() { .. }` is a loop if it returns, and else waits for what never comes: a panic says so."""
     for at in reversed(range(len(tokens))):
         if words_at(tokens, at, "for", "_", "in", "rt", ".", "forever", "(", ")", "{"):
             close = close_of(tokens, at + 8)

@@ -5,7 +5,7 @@ ENDS = {",", ")", "]", "}", ">", ";"}
 
 
 def element_end(tokens, at, are_values):
-    """The index of the comma or the bracket that ends the element at an index; an angle compares values, and encloses types."""
+    """The index of the comma or the bracket that ends an element; an angle compares values, and encloses types."""
     while True:
         token = tokens[at]
         if token.kind == "other" and token.text in OPENS:

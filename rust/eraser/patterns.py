@@ -5,15 +5,10 @@ from pathlib import Path
 from lists import next_of
 from rattle import CLOSES, Refused, tokens_of
 
-
-def tables():
-    """Each table of the file by its name: pairs of what stands on both sides of an arrow."""
-    text = Path(__file__).with_name("rules").read_text(encoding="utf-8")
-    for found in re.finditer(r"^\[(\w+)\]\n((?:.+\n)*)", text, re.M):
-        yield found[1], [tuple(it.strip() for it in line.split(" =>", 1)) for line in found[2].splitlines()]
-
-
-TABLES = dict(tables())
+# The tables of the file by their names: pairs of what stands on both sides of an arrow.
+TEXT = Path(__file__).with_name("rules").read_text(encoding="utf-8")
+TABLES = {name: [tuple(map(str.strip, line.split(" =>", 1))) for line in lines.splitlines()]
+          for name, lines in re.findall(r"^\[(\w+)\]\n((?:.+\n)*)", TEXT, re.M)}
 
 
 def parts_of(text):
@@ -37,7 +32,7 @@ def made(text, like, before=None):
 
 
 def matched(tokens, at, parts):
-    """What the names of a rule stand for where it stands at an index, and the index behind it; none where it doesn't."""
+    """What the names of a rule stand for if it stands at an index, and the index behind it; none if it doesn't."""
     found = {}
     for part, behind in zip(parts, [*parts[1:], None]):
         end = at + 1
@@ -46,17 +41,12 @@ def matched(tokens, at, parts):
         elif tokens[at].kind != "word" if part[0] == "$" else tokens[at].text != part:
             return None
         texts = [token.text for token in tokens[at:end]]
+        # what it follows in its new place may be a word
+        tokens[at].before = tokens[at].before or " " * (part[0] == "$")
         if part[0] == "$" and texts != [it.text for it in found.setdefault(part, tokens[at:end])]:
             return None
         at = end
     return found, at
-
-
-def with_space(part, its):
-    """Tokens in the place of a part of a rule, with its space before them unless they have their own."""
-    for token in its[:1]:
-        token.before = token.before or part.before
-    return its
 
 
 def rewritten(tokens, name):
@@ -74,7 +64,7 @@ def rewritten(tokens, name):
                 raise Refused(f"line {tokens[at].line}: {new[1:]}")
             if its:
                 new, before = parts_of(new), tokens[at].before
-                tokens[at:its[1]] = [token for part in new for token in with_space(part, its[0].get(part.text, [part]))]
+                tokens[at:its[1]] = [token for part in new for token in its[0].get(part.text, [part])]
                 tokens[at].before = before
                 # past the rule's own words, and not past what it took over
                 step = next((place for place, part in enumerate(new) if part.text in its[0]), len(new)) or 1

@@ -65,10 +65,9 @@ class Bench:
         built = lambda it: TOP / "crates" / it / "out" / "rlib"
         root = "src/main.rt" if (folder / "src" / "main.rt").is_file() else "src/lib.rt"
         words = [f"{kit}/bin/rattle", "check", "--crate-name", name, root, "-L", f"dependency={kit}/rlibs"]
-        for it in ("std", *of_kit):
-            words += ["--extern", f"{it}={kit}/rlibs/{it}.rlib"]
-        for it in self.graph[name]:
-            words += ["--extern", f"{it}={built(it) / it}.rlib"]
+        of_kit = {it: f"{kit}/rlibs/{it}" for it in ("std", *of_kit)}
+        for it, library in {**of_kit, **{it: built(it) / it for it in self.graph[name]}}.items():
+            words += ["--extern", f"{it}={library}.rlib"]
         for it in self.below(name)[:-1]:
             words += ["-L", f"dependency={built(it)}"]
         words += ["--crate-type", "staticlib"] if "staticlib" in kind else []
@@ -79,10 +78,7 @@ class Bench:
     def begin(self, name):
         """The folder of a new copy of a crate, in a tree of its own."""
         folder = self.room / f"round-{next(self.numbers)}" / "crates" / name
-        for part in ("src", "specs", "proofs"):
-            if (TOP / "crates" / name / part).is_dir():
-                shutil.copytree(TOP / "crates" / name / part, folder / part)
-        return folder
+        return shutil.copytree(TOP / "crates" / name, folder, ignore=shutil.ignore_patterns("out", "edits"))
 
     def check(self, crate, edits):
         """Checks a copy of a crate with these edits in it, over what earlier checks kept; where it only takes the contracts

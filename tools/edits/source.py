@@ -248,8 +248,8 @@ class Crate:
         return None
 
     def rounds(self, edits):
-        """Packs edits into rounds in which no function is edited twice in its place, each into the first that takes it: first
-        those that the most others meet."""
+        """Packs edits into rounds in which no function is edited twice in its place, each into the first that takes it;
+        first those that the most others meet."""
         def meet(one, other):
             return one is not other and bool(one.bodies.keys() & other.bodies.keys()) and not (one.copy and other.copy)
 
@@ -264,7 +264,7 @@ class Crate:
 
 
 def lines_of_crates(text=None):
-    """The lines of a crates.txt, ours if none is given: by a crate's name the words behind it, and the libraries that it uses."""
+    """The lines of a crates.txt, ours if none is given: of each crate the words behind its name, and its libraries."""
     text = (TOP / "crates.txt").read_text(encoding="utf-8") if text is None else text
     return {it[1]: (it[2].split(), it[3].split()) for it in re.finditer(r"^(\w+)([^:#\n]*):(.*)$", text, re.M)}
 
