@@ -1,0 +1,102 @@
+//! What is let go in a shard is dropped by the call that let it go, or by a later one where a drop panics: at each shard and
+//! each place, the last one too.
+
+use super::kit::{panics, within_the_limit, Drops, Value};
+use hontkhale::lasting::{LastingConfig, LastingQueue};
+use hontkhale::owner::{Key, Piece, Turn};
+use hontkhale::shards::{QueueConfig, SharedDelayQueue};
+use std::num::NonZeroU32;
+
+const PLACES: usize = 3;
+
+type Shared = SharedDelayQueue<Value>;
+
+type Lasting = LastingQueue<Value>;
+
+fn shared() -> Shared {
+    Shared::new(QueueConfig::of(PLACES, 8)).expect("a queue")
+}
+
+fn lasting() -> Lasting {
+    Lasting::new(LastingConfig::of(PLACES, 8)).expect("a queue")
+}
+
+// A cancelled entry at a place, with this value.
+macro_rules! cancelled {
+    ($queue:expr, $place:expr, $value:expr) => {{
+        let key: Key = $queue.insert_or_drop($place as u64, $value, 5).expect("room");
+        let mut handle = $queue.handle().expect("a handle");
+        assert_eq!(handle.cancel(&key), Ok(5));
+        handle.give_back();
+        key
+    }};
+}
+
+fn steps() -> NonZeroU32 {
+    NonZeroU32::new(100).expect("some")
+}
+
+// Each call lets two cancelled entries of a place go. Then the drop of one of three panics in a sweep of it.
+macro_rules! lets_go {
+    ($made:ident, $aside:expr, $($call:expr,)*) => {
+        for place in 0..PLACES {
+            $({
+                let (queue, drops) = ($made(), Drops::default());
+                let keys = [0, 1].map(|_| cancelled!(queue, place, drops.value()));
+                $call(&queue, place, keys);
+                let seen = (drops.count(), $aside(&queue, place));
+                assert_eq!(seen, (2, 0), "place {place}: {}", stringify!($call));
+            })*
+            let (queue, drops) = ($made(), Drops::default());
+            cancelled!(queue, place, drops.value_that_panics());
+            cancelled!(queue, place, drops.value());
+            cancelled!(queue, place, drops.value());
+            assert_eq!(panics(|| queue.sweep(place)), "a value's drop");
+            assert_eq!(drops.count() + $aside(&queue, place) as u64, 3, "none is lost");
+            assert_eq!(queue.sweep(place), Ok(0));
+            assert_eq!((drops.count(), $aside(&queue, place)), (3, 0), "place {place}");
+        }
+    };
+}
+
+// promise: shards.name-drops
+#[test]
+fn each_shard_drops_what_it_lets_go() {
+    within_the_limit(|| {
+        lets_go!(
+            shared,
+            |queue: &Shared, place| queue.enter(place).expect("a shard").aside(),
+            |queue: &Shared, place, _| assert!(matches!(queue.poll(place, 10), Ok(Turn::Idle))),
+            |queue: &Shared, place, _| assert!(matches!(queue.poll_some(place, 10, 100), Ok(Piece::Answer(_)))),
+            |queue: &Shared, place, _| assert!(matches!(queue.poll_through(place, 10, steps()), Ok(Turn::Idle))),
+            |queue: &Shared, place, _| assert!(queue.poll_many(place, 10, &mut Vec::with_capacity(4)).is_ok()),
+            |queue: &Shared, place, _| assert_eq!(queue.sweep(place), Ok(2)),
+            |queue: &Shared, place, _| assert_eq!(queue.sweep_some(place, 0, 8).map(|swept| swept.reaped), Ok(2)),
+            |queue: &Shared, place, _| assert_eq!(queue.clear(place), Ok(0)),
+            |queue: &Shared, _, keys: [Key; 2]| keys.iter().for_each(|key| assert!(queue.reap(&key.entry()).is_ok())),
+        );
+    });
+}
+
+// promise: lasting.name-drops
+#[test]
+fn each_place_drops_what_it_lets_go() {
+    within_the_limit(|| {
+        lets_go!(
+            lasting,
+            |queue: &Lasting, place| queue.aside(place).expect("a place"),
+            |queue: &Lasting, place, _| assert!(matches!(queue.poll(place, 10), Ok(Turn::Idle))),
+            |queue: &Lasting, place, _| assert!(matches!(queue.poll_some(place, 10, 100), Ok(Piece::Answer(_)))),
+            |queue: &Lasting, place, _| assert!(matches!(queue.poll_through(place, 10, steps()), Ok(Turn::Idle))),
+            |queue: &Lasting, place, _| assert!(queue.poll_many(place, 10, &mut Vec::with_capacity(4)).is_ok()),
+            |queue: &Lasting, place, _| assert_eq!(queue.sweep(place), Ok(2)),
+            |queue: &Lasting, place, _| assert_eq!(queue.sweep_some(place, 0, 8).map(|swept| swept.reaped), Ok(2)),
+            |queue: &Lasting, place, _| assert_eq!(queue.clear(place), Ok(0)),
+            |queue: &Lasting, _, keys: [Key; 2]| keys.iter().for_each(|key| assert!(queue.reap(&key.entry()).is_ok())),
+            |queue: &Lasting, place, _| {
+                queue.close(place).expect("a place");
+                queue.keep_going().expect("memory");
+            },
+        );
+    });
+}
