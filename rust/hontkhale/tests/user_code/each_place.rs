@@ -2,10 +2,12 @@
 //! each place, the last one too.
 
 use super::kit::{panics, within_the_limit, Drops, Value};
-use hontkhale::lasting::{LastingConfig, LastingQueue};
+use hontkhale::lasting::{LastingConfig, LastingQueue, LastingStream};
 use hontkhale::owner::{Key, Piece, Turn};
 use hontkhale::shards::{QueueConfig, SharedDelayQueue};
+use hontkhale::streams::{ExpiredStream, TickSource};
 use std::num::NonZeroU32;
+use std::task::{Context, Poll, Waker};
 
 const PLACES: usize = 3;
 
@@ -97,6 +99,85 @@ fn each_place_drops_what_it_lets_go() {
                 queue.close(place).expect("a place");
                 queue.keep_going().expect("memory");
             },
+        );
+    });
+}
+
+// Always tells tick 10.
+struct Ten;
+
+impl TickSource for Ten {
+    fn now(&mut self) -> u64 {
+        10
+    }
+}
+
+// Each call gives an entry, and reaps a value before whose drop panics: it would lose the entry.
+macro_rules! gives {
+    ($made:ident, $aside:expr, $($call:expr,)*) => {
+        for place in 0..PLACES {
+            $({
+                let (queue, drops) = ($made(), Drops::default());
+                cancelled!(queue, place, drops.value_that_panics());
+                queue.insert_or_drop(place as u64, drops.value(), 10).expect("room");
+                assert!($call(&queue, place), "place {place}: {}", stringify!($call));
+                let seen = (drops.count(), $aside(&queue, place));
+                assert_eq!(seen, (1, 1), "place {place}: {}", stringify!($call));
+                assert_eq!(panics(|| queue.sweep(place)), "a value's drop");
+            })*
+        }
+    };
+}
+
+macro_rules! polls {
+    ($stream:ident, $queue:expr, $place:expr, $paced:ident) => {{
+        let Ok(stream) = $stream::new($queue, $place, Ten) else {
+            panic!("a stream")
+        };
+        let mut stream = $paced!(stream);
+        let polled = stream.poll_next(&mut Context::from_waker(Waker::noop()));
+        matches!(polled, Poll::Ready(Some(Ok(_))))
+    }};
+}
+
+macro_rules! whole {
+    ($stream:ident) => {
+        $stream
+    };
+}
+
+macro_rules! paced {
+    ($stream:ident) => {
+        $stream.paced(steps())
+    };
+}
+
+#[test]
+fn a_poll_of_each_shard_that_gives_an_entry_drops_nothing() {
+    within_the_limit(|| {
+        gives!(
+            shared,
+            |queue: &Shared, place| queue.enter(place).expect("a shard").aside(),
+            |queue: &Shared, place| matches!(queue.poll(place, 10), Ok(Turn::Out(_))),
+            |queue: &Shared, place| matches!(queue.poll_some(place, 10, 100), Ok(Piece::Answer(Turn::Out(_)))),
+            |queue: &Shared, place| matches!(queue.poll_through(place, 10, steps()), Ok(Turn::Out(_))),
+            |queue: &Shared, place| polls!(ExpiredStream, queue, place, whole),
+            |queue: &Shared, place| polls!(ExpiredStream, queue, place, paced),
+        );
+    });
+}
+
+#[test]
+fn a_poll_of_each_place_that_gives_an_entry_drops_nothing() {
+    within_the_limit(|| {
+        gives!(
+            lasting,
+            |queue: &Lasting, place| queue.aside(place).expect("a place"),
+            |queue: &Lasting, place| matches!(queue.poll(place, 10), Ok(Turn::Out(_))),
+            |queue: &Lasting, place| matches!(queue.poll_some(place, 10, 100), Ok(Piece::Answer(Turn::Out(_)))),
+            |queue: &Lasting, place| matches!(queue.poll_through(place, 10, steps()), Ok(Turn::Out(_))),
+            |queue: &Lasting, place| polls!(LastingStream, queue, place, whole),
+            |queue: &Lasting, place| polls!(LastingStream, queue, place, paced),
         );
     });
 }
