@@ -181,3 +181,32 @@ fn a_poll_of_each_place_that_gives_an_entry_drops_nothing() {
         );
     });
 }
+
+// A piece that has more to do drops what it reaped. At the end an entry is given.
+macro_rules! works {
+    ($made:ident, $aside:expr) => {
+        for place in 0..PLACES {
+            let (queue, drops) = ($made(), Drops::default());
+            cancelled!(queue, place, drops.value());
+            queue.insert_or_drop(place as u64, drops.value(), 10).expect("room");
+            let mut pieces = 0;
+            while matches!(queue.poll_some(place, 10, 1), Ok(Piece::Working)) {
+                assert_eq!($aside(&queue, place), 0, "place {place}");
+                pieces += 1;
+            }
+            assert!(pieces > 1 && queue.clear(place) == Ok(0));
+            assert_eq!(drops.count(), 2);
+        }
+    };
+}
+
+#[test]
+fn a_piece_of_a_poll_drops_what_it_reaps() {
+    within_the_limit(|| {
+        works!(shared, |queue: &Shared, place| queue
+            .enter(place)
+            .expect("a shard")
+            .aside())
+    });
+    within_the_limit(|| works!(lasting, |queue: &Lasting, place| queue.aside(place).expect("a place")));
+}
