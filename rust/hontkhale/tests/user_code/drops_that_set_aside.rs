@@ -382,6 +382,8 @@ fn an_insert_at_a_closed_shard_drops_nothing() {
     within_the_limit(|| {
         let (queue, depth) = (lasting(2), Arc::<Depth>::default());
         one_aside(&queue, Node::that_panics(&depth), &depth);
+        // The only slot that is free is the value's then.
+        queue.insert(Node::quiet(&depth), 30);
         queue.close();
         queue.insert(Node::quiet(&depth), 30);
         assert_eq!((depth.drops.load(SeqCst), queue.aside()), (1, 1));

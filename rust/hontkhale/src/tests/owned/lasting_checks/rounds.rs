@@ -57,6 +57,7 @@ fn a_step_takes_two_locks_more_than_there_are_places() {
 }
 
 // The sweep of a shard's last generation came to a later slot. The next one begins at the first again.
+// promise: lasting.step-keep-going
 #[test]
 fn a_shard_that_was_opened_again_is_swept_from_its_first_slot_on() {
     let queue = LastingQueue::new(LastingConfig::of(2, 600)).expect("a queue");
