@@ -4,7 +4,7 @@ use std::hint::black_box;
 use std::sync::atomic::{AtomicU64, Ordering};
 use std::time::{Duration, Instant};
 
-use hontkhale::delay_queue::{Expired, Key, ManualClock};
+use hontkhale::delay_queue::{Expired, Key, KeyError, ManualClock};
 use hontkhale::DelayQueue;
 
 use crate::plan::BURST;
@@ -87,7 +87,12 @@ impl<'c> Product<'c> {
             By::Duration => self.queue.extend(&key, self.after(deadline)),
             By::Moment => self.queue.extend_at(&key, self.clock.at(deadline)),
         };
-        let in_force = in_force.expect("the entry is live");
+        self.in_force(in_force, deadline)
+    }
+
+    #[inline(always)]
+    fn in_force(&self, found: Result<Instant, KeyError>, deadline: u64) -> u64 {
+        let in_force = found.expect("the entry is live");
         if in_force == self.clock.at(deadline) {
             deadline
         } else {
@@ -155,7 +160,11 @@ impl Queue for Product<'_> {
 impl Shared for Product<'_> {
     fn share(&mut self, threads: usize) -> Parts<impl Extends<Key>, impl Polls<Expired<u64>>> {
         let queue = &*self;
-        let extend = move |key, deadline| queue.raise(key, deadline);
+        // The clock is moved meanwhile, so it is by moments that all peers ask for the same deadlines.
+        let extend = move |key, deadline| {
+            black_box(Instant::now());
+            queue.in_force(queue.queue.extend_at(&key, queue.clock.at(deadline)), deadline)
+        };
         Parts { extends: vec![extend; threads], poll: move |_| queue.take() }
     }
 }

@@ -249,6 +249,14 @@ def adapter_soak():
     return grid(heads, ([f"{int(it):,}" for it in figures] for figures in rows_of("adapter-soak")), 0)
 
 
+def adapter_times():
+    """What a touch of an idle timeout takes by the adapter's handle, and by its peer in a `Mutex`, worst first."""
+    found = [(threads, once, int(entries), float(peer), float(here)) for threads, once, entries, peer, here in rows_of("adapter-times")]
+    return grid(["Threads at once", "The clock is read", "Entries", "peer in a `Mutex`, ns", "here, ns", "ratio"],
+                ([threads, once, f"{entries:,}", f"{peer:,.0f}", f"{here:,.0f}", f"{peer / here:.1f}"]
+                 for threads, once, entries, peer, here in sorted(found, key=lambda it: it[3] / it[4])), 2)
+
+
 def adapter_memory():
     """What a compact of the adapter and of its peer makes of a million entries, the longest beside the peer's first."""
     found = {(it[2], it[3]): [int(figure) for figure in it[4:]] for it in rows_of("adapter-room") if it[:2] == ["compact", "release"]}

@@ -300,7 +300,7 @@ impl<'q, Q: Shards, S: TickSource, R: Wait, P: Pace> ShardStream<'q, Q, S, R, P>
         &mut self,
         shard: &mut Q::State,
         cx: &mut Context<'_>,
-    ) -> Poll<Option<Result<Expired<ValueOf<Q::State>>, StreamFault>>>
+    ) -> Polled<ValueOf<Q::State>>
         // What is given is due, and no live entry of the shard has an earlier deadline. None is given
         // only where nothing is linked, or where it had ended for good.
         ensures given { IfGiven result (IsLeastDue (Q.State.core shard.new)) }
@@ -371,10 +371,7 @@ impl<'q, Q: Shards, S: TickSource, R: Wait, P: Pace> Stream for ShardStream<'q, 
     /// It makes the polled task's waker before it takes the shard's lock, and drops the one that was parked before
     /// after it has released the lock. A stream of a `SharedDelayQueue` asks the source under the lock, so the source
     /// may not take that lock; one of a `LastingQueue` asks it before. It costs as much as one poll of the shard.
-    fn poll_next(
-        &mut self,
-        cx: &mut Context<'_>,
-    ) -> Poll<Option<Result<Expired<ValueOf<Q::State>>, StreamFault>>>
+    fn poll_next(&mut self, cx: &mut Context<'_>) -> Polled<ValueOf<Q::State>>
         // It waits registered with its context, or with its task woken.
         ensures registered { OnPending result (Covers cx.new (λ s. s ≡ self.new.name.id)) }
 

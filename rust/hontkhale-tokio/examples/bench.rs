@@ -278,34 +278,46 @@ struct Idle {
     start: Instant,
     threads: usize,
     reads_once: bool,
-    /// The connections of a thread.
+    /// The connections of a thread, and of how many it hears between two meetings, and how often in a second.
     own: usize,
+    piece: usize,
+    pieces: usize,
     meeting: Meeting,
-    /// When the threads began in a second, and their nanoseconds.
-    spans: Mutex<Vec<(std::time::Instant, f64)>>,
+    spans: Mutex<Vec<Span>>,
 }
 
-/// How far apart threads begin at most that are at work at once. Where they are further apart, one had no processor.
+/// What a thread did between two meetings.
+struct Span {
+    start: std::time::Instant,
+    nanos: f64,
+    /// Whether it lost its processor meanwhile.
+    is_cut: bool,
+}
+
+/// How far apart threads begin at most that are at work at once.
 const AT_ONCE: Duration = Duration::from_micros(5);
 
 impl Idle {
     const TIME: Duration = Duration::from_secs(30);
 
     fn new(entries: usize, threads: usize, reads_once: bool) -> Idle {
-        let (meeting, own) = (Meeting { threads, came: AtomicUsize::new(0) }, entries / threads);
-        Idle { start: Instant::now(), threads, reads_once, own, meeting, spans: Mutex::default() }
+        let own = entries / threads;
+        let pieces = (own / 20 / 50).max(1);
+        let meeting = Meeting { threads, came: AtomicUsize::new(0) };
+        let (start, piece, spans) = (Instant::now(), own / 20 / pieces, Mutex::default());
+        Idle { start, threads, reads_once, own, piece, pieces, meeting, spans }
     }
 
-    /// A call costs what the touches of a second did at least, and its part of all polls.
+    /// A call costs the median of what touches did that were at work at once, and its part of all polls.
     fn run<Touch, Poll>(&self, clock: &Clock, touch: Touch, mut poll: Poll, watch: &mut Stopwatch)
     where
         Touch: Fn(usize, Until) + Sync,
         Poll: FnMut(&mut Context<'_>) + Send,
     {
         (0..self.threads * self.own).for_each(|at| touch(at, Until::At(self.start + Idle::TIME)));
-        let part = self.threads * (self.own / 20);
-        let seconds = 1..=CALLS.max(2 * self.threads * self.own) / part;
-        let (task, touch, mut least) = (Task::new(), &touch, f64::INFINITY);
+        let heard = self.threads * self.pieces * self.piece;
+        let seconds = 1..=CALLS.max(2 * self.threads * self.own) / heard;
+        let (task, touch) = (Task::new(), &touch);
         std::thread::scope(|scope| {
             for thread in 1..self.threads {
                 let seconds = seconds.clone();
@@ -315,37 +327,51 @@ impl Idle {
                 for second in seconds {
                     clock.pass(1_000);
                     self.hear(0, second, touch);
-                    least = least.min(self.nanos() / part as f64);
                     let _context = clock.0.enter();
-                    watch.time(part, || task.run(&mut poll));
+                    watch.time(heard, || task.run(&mut poll));
                 }
             });
         });
-        watch.nanos += watch.calls as f64 * least;
+        watch.nanos += watch.calls as f64 * self.median();
     }
 
     /// A thread hears of connections in a second.
     fn hear(&self, thread: usize, second: usize, touch: &impl Fn(usize, Until)) {
-        let (part, first) = (self.own / 20, thread * self.own);
         let when = self.start + Duration::from_secs(second as u64) + Idle::TIME;
-        let until = if self.reads_once { Until::At(when) } else { Until::After(when - Instant::now()) };
-        let mut watch = Stopwatch { nanos: 0.0, calls: 0 };
-        self.meeting.meet();
-        let start = std::time::Instant::now();
-        watch.time(part, || (second * part..(second + 1) * part).for_each(|at| touch(first + at % self.own, until)));
-        locked(&self.spans).push((start, watch.nanos));
+        for piece in second * self.pieces..(second + 1) * self.pieces {
+            let until = if self.reads_once { Until::At(when) } else { Until::After(when - Instant::now()) };
+            let ats = piece * self.piece..(piece + 1) * self.piece;
+            let (lost, mut watch) = (processors_lost(), Stopwatch { nanos: 0.0, calls: 0 });
+            self.meeting.meet();
+            let start = std::time::Instant::now();
+            watch.time(self.piece, || ats.for_each(|at| touch(thread * self.own + at % self.own, until)));
+            let is_cut = processors_lost() > lost;
+            locked(&self.spans).push(Span { start, nanos: watch.nanos, is_cut });
+        }
         self.meeting.meet();
     }
 
-    /// What the threads needed together in the last second, which doesn't count where they weren't at work at once.
-    fn nanos(&self) -> f64 {
-        let spans = std::mem::take(&mut *locked(&self.spans));
-        let starts = || spans.iter().map(|span| span.0);
-        if starts().max() > starts().min().map(|first| first + AT_ONCE) {
-            return f64::INFINITY;
-        }
-        spans.iter().map(|span| span.1).sum()
+    /// The nanoseconds of a touch, where all threads were at work at once.
+    fn median(&self) -> f64 {
+        let spans = locked(&self.spans);
+        let at_once = |spans: &&[Span]| {
+            let starts = || spans.iter().map(|span| span.start);
+            let is_apart = starts().max() > starts().min().map(|first| first + AT_ONCE);
+            !is_apart && !spans.iter().any(|span| span.is_cut)
+        };
+        let touches = (self.threads * self.piece) as f64;
+        let nanos = |spans: &[Span]| spans.iter().map(|span| span.nanos).sum::<f64>() / touches;
+        let mut all: Vec<f64> = spans.chunks(self.threads).filter(at_once).map(nanos).collect();
+        all.sort_by(f64::total_cmp);
+        all.get(all.len() / 2).copied().unwrap_or(f64::INFINITY)
     }
+}
+
+/// How often this thread lost its processor to another, and not since it slept.
+fn processors_lost() -> u64 {
+    let status = std::fs::read_to_string("/proc/thread-self/status").expect("Linux tells it");
+    let told = status.lines().find_map(|line| line.strip_prefix("nonvoluntary_ctxt_switches:"));
+    told.and_then(|count| count.trim().parse().ok()).expect("a count")
 }
 
 /// Where threads wait for each other, without sleep, so that they go on at once.

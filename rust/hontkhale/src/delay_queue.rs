@@ -245,7 +245,7 @@ impl<T> DelayQueue<T> {
     /// # Errors
     /// WrongQueue, and Ended.
     pub fn remove(&self, key: &Key) -> Result<T, KeyError> {
-        self.shared.remove(key).map(|removed| removed.value)
+        self.shared.remove(key)
     }
 
     /// Takes an entry out if its deadline is over by now, and returns its value. It returns none where the entry isn't due, which

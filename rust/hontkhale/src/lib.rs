@@ -148,7 +148,9 @@ pub mod streams {
     //! Streams of the entries that expire in a shard, for a task. A lasting queue has
     //! [streams](crate::lasting::LastingStream) too.
 
-    pub use crate::stream::{ExpiredStream, MillisecondTicks, PacedStream, ShardStream, StreamFault, TickSource, Whole};
+    pub use crate::stream::{
+        ExpiredStream, MillisecondTicks, PacedStream, ShardStream, StreamFault, TickSource, Whole,
+    };
 }
 
 #[cfg(feature = "std")]

@@ -106,7 +106,8 @@ def silent_and_beating(it):
         after[-1] <= INTERVAL + 4 * lag.worst
     ), f"a lease ended {after[-1]:.3f} s after its time, lag {lag.worst:.3f} s"
     kept = it.number("SELECT count(*) FROM jobs WHERE state = 'running' AND attempt = 1")
-    starved = [job for job in beating if job.gap > LEASE / 2]
+    # Those too of whom nothing was accepted any more.
+    starved = [job for job in beating if max(job.gap, time.time() - job.said) > LEASE / 2]
     assert kept == 150 or starved, f"{150 - kept} holders that beat were replaced"
     print(
         f"leases: 150 silent holders lost theirs {after[0] * 1000:.1f} to {after[-1] * 1000:.1f} ms after the "

@@ -234,7 +234,9 @@ impl<T> Shared<T> {
     #[inline]
     fn note_out(&self, out: &mut Expired<T>) {
         self.front.count_out();
-        out.key = self.key_of_user(out.key);
+        if self.has_moved() {
+            out.key = self.key_of_user(out.key);
+        }
     }
 }
 

@@ -160,7 +160,7 @@ impl<T> Shared<T> {
         if let Some(deadline) = self.step_at(key, step)? {
             return Ok(deadline);
         }
-        if self.moved.load(SeqCst) == 0 {
+        if !self.has_moved() {
             return Err(KeyError::Ended);
         }
         let mut moves = self.moves();
@@ -395,11 +395,10 @@ impl<T> Shared<T> {
         unreachable!("a queue has so many segments at most")
     }
 
-    /// Frees what was cancelled and what is worn, by a bounded number of slots.
+    /// Frees what was cancelled, where anything was, and what is worn, by a bounded number of slots.
     fn make_room(&self) {
-        for _ in 0..SWEEPS {
-            self.sweep_next();
-        }
+        let sweeps = if self.front.cancels() > 0 { SWEEPS } else { 0 };
+        (0..sweeps).for_each(|_| self.sweep_next());
         for (at, segment) in self.segments() {
             if segment.is_worn.load(SeqCst) {
                 self.renew(segment, at);
@@ -415,7 +414,7 @@ impl<T> Shared<T> {
         }
         match self.segments().find(|(_, segment)| segment.is_closed()) {
             Some((at, segment)) => self.open_again(at, segment)?,
-            None => self.add(self.make(self.open.load(SeqCst))?)?,
+            None => self.add(self.make(self.open.load(SeqCst))?),
         }
         self.grown.fetch_add(1, SeqCst);
         Ok(())
@@ -432,8 +431,11 @@ impl<T> Shared<T> {
         Ok(())
     }
 
-    /// A segment of the size of the one at a place.
+    /// A segment of the size of the one at a place, where there may be one more.
     fn make(&self, size: usize) -> Result<Vec<Segment<T>>, InsertErrorKind> {
+        if self.open.load(SeqCst) == SEGMENTS {
+            return Err(InsertErrorKind::Full);
+        }
         let mut row = room_for(1).map_err(|_| InsertErrorKind::NoMemory)?;
         let config = self.limits.of_segment(size);
         row.push(Segment::new(config, &self.let_go).map_err(|_| InsertErrorKind::NoMemory)?);
@@ -441,11 +443,10 @@ impl<T> Shared<T> {
     }
 
     /// Adds a segment as the last. Whoever calls it holds `grows`.
-    fn add(&self, segment: Vec<Segment<T>>) -> Result<(), InsertErrorKind> {
+    fn add(&self, segment: Vec<Segment<T>>) {
         let open = self.open.load(SeqCst);
-        let _ = self.segments.get(open).ok_or(InsertErrorKind::Full)?.set(segment);
+        let _ = self.segments[open].set(segment);
         self.open.store(open + 1, SeqCst);
-        Ok(())
     }
 
     /// Gives the memory of the last segment back where it is empty, and those before it are half empty.
@@ -483,7 +484,7 @@ impl<T> Shared<T> {
     /// Where an entry is missing at the place of its key: the same call at the place to which it was moved.
     #[cold]
     fn at_moved<R>(&self, key: &Key, call: impl FnOnce(&Key) -> Result<R, CoreError>) -> Result<R, CoreError> {
-        if self.moved.load(SeqCst) == 0 {
+        if !self.has_moved() {
             return Err(CoreError::Missing);
         }
         let moves = self.moves();
@@ -555,40 +556,41 @@ impl<T> Shared<T> {
         }
     }
 
-    /// The key of the entry as it stood there, what was taken out, and whether it was the last of its shard.
+    /// The segment of the entry, what was taken out, and whether it was the last of its shard.
     #[inline(always)]
-    fn remove_at(&self, place: &Key) -> Result<(Key, Removed<T>, bool), CoreError> {
+    fn remove_at(&self, place: &Key) -> Result<(usize, Removed<T>, bool), CoreError> {
         let mut shard = self.enter(place)?;
         let removed = shard.core_mut().remove(&place.entry())?;
-        Ok((
-            self.key(place.segment(), &removed.key),
-            removed,
-            shard.core().is_empty(),
-        ))
+        Ok((place.segment(), removed, shard.core().is_empty()))
     }
 
-    /// Takes a live entry out.
-    pub fn remove(&self, key: &Key) -> Result<Removed<T>, KeyError> {
+    /// Takes a live entry out, and gives its value.
+    pub fn remove(&self, key: &Key) -> Result<T, KeyError> {
         self.own(key)?;
         let removed = match self.remove_at(key) {
             Err(CoreError::Missing) => self.at_moved(key, |place| self.remove_at(place)),
             removed => removed,
         };
-        let (place, removed, is_last) = removed.map_err(|_| KeyError::Ended)?;
-        self.key_of_user(place);
+        let (at, removed, is_last) = removed.map_err(|_| KeyError::Ended)?;
+        if self.has_moved() {
+            self.key_of_user(self.key(at, &removed.key));
+        }
         self.front.count_out();
-        if is_last && place.segment() > 0 {
+        if is_last && at > 0 {
             self.shrink();
         }
-        Ok(removed)
+        Ok(removed.value)
     }
 
-    /// The key that the user has of an entry that has ended at a place.
+    /// Whether an entry is at another place than its key says.
     #[inline]
+    pub fn has_moved(&self) -> bool {
+        self.moved.load(SeqCst) > 0
+    }
+
+    /// The key that the user has of an entry that has ended at a place: another one only where entries were moved.
+    #[cold]
     pub fn key_of_user(&self, place: Key) -> Key {
-        if self.moved.load(SeqCst) == 0 {
-            return place;
-        }
         let mut moves = self.moves();
         let key = moves.end(&place);
         self.moved.store(moves.len(), SeqCst);

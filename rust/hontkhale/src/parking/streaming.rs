@@ -4,7 +4,6 @@
 //! gone. Whoever keeps the time rings the shard, at each tick or at the ticks that matter: a stream that nobody rings
 //! sleeps until the next wake changes. A shard parks one poller, so a second stream on it puts the first to sleep.
 
-use crate::core::Expired;
 use crate::locks::MutexGuard;
 use crate::parking::fault::StreamFault;
 use crate::parking::parked::{let_sleep, Parked};
@@ -212,11 +211,7 @@ impl<'q, Q: Shards, S: TickSource, P: Pace> ShardStream<'q, Q, S, P> {
     /// - `TickTooLarge` if the source tells a tick beyond the last one. The stream has ended then: each later poll
     ///   returns `Ready(None)`.
     /// - `NoMemory` if no waker can be made. The stream goes on.
-    pub fn poll_locked(
-        &mut self,
-        shard: &mut Q::State,
-        cx: &mut Context<'_>,
-    ) -> Poll<Option<Result<Expired<ValueOf<Q::State>>, StreamFault>>> {
+    pub fn poll_locked(&mut self, shard: &mut Q::State, cx: &mut Context<'_>) -> Polled<ValueOf<Q::State>> {
         if self.ended {
             return Poll::Ready(None);
         }
@@ -249,7 +244,7 @@ impl<'q, Q: Shards, S: TickSource, P: Pace> ShardStream<'q, Q, S, P> {
     /// It makes the polled task's waker before it takes the shard's lock, and drops the one that was parked before
     /// after it has released the lock. A stream of a `SharedDelayQueue` asks the source under the lock, so the source
     /// may not take that lock; one of a `LastingQueue` asks it before. It costs as much as one poll of the shard.
-    pub fn poll_next(&mut self, cx: &mut Context<'_>) -> Poll<Option<Result<Expired<ValueOf<Q::State>>, StreamFault>>> {
+    pub fn poll_next(&mut self, cx: &mut Context<'_>) -> Polled<ValueOf<Q::State>> {
         if self.ended {
             return Poll::Ready(None);
         }

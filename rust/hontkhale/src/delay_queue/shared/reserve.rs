@@ -53,7 +53,7 @@ impl<T> Shared<T> {
             made.push(self.make(size)?);
         }
         for segment in made {
-            self.add(segment)?;
+            self.add(segment);
             self.grown.fetch_add(1, SeqCst);
         }
         Ok(())
