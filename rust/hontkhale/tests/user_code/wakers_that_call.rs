@@ -287,3 +287,17 @@ fn a_source_of_a_place_calls_the_queue() {
         assert!(stream.paced(NonZeroU32::MIN).poll_next(&mut cx).is_pending());
     });
 }
+
+#[test]
+fn who_is_taken_out_is_not_woken() {
+    within_the_limit(|| {
+        let (shared, lasting, drops, task) = (queue(), lasting(), Drops::default(), Task::that_counts());
+        insert(&shared, drops.value(), 20);
+        insert_lasting(&lasting, drops.value(), 20);
+        park(&shared, &task.waker());
+        park_lasting(&lasting, &task.waker());
+        assert!(shared.enter(0).expect("a shard").unpark());
+        assert_eq!(lasting.unpark(0), Ok(true));
+        assert_eq!(task.wakes(), 0);
+    });
+}
