@@ -133,8 +133,6 @@ def put_uses(tokens, found):
     new = [token for line in grouped(found) for token in made(line, tokens[at], "\n")]
     if new:
         new[0].before = "\n\n" if at else ""
-        if not tokens[at].before.startswith("\n\n"):
-            tokens[at].before = "\n\n" + tokens[at].before.lstrip("\n")
         tokens[at:at] = new
 
 

@@ -109,18 +109,13 @@ def is_handed_field(element, names, fields):
 
 
 def without_lets(tokens, start, end, names, fields):
-    """Takes `let name = <handed>;` and `let Ok(name) = <handed> else { .. };` out: their names are handed too."""
+    """Takes `let name = <handed>;` out: the name is handed too."""
     at = start
     while tokens[at] is not end:
-        texts = texts_of(tokens[at:at + 6])
-        name = 1 if texts[2] == "=" else 3 if texts[1] == "Ok" and texts[4:] == [")", "="] else 0
-        if texts[0] == "let" and name:
-            value = at + (3 if name == 1 else 6)
-            behind = next_of(tokens, value, (";", "else", "{"))
-            if tokens[behind].text != "{" and is_handed(tokens[value:behind], names, fields):
-                names.add(texts[name])
-                if tokens[behind].text == "else":
-                    behind = close_of(tokens, behind + 1) + 1
+        if tokens[at].text == "let" and tokens[at + 2].text == "=":
+            behind = next_of(tokens, at + 3, (";", "else", "{"))
+            if tokens[behind].text == ";" and is_handed(tokens[at + 3:behind], names, fields):
+                names.add(tokens[at + 1].text)
                 tokens[behind + 1].before = tokens[at].before
                 del tokens[at:behind + 1]
                 continue

@@ -416,7 +416,8 @@ fn soak(length: Duration, steps: &Arc<AtomicU64>) {
     Arc::into_inner(owned).expect("all tasks have ended").end();
     Arc::into_inner(filled).expect("all tasks have ended").end();
     let (made, dropped) = (ledger.made.load(SeqCst), ledger.dropped.load(SeqCst));
-    println!("{made} values, {came_out} came out, {} calls", steps.load(SeqCst));
+    // A line of bench/results/adapter-soak.tsv.
+    println!("{}\t{made}\t{came_out}\t{}", length.as_secs(), steps.load(SeqCst));
     assert_eq!(made, dropped, "each value is dropped once");
     assert!(came_out > 100);
 }
