@@ -14,6 +14,8 @@ mod drops_that_call;
 mod drops_that_panic;
 #[path = "user_code/drops_that_set_aside.rs"]
 mod drops_that_set_aside;
+#[path = "user_code/each_place.rs"]
+mod each_place;
 #[path = "user_code/kit.rs"]
 mod kit;
 #[path = "user_code/owner_drops.rs"]

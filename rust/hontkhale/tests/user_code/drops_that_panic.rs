@@ -4,6 +4,12 @@ use super::kit::{
     insert, insert_cancelled, insert_lasting, insert_lasting_cancelled, is_whole, is_whole_lasting, lasting, panics,
     park, queue, within_the_limit, Drops, Lasting, Queue, Task,
 };
+use hontkhale::lasting::LastingStream;
+use hontkhale::streams::{ExpiredStream, TickSource};
+use std::num::NonZeroU32;
+use std::panic::{catch_unwind, AssertUnwindSafe};
+use std::sync::Arc;
+use std::task::Context;
 
 // Shard 0 has an entry that panics where it is dropped between two that don't, all cancelled; a call reaps them.
 fn reaps_whole<T>(call: impl FnOnce(&Queue) -> T + Send + 'static) {
@@ -119,5 +125,60 @@ fn a_drop_panics_in_a_clear_of_a_lasting_queue() {
         is_whole_lasting(&queue, &drops);
         assert_eq!(drops.count(), 4);
         assert_eq!(queue.tally(0).expect("a shard").present.removed, 4);
+    });
+}
+
+// Always tells tick 10.
+struct Ten;
+
+impl TickSource for Ten {
+    fn now(&mut self) -> u64 {
+        10
+    }
+}
+
+// Each poll has more to do, and the drop of a value that the last one reaped panics: the task was woken by that one too.
+fn is_woken_in_each_poll(task: &Arc<Task>, mut is_pending: impl FnMut(&mut Context<'_>) -> bool) {
+    let waker = task.waker();
+    for polls in 1..9 {
+        match catch_unwind(AssertUnwindSafe(|| is_pending(&mut Context::from_waker(&waker)))) {
+            Ok(pending) => assert!(pending, "there is more to do"),
+            Err(_) => return assert_eq!(task.wakes(), polls),
+        }
+    }
+    panic!("no drop panicked");
+}
+
+#[test]
+fn a_drop_that_panics_behind_a_piece_of_a_stream_leaves_its_task_woken() {
+    within_the_limit(|| {
+        let (queue, drops, task) = (queue(), Drops::default(), Task::that_counts());
+        insert_cancelled(&queue, drops.value_that_panics(), 1);
+        for when in 2..9 {
+            insert_cancelled(&queue, drops.value(), when);
+        }
+        let Ok(stream) = ExpiredStream::new(&queue, 0, Ten) else {
+            panic!("a stream")
+        };
+        let mut stream = stream.paced(NonZeroU32::MIN);
+        is_woken_in_each_poll(&task, |cx| stream.poll_next(cx).is_pending());
+        is_whole(&queue, &drops);
+    });
+}
+
+#[test]
+fn a_drop_that_panics_behind_a_piece_of_a_stream_of_a_place_leaves_its_task_woken() {
+    within_the_limit(|| {
+        let (queue, drops, task) = (lasting(), Drops::default(), Task::that_counts());
+        insert_lasting_cancelled(&queue, drops.value_that_panics(), 1);
+        for when in 2..9 {
+            insert_lasting_cancelled(&queue, drops.value(), when);
+        }
+        let Ok(stream) = LastingStream::new(&queue, 0, Ten) else {
+            panic!("a stream")
+        };
+        let mut stream = stream.paced(NonZeroU32::MIN);
+        is_woken_in_each_poll(&task, |cx| stream.poll_next(cx).is_pending());
+        is_whole_lasting(&queue, &drops);
     });
 }

@@ -351,12 +351,39 @@ fn a_drop_panics_in_an_insert() {
     }
 }
 
+// The drop of the value in whose slot an insert goes leaves another one there, in a shard that is full again. That one
+// is dropped before the insert too: where it panics, nothing is in without a key.
+#[test]
+fn a_drop_leaves_another_value_where_an_insert_goes() {
+    for queue_of in QUEUES {
+        within_the_limit(move || {
+            let (queue, depth) = (queue_of(2), Arc::<Depth>::default());
+            let (by_drop, nested) = (queue.clone(), depth.clone());
+            let leaves_another = Node::that(&depth, move || {
+                let cancelled = by_drop.insert(Node::that_panics(&nested), 20);
+                by_drop.cancel_all(&[cancelled]);
+                drop(by_drop.poll(30).expect("an entry is due"));
+                by_drop.insert(Node::quiet(&nested), 100);
+            });
+            one_aside(&queue, leaves_another, &depth);
+            queue.insert(Node::quiet(&depth), 30);
+            assert_eq!(panics(|| queue.insert(Node::quiet(&depth), 101)), "a value's drop");
+            assert_eq!((queue.aside(), queue.linked()), (0, 1));
+            let key = queue.insert(Node::quiet(&depth), 101);
+            queue.cancel_all(&[key]);
+            assert_eq!((queue.sweep(), queue.linked(), queue.aside()), (1, 1, 0));
+        });
+    }
+}
+
 // A shard that is closed drops nobody's value: the value comes back.
 #[test]
 fn an_insert_at_a_closed_shard_drops_nothing() {
     within_the_limit(|| {
         let (queue, depth) = (lasting(2), Arc::<Depth>::default());
         one_aside(&queue, Node::that_panics(&depth), &depth);
+        // The only slot that is free is the value's then.
+        queue.insert(Node::quiet(&depth), 30);
         queue.close();
         queue.insert(Node::quiet(&depth), 30);
         assert_eq!((depth.drops.load(SeqCst), queue.aside()), (1, 1));

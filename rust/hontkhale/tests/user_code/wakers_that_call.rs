@@ -245,3 +245,45 @@ fn a_wake_polls_in_a_poll_in_pieces_of_a_place() {
         is_whole_lasting(&queue, &drops);
     });
 }
+
+// Who was parked before waits no more, and isn't woken.
+#[test]
+fn a_stream_that_is_polled_on_a_shard_in_hand_wakes_nobody() {
+    within_the_limit(|| {
+        let (queue, drops) = (queue(), Drops::default());
+        insert(&queue, drops.value(), 20);
+        let (first, second) = (Task::that_counts(), Task::that_counts());
+        park(&queue, &first.waker());
+        let waker = second.waker();
+        let mut stream = of_shard(&queue, Ten);
+        let mut shard = queue.enter(0).expect("a shard");
+        let polled = stream.poll_locked(&mut shard, &mut Context::from_waker(&waker));
+        assert!(polled.is_pending());
+        drop(shard);
+        assert_eq!(queue.ring(0, 20), Ok(true));
+        assert_eq!((first.wakes(), second.wakes()), (0, 1));
+    });
+}
+
+/// Asks the queue by name, and tells tick 10.
+struct Asks<'q>(&'q Lasting);
+
+impl TickSource for Asks<'_> {
+    fn now(&mut self) -> u64 {
+        assert!(self.0.tally(0).is_ok());
+        10
+    }
+}
+
+// A stream of a place asks its source before it takes the lock.
+#[test]
+fn a_source_of_a_place_calls_the_queue() {
+    within_the_limit(|| {
+        let (queue, drops) = (lasting(), Drops::default());
+        insert_lasting(&queue, drops.value(), 20);
+        let mut cx = Context::from_waker(Waker::noop());
+        let mut stream = of_place(&queue, Asks(&queue));
+        assert!(stream.poll_next(&mut cx).is_pending());
+        assert!(stream.paced(NonZeroU32::MIN).poll_next(&mut cx).is_pending());
+    });
+}

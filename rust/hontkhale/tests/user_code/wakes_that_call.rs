@@ -5,6 +5,7 @@ use super::kit::{
     Lasting, Queue, Task,
 };
 use hontkhale::owner::{EntryId, Key};
+use std::num::NonZeroU32;
 use std::sync::Arc;
 
 // Shard 0 has an entry that is due at 10, and a poller that polls where it is woken; a call wakes it.
@@ -51,6 +52,14 @@ fn a_wake_polls_in_poll() {
     polls(|queue, _| queue.poll(0, 10));
 }
 
+#[test]
+fn a_wake_polls_in_each_poll_by_name() {
+    let steps = NonZeroU32::new(100).expect("some");
+    polls(|queue, _| queue.poll_some(0, 10, 100));
+    polls(move |queue, _| queue.poll_through(0, 10, steps));
+    polls(|queue, _| queue.poll_many(0, 10, &mut Vec::with_capacity(4)));
+}
+
 fn polls_lasting<T>(call: impl FnOnce(&Lasting, &Drops) -> T + Send + 'static) {
     within_the_limit(move || {
         let (queue, drops) = (lasting(), Drops::default());
@@ -78,6 +87,19 @@ fn a_wake_polls_in_a_ring_of_a_lasting_queue() {
     polls_lasting(|queue, _| queue.ring(0, 10));
 }
 
+// promise: lasting.leaves-name
+#[test]
+fn a_wake_polls_in_each_call_that_takes_entries_out_of_a_lasting_queue() {
+    let steps = NonZeroU32::new(100).expect("some");
+    polls_lasting(|queue, _| queue.poll(0, 10));
+    polls_lasting(|queue, _| queue.poll_some(0, 10, 100));
+    polls_lasting(move |queue, _| queue.poll_through(0, 10, steps));
+    polls_lasting(|queue, _| queue.poll_many(0, 10, &mut Vec::with_capacity(4)));
+    polls_lasting(|queue, _| queue.remove(&EntryId::new(0, 0, 1)));
+    polls_lasting(|queue, _| queue.reset(&EntryId::new(0, 0, 1), 5));
+    polls_lasting(|queue, _| queue.clear(0));
+}
+
 // The entry of shard 0 is cancelled, so a call that reaps it wakes.
 fn polls_where_reaped<T>(call: impl FnOnce(&Lasting, &EntryId) -> T + Send + 'static) {
     polls_lasting(move |queue, _| {
@@ -98,6 +120,12 @@ fn a_wake_polls_in_a_reap_of_a_lasting_queue() {
 #[test]
 fn a_wake_polls_in_a_sweep_of_some_of_a_lasting_queue() {
     polls_where_reaped(|queue, _| assert_eq!(queue.sweep_some(0, 0, 1).map(|swept| swept.reaped), Ok(1)));
+}
+
+// promise: lasting.leaves-name
+#[test]
+fn a_wake_polls_in_a_sweep_of_a_lasting_queue() {
+    polls_where_reaped(|queue, _| assert_eq!(queue.sweep(0), Ok(1)));
 }
 
 // promise: lasting.leaves-name

@@ -55,3 +55,23 @@ fn a_step_takes_two_locks_more_than_there_are_places() {
     assert_eq!(step(&queue), (Kept::Reopened { place: last - 1 }, PLACES + 1));
     assert_eq!(step(&queue), (Kept::Fine, PLACES));
 }
+
+// The sweep of a shard's last generation came to a later slot. The next one begins at the first again.
+// promise: lasting.step-keep-going
+#[test]
+fn a_shard_that_was_opened_again_is_swept_from_its_first_slot_on() {
+    let queue = LastingQueue::new(LastingConfig::of(2, 600)).expect("a queue");
+    let insert = |when| queue.insert(0, when, when).expect("a free slot");
+    (0..600).map(insert).for_each(|key| assert_eq!(key.entry().shard(), 0));
+    queue.close(0).expect("a place");
+    let swept = queue.keep_going();
+    assert_eq!(swept, Ok(Kept::Drains { place: 0, linked: 600 }));
+    assert_eq!(queue.clear(0), Ok(600));
+    assert_eq!(queue.keep_going(), Ok(Kept::Reopened { place: 0 }));
+    let mut handle = queue.handle().expect("a handle");
+    (0..10).map(insert).for_each(|key| assert!(handle.cancel(&key).is_ok()));
+    queue.close(0).expect("a place");
+    let swept = queue.keep_going();
+    assert_eq!(swept, Ok(Kept::Drains { place: 0, linked: 0 }));
+    assert_eq!(queue.keep_going(), Ok(Kept::Reopened { place: 0 }));
+}

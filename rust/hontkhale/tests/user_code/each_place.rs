@@ -1,0 +1,212 @@
+//! What is let go in a shard is dropped by the call that let it go, or by a later one where a drop panics: at each shard and
+//! each place, the last one too.
+
+use super::kit::{panics, within_the_limit, Drops, Value};
+use hontkhale::lasting::{LastingConfig, LastingQueue, LastingStream};
+use hontkhale::owner::{Key, Piece, Turn};
+use hontkhale::shards::{QueueConfig, SharedDelayQueue};
+use hontkhale::streams::{ExpiredStream, TickSource};
+use std::num::NonZeroU32;
+use std::task::{Context, Poll, Waker};
+
+const PLACES: usize = 3;
+
+type Shared = SharedDelayQueue<Value>;
+
+type Lasting = LastingQueue<Value>;
+
+fn shared() -> Shared {
+    Shared::new(QueueConfig::of(PLACES, 8)).expect("a queue")
+}
+
+fn lasting() -> Lasting {
+    Lasting::new(LastingConfig::of(PLACES, 8)).expect("a queue")
+}
+
+// A cancelled entry at a place, with this value.
+macro_rules! cancelled {
+    ($queue:expr, $place:expr, $value:expr) => {{
+        let key: Key = $queue.insert_or_drop($place as u64, $value, 5).expect("room");
+        let mut handle = $queue.handle().expect("a handle");
+        assert_eq!(handle.cancel(&key), Ok(5));
+        handle.give_back();
+        key
+    }};
+}
+
+fn steps() -> NonZeroU32 {
+    NonZeroU32::new(100).expect("some")
+}
+
+// Each call lets two cancelled entries of a place go. Then the drop of one of three panics in a sweep of it.
+macro_rules! lets_go {
+    ($made:ident, $aside:expr, $($call:expr,)*) => {
+        for place in 0..PLACES {
+            $({
+                let (queue, drops) = ($made(), Drops::default());
+                let keys = [0, 1].map(|_| cancelled!(queue, place, drops.value()));
+                $call(&queue, place, keys);
+                let seen = (drops.count(), $aside(&queue, place));
+                assert_eq!(seen, (2, 0), "place {place}: {}", stringify!($call));
+            })*
+            let (queue, drops) = ($made(), Drops::default());
+            cancelled!(queue, place, drops.value_that_panics());
+            cancelled!(queue, place, drops.value());
+            cancelled!(queue, place, drops.value());
+            assert_eq!(panics(|| queue.sweep(place)), "a value's drop");
+            assert_eq!(drops.count() + $aside(&queue, place) as u64, 3, "none is lost");
+            assert_eq!(queue.sweep(place), Ok(0));
+            assert_eq!((drops.count(), $aside(&queue, place)), (3, 0), "place {place}");
+        }
+    };
+}
+
+// promise: shards.name-drops
+#[test]
+fn each_shard_drops_what_it_lets_go() {
+    within_the_limit(|| {
+        lets_go!(
+            shared,
+            |queue: &Shared, place| queue.enter(place).expect("a shard").aside(),
+            |queue: &Shared, place, _| assert!(matches!(queue.poll(place, 10), Ok(Turn::Idle))),
+            |queue: &Shared, place, _| assert!(matches!(queue.poll_some(place, 10, 100), Ok(Piece::Answer(_)))),
+            |queue: &Shared, place, _| assert!(matches!(queue.poll_through(place, 10, steps()), Ok(Turn::Idle))),
+            |queue: &Shared, place, _| assert!(queue.poll_many(place, 10, &mut Vec::with_capacity(4)).is_ok()),
+            |queue: &Shared, place, _| assert_eq!(queue.sweep(place), Ok(2)),
+            |queue: &Shared, place, _| assert_eq!(queue.sweep_some(place, 0, 8).map(|swept| swept.reaped), Ok(2)),
+            |queue: &Shared, place, _| assert_eq!(queue.clear(place), Ok(0)),
+            |queue: &Shared, _, keys: [Key; 2]| keys.iter().for_each(|key| assert!(queue.reap(&key.entry()).is_ok())),
+        );
+    });
+}
+
+// promise: lasting.name-drops
+#[test]
+fn each_place_drops_what_it_lets_go() {
+    within_the_limit(|| {
+        lets_go!(
+            lasting,
+            |queue: &Lasting, place| queue.aside(place).expect("a place"),
+            |queue: &Lasting, place, _| assert!(matches!(queue.poll(place, 10), Ok(Turn::Idle))),
+            |queue: &Lasting, place, _| assert!(matches!(queue.poll_some(place, 10, 100), Ok(Piece::Answer(_)))),
+            |queue: &Lasting, place, _| assert!(matches!(queue.poll_through(place, 10, steps()), Ok(Turn::Idle))),
+            |queue: &Lasting, place, _| assert!(queue.poll_many(place, 10, &mut Vec::with_capacity(4)).is_ok()),
+            |queue: &Lasting, place, _| assert_eq!(queue.sweep(place), Ok(2)),
+            |queue: &Lasting, place, _| assert_eq!(queue.sweep_some(place, 0, 8).map(|swept| swept.reaped), Ok(2)),
+            |queue: &Lasting, place, _| assert_eq!(queue.clear(place), Ok(0)),
+            |queue: &Lasting, _, keys: [Key; 2]| keys.iter().for_each(|key| assert!(queue.reap(&key.entry()).is_ok())),
+            |queue: &Lasting, place, _| {
+                queue.close(place).expect("a place");
+                queue.keep_going().expect("memory");
+            },
+        );
+    });
+}
+
+// Always tells tick 10.
+struct Ten;
+
+impl TickSource for Ten {
+    fn now(&mut self) -> u64 {
+        10
+    }
+}
+
+// Each call gives an entry, and reaps a value before whose drop panics: it would lose the entry.
+macro_rules! gives {
+    ($made:ident, $aside:expr, $($call:expr,)*) => {
+        for place in 0..PLACES {
+            $({
+                let (queue, drops) = ($made(), Drops::default());
+                cancelled!(queue, place, drops.value_that_panics());
+                queue.insert_or_drop(place as u64, drops.value(), 10).expect("room");
+                assert!($call(&queue, place), "place {place}: {}", stringify!($call));
+                let seen = (drops.count(), $aside(&queue, place));
+                assert_eq!(seen, (1, 1), "place {place}: {}", stringify!($call));
+                assert_eq!(panics(|| queue.sweep(place)), "a value's drop");
+            })*
+        }
+    };
+}
+
+macro_rules! polls {
+    ($stream:ident, $queue:expr, $place:expr, $paced:ident) => {{
+        let Ok(stream) = $stream::new($queue, $place, Ten) else {
+            panic!("a stream")
+        };
+        let mut stream = $paced!(stream);
+        let polled = stream.poll_next(&mut Context::from_waker(Waker::noop()));
+        matches!(polled, Poll::Ready(Some(Ok(_))))
+    }};
+}
+
+macro_rules! whole {
+    ($stream:ident) => {
+        $stream
+    };
+}
+
+macro_rules! paced {
+    ($stream:ident) => {
+        $stream.paced(steps())
+    };
+}
+
+#[test]
+fn a_poll_of_each_shard_that_gives_an_entry_drops_nothing() {
+    within_the_limit(|| {
+        gives!(
+            shared,
+            |queue: &Shared, place| queue.enter(place).expect("a shard").aside(),
+            |queue: &Shared, place| matches!(queue.poll(place, 10), Ok(Turn::Out(_))),
+            |queue: &Shared, place| matches!(queue.poll_some(place, 10, 100), Ok(Piece::Answer(Turn::Out(_)))),
+            |queue: &Shared, place| matches!(queue.poll_through(place, 10, steps()), Ok(Turn::Out(_))),
+            |queue: &Shared, place| polls!(ExpiredStream, queue, place, whole),
+            |queue: &Shared, place| polls!(ExpiredStream, queue, place, paced),
+        );
+    });
+}
+
+#[test]
+fn a_poll_of_each_place_that_gives_an_entry_drops_nothing() {
+    within_the_limit(|| {
+        gives!(
+            lasting,
+            |queue: &Lasting, place| queue.aside(place).expect("a place"),
+            |queue: &Lasting, place| matches!(queue.poll(place, 10), Ok(Turn::Out(_))),
+            |queue: &Lasting, place| matches!(queue.poll_some(place, 10, 100), Ok(Piece::Answer(Turn::Out(_)))),
+            |queue: &Lasting, place| matches!(queue.poll_through(place, 10, steps()), Ok(Turn::Out(_))),
+            |queue: &Lasting, place| polls!(LastingStream, queue, place, whole),
+            |queue: &Lasting, place| polls!(LastingStream, queue, place, paced),
+        );
+    });
+}
+
+// A piece that has more to do drops what it reaped. At the end an entry is given.
+macro_rules! works {
+    ($made:ident, $aside:expr) => {
+        for place in 0..PLACES {
+            let (queue, drops) = ($made(), Drops::default());
+            cancelled!(queue, place, drops.value());
+            queue.insert_or_drop(place as u64, drops.value(), 10).expect("room");
+            let mut pieces = 0;
+            while matches!(queue.poll_some(place, 10, 1), Ok(Piece::Working)) {
+                assert_eq!($aside(&queue, place), 0, "place {place}");
+                pieces += 1;
+            }
+            assert!(pieces > 1 && queue.clear(place) == Ok(0));
+            assert_eq!(drops.count(), 2);
+        }
+    };
+}
+
+#[test]
+fn a_piece_of_a_poll_drops_what_it_reaps() {
+    within_the_limit(|| {
+        works!(shared, |queue: &Shared, place| queue
+            .enter(place)
+            .expect("a shard")
+            .aside())
+    });
+    within_the_limit(|| works!(lasting, |queue: &Lasting, place| queue.aside(place).expect("a place")));
+}
