@@ -316,6 +316,35 @@ fn room_that_is_refused_is_given_back() {
     assert!(refusals > 20, "{refusals}");
 }
 
+/// The same where a part is memory that was given back before.
+#[test]
+fn room_that_is_refused_in_part_is_given_back_in_a_full_queue() {
+    let _alone = alone();
+    let mut refusals = 0;
+    for grants in 0.. {
+        let queue = DelayQueue::builder().shards(2).build();
+        let keys: Vec<Key> = (0..2_000)
+            .map(|number| queue.insert(number, FAR).expect("room"))
+            .collect();
+        keys.iter().rev().for_each(|key| assert!(queue.remove(key).is_ok()));
+        // Each open slot is taken.
+        assert!((0..384).all(|number| queue.insert(number, FAR).is_ok()));
+        let memory = queue.stats().memory;
+        GRANTS.with(|left| left.set(Some(grants)));
+        // One segment is made, and those that were closed are opened.
+        let reserved = queue.reserve(135_000);
+        let is_done = GRANTS.with(Cell::take).is_some();
+        assert_eq!(reserved.is_ok(), is_done, "a refusal of memory isn't told");
+        if is_done {
+            break;
+        }
+        refusals += 1;
+        // Of a segment that is closed a little stays.
+        assert!(queue.stats().memory < memory + 60_000, "{} of {memory}", queue.stats());
+    }
+    assert!(refusals > 20, "{refusals}");
+}
+
 #[test]
 fn room_beyond_all_bounds_is_refused_at_once() {
     let _alone = alone();

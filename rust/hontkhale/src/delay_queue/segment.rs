@@ -31,8 +31,6 @@ pub(crate) struct Row {
     has_room: AtomicBool,
     /// Whether values are set aside there, to be dropped.
     has_aside: AtomicBool,
-    /// The slot from which on the next sweep goes.
-    sweep_from: AtomicUsize,
 }
 
 /// A row of shards.
@@ -77,7 +75,6 @@ impl<T> Segment<T> {
             linked: AtomicUsize::new(0),
             has_room: AtomicBool::new(true),
             has_aside: AtomicBool::new(false),
-            sweep_from: AtomicUsize::new(0),
         };
         let mut rows = room_for(config.shards)?;
         rows.extend((0..config.shards).map(row));
@@ -163,14 +160,10 @@ impl<T> Segment<T> {
         }
     }
 
-    /// Frees the slots of entries that were cancelled among the next `count` of a shard, and tells whether these were its
-    /// last. The values are set aside.
-    pub fn sweep(&self, place: usize, count: usize) -> bool {
-        let row = &self.rows[place];
-        let from = row.sweep_from.load(SeqCst);
-        let swept = self.enter(place).core_mut().sweep_some_deferring(from, count);
-        row.sweep_from.store(swept.next.unwrap_or(0), SeqCst);
-        swept.next.is_none()
+    /// Frees the slots of entries that were cancelled among `count` of a shard from one on, and gives the slot to go on from;
+    /// none behind the last. The values are set aside.
+    pub fn sweep(&self, place: usize, from: usize, count: usize) -> Option<usize> {
+        self.enter(place).core_mut().sweep_some_deferring(from, count).next
     }
 
     /// The first entry from a slot on, live or cancelled, and the slot after it; none where that was the shard's last.
@@ -358,7 +351,6 @@ impl<T> Locked<'_, T> {
         }
         self.shard.takes = takes;
         self.row.hint.store(NEVER, SeqCst);
-        self.row.sweep_from.store(0, SeqCst);
         std::mem::replace(self.core_mut(), core)
     }
 }

@@ -2,6 +2,7 @@
 
 mod due;
 mod reserve;
+mod sweep;
 
 use crate::core::{CallError, CoreError, Look, Removed};
 use crate::delay_queue::callers::{route, Bound, Front, Handles, Quick};
@@ -10,6 +11,7 @@ use crate::delay_queue::errors::{InsertErrorKind, KeyError};
 use crate::delay_queue::key::Key;
 use crate::delay_queue::moves::Moves;
 use crate::delay_queue::segment::{Locked, Row, Segment};
+use crate::delay_queue::shared::sweep::Sweep;
 use crate::delay_queue::waking::NEVER;
 use crate::lasting::{Kept, LastingConfig, LastingHandle};
 use crate::memory::room_for;
@@ -27,8 +29,6 @@ const SEGMENTS: usize = 64;
 /// The slots of a shard of the first segment. Each further segment has twice as many shards, and then twice as many slots a
 /// shard, up to the most.
 const FIRST_CAPACITY: usize = 64;
-/// How many slots of a shard are looked at for cancelled entries where there is no free one.
-const SWEPT: usize = 256;
 /// How many shards are swept so before a segment is made.
 const SWEEPS: usize = 8;
 /// Ticks from one time that a worn shard is looked at to the next.
@@ -67,11 +67,7 @@ pub(crate) struct Shared<T> {
     pub moves_made: AtomicU64,
     /// By how many ticks an entry was late at most as it came out.
     pub latest: AtomicU64,
-    /// The accepted cancels as the sweep of all shards began that is under way, and where it goes on.
-    swept: AtomicU64,
-    sweep_at: AtomicUsize,
-    /// How many sweeps are left until each slot was looked at since the last cancel.
-    sweeps_left: AtomicUsize,
+    sweep: Mutex<Sweep>,
 }
 
 /// What is asked of a thread's handle.
@@ -246,9 +242,7 @@ impl<T> Shared<T> {
             moved: AtomicUsize::new(0),
             moves_made: AtomicU64::new(0),
             latest: AtomicU64::new(0),
-            swept: AtomicU64::new(0),
-            sweep_at: AtomicUsize::new(0),
-            sweeps_left: AtomicUsize::new(0),
+            sweep: Mutex::default(),
         }
     }
 
@@ -398,7 +392,7 @@ impl<T> Shared<T> {
     /// Frees what was cancelled, where anything was, and what is worn, by a bounded number of slots.
     fn make_room(&self) {
         let sweeps = if self.front.cancels() > 0 { SWEEPS } else { 0 };
-        (0..sweeps).for_each(|_| self.sweep_next());
+        (0..sweeps).for_each(|_| self.sweep_next(self.sweep()));
         for (at, segment) in self.segments() {
             if segment.is_worn.load(SeqCst) {
                 self.renew(segment, at);
@@ -465,11 +459,19 @@ impl<T> Shared<T> {
             if at == 0 || is_kept || !segment.is_empty() || linked > capacity / 2 {
                 return;
             }
-            match segment.claim() {
-                Some(claim) if segment.close(&claim) => self.front.note_closed(at, true),
-                _ => return,
+            if !self.close(at, segment) {
+                return;
             }
         }
+    }
+
+    /// Gives the memory of an empty segment back, and tells whether it did. Whoever calls it holds `grows`.
+    fn close(&self, at: usize, segment: &Segment<T>) -> bool {
+        let is_closed = segment.claim().is_some_and(|claim| segment.close(&claim));
+        if is_closed {
+            self.front.note_closed(at, true);
+        }
+        is_closed
     }
 }
 
@@ -707,37 +709,9 @@ impl<T> Shared<T> {
 
     /// A bounded part of what is done where nothing is due: cancelled entries are freed, and worn shards renewed.
     pub fn use_quiet_moment(&self) {
-        let cancels = self.front.cancels();
-        if self.swept.swap(cancels, SeqCst) != cancels {
-            let sweeps = |segment: &Segment<T>| segment.capacity() / SWEPT + segment.rows.len();
-            let sweeps = self.segments().map(|(_, segment)| sweeps(segment)).sum();
-            self.sweeps_left.store(sweeps, SeqCst);
-        }
-        let one_fewer = |left: usize| left.checked_sub(1);
-        if self.sweeps_left.fetch_update(SeqCst, SeqCst, one_fewer).is_ok() {
-            self.sweep_next();
-        }
+        self.sweep_where_cancelled();
         for (at, segment) in self.segments() {
             self.renew_where_due(segment, at);
-        }
-    }
-
-    /// Frees cancelled entries at the next slots of the next shard, and drops their values.
-    fn sweep_next(&self) {
-        let shards: usize = self.segments().map(|(_, segment)| segment.rows.len()).sum();
-        let mut place = self.sweep_at.load(SeqCst) % shards.max(1);
-        for (at, segment) in self.segments() {
-            if place < segment.rows.len() {
-                if segment.sweep(place, SWEPT) {
-                    self.sweep_at.fetch_add(1, SeqCst);
-                }
-                segment.drop_aside(place);
-                if at > 0 && segment.is_empty() && !segment.is_closed() {
-                    self.shrink();
-                }
-                return;
-            }
-            place -= segment.rows.len();
         }
     }
 

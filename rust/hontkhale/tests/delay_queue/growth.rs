@@ -90,6 +90,47 @@ fn a_receiver_in_a_quiet_moment_frees_what_was_cancelled() {
     assert_eq!((drops.count(0), queue.stats().cancelled), (1, 0));
 }
 
+/// Of receivers that rest at once each frees a part of its own, so that nothing is left out.
+#[test]
+fn receivers_that_rest_at_once_free_all_that_was_cancelled() {
+    for _ in 0..60 {
+        let queue = queue_of_cancelled(4_000);
+        let begins = Barrier::new(4);
+        let rests = || {
+            begins.wait();
+            (0..40).for_each(|_| assert!(queue.try_recv().is_none()));
+        };
+        thread::scope(|scope| (0..4).for_each(|_| drop(scope.spawn(rests))));
+        assert_eq!(queue.stats().cancelled, 0);
+    }
+}
+
+/// Wherever the way through the slots is as the last are cancelled.
+#[test]
+fn a_queue_that_grows_meanwhile_frees_all_that_was_cancelled() {
+    for turns in 0..40 {
+        let queue = queue_of_cancelled(2_000);
+        (0..turns).for_each(|_| assert!(queue.try_recv().is_none()));
+        let more: Vec<_> = (0..2_000)
+            .map(|number| queue.insert(number, FAR).expect("room"))
+            .collect();
+        more.iter().for_each(|key| assert!(queue.cancel(key).is_ok()));
+        assert!(queue.try_recv().is_none());
+        queue.reserve(30_000).expect("memory");
+        (0..400).for_each(|_| assert!(queue.try_recv().is_none()));
+        assert_eq!(queue.stats().cancelled, 0, "{turns} turns");
+    }
+}
+
+fn queue_of_cancelled(entries: u64) -> DelayQueue<u64> {
+    let queue = DelayQueue::builder().shards(2).build();
+    let keys: Vec<_> = (0..entries)
+        .map(|number| queue.insert(number, FAR).expect("room"))
+        .collect();
+    keys.iter().for_each(|key| assert!(queue.cancel(key).is_ok()));
+    queue
+}
+
 /// Also one that waits for nothing, and one that finds the queue closed. The values count as cancelled until they are dropped.
 #[test]
 fn a_receiver_drops_what_it_freed_before_it_returns_none() {

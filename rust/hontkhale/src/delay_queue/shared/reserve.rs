@@ -3,6 +3,7 @@
 use super::{Limits, Segment, Shared, SEGMENTS};
 use crate::delay_queue::errors::InsertErrorKind;
 use crate::memory::room_for;
+use std::array;
 use std::sync::atomic::Ordering::SeqCst;
 use std::sync::PoisonError;
 
@@ -25,15 +26,30 @@ impl<T> Shared<T> {
             return Err(InsertErrorKind::Full);
         }
         let one = self.grows.lock().unwrap_or_else(PoisonError::into_inner);
+        let was_open: [bool; SEGMENTS] = array::from_fn(|at| self.is_open(at));
         let reserved = self.make_up_to(entries).and_then(|()| self.open_up_to(entries));
-        if reserved.is_ok() {
-            self.reserved.fetch_max(entries, SeqCst);
+        match reserved {
+            Ok(()) => drop(self.reserved.fetch_max(entries, SeqCst)),
+            Err(_) => self.close_others(&was_open),
         }
         drop(one);
-        if reserved.is_err() {
-            self.shrink();
-        }
+        // Others, that would have, found it at work.
+        self.shrink();
         reserved
+    }
+
+    fn is_open(&self, at: usize) -> bool {
+        self.segment(at).is_some_and(|segment| !segment.is_closed())
+    }
+
+    /// Gives the memory of segments back that were made or opened for room that was refused then. One in which others have
+    /// put something meanwhile stays.
+    fn close_others(&self, was_open: &[bool; SEGMENTS]) {
+        for (at, segment) in self.segments() {
+            if !was_open[at] && !segment.is_closed() {
+                self.close(at, segment);
+            }
+        }
     }
 
     /// Makes segments until there are slots for so many entries once all are open; none where memory is refused. Whoever
