@@ -13,8 +13,8 @@ use std::time::{Duration, Instant};
 
 /// How many entries are taken out under one lock.
 const TAKEN_AT_ONCE: usize = 64;
-/// Up to how many entries of a shard a thread polls as a whole. In pieces an entry takes three times as long, and whoever waits
-/// for the lock gets it no sooner.
+/// Up to how many entries of a shard a thread polls as a whole. In pieces an entry takes longer, and whoever waits for the lock
+/// gets it no sooner.
 const POLLED_WHOLE: usize = 8_192;
 
 /// What the steps under one lock came to.
