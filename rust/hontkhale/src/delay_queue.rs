@@ -392,10 +392,10 @@ impl<T> DelayQueue<T> {
     }
 
     /// Takes memory for so many entries in all, those that wait among them, and keeps it for good. While fewer wait, no insert
-    /// takes memory or is refused as NoMemory, and none waits until the queue has grown, but for two cases: entries that were
-    /// cancelled hold their slots until their values are dropped; and a shard of which half the slots are worn, by a million
-    /// inserts or resets each, takes its memory anew and has no room meanwhile. A larger number counts from then on, and a
-    /// smaller one changes nothing.
+    /// takes memory or is refused as NoMemory, and none waits until the queue has grown, but for three cases. Entries that were
+    /// cancelled hold their slots until their values are dropped. A shard of which half the slots are worn, by a million
+    /// inserts or resets each, takes its memory anew and has no room meanwhile. And an insert that looks for room while an entry
+    /// of such a shard is moved may miss the room. A larger number counts from then on, and a smaller one changes nothing.
     ///
     /// # Errors
     /// - Full beyond the queue's bound, or beyond the 3 million entries a shard that a queue may grow to.
