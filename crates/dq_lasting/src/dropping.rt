@@ -84,8 +84,8 @@ fn tried_place(route: u64, turn: usize, shards: usize) -> usize
 
 impl<T: Drop, A: Allocator> LastingQueue<T, A> {
     /// Makes a queue of empty shards at tick 0, all of which accept entries. It takes time and memory in proportion
-    /// to the slots of all shards. Later only `handle` and its renewal, `keep_going`, `states`, and `poll_or_park`
-    /// for a waker take memory.
+    /// to the slots of all shards. Later only `handle` and its renewal, `keep_going`, `open_place`, `states`, and
+    /// `poll_or_park` for a waker take memory.
     ///
     /// # Errors
     /// - `BadConfig` if a number of `config` is out of its range: [`LastingConfig::check`] tells which.
