@@ -717,7 +717,7 @@ impl<T: Drop, A: Allocator> LastingQueue<T, A> {
     }
 
     // Opens the shard at a place with so many slots.
-    fn open<R: Wait>(
+    fn open_with<R: Wait>(
         &self,
         rt: &R,
         alloc: A,
@@ -800,7 +800,7 @@ impl<T: Drop, A: Allocator> LastingQueue<T, A> {
         if capacity == 0 || capacity > CAPACITY_LIMIT {
             return Err(OpenError::BadConfig);
         }
-        self.open(rt, alloc, place, capacity, takes)
+        self.open_with(rt, alloc, place, capacity, takes)
     }
 
     /// Does the one step that is due next to keep the queue going for years, and returns which it was. Whoever polls

@@ -57,8 +57,8 @@ fn tried_place(route: u64, turn: usize, shards: usize) -> usize {
 
 impl<T> LastingQueue<T> {
     /// Makes a queue of empty shards at tick 0, all of which accept entries. It takes time and memory in proportion
-    /// to the slots of all shards. Later only `handle` and its renewal, `keep_going`, `states`, and `poll_or_park`
-    /// for a waker take memory.
+    /// to the slots of all shards. Later only `handle` and its renewal, `keep_going`, `open_place`, `states`, and
+    /// `poll_or_park` for a waker take memory.
     ///
     /// # Errors
     /// - `BadConfig` if a number of `config` is out of its range: [`LastingConfig::check`] tells which.
@@ -544,7 +544,7 @@ impl<T> LastingQueue<T> {
     }
 
     // Opens the shard at a place with so many slots.
-    fn open(&self, place: usize, capacity: usize, takes: bool) -> Result<(), OpenError> {
+    fn open_with(&self, place: usize, capacity: usize, takes: bool) -> Result<(), OpenError> {
         // requires place < self.now.shards
         let mut fresh = None;
         loop {
@@ -602,7 +602,7 @@ impl<T> LastingQueue<T> {
         if capacity == 0 || capacity > CAPACITY_LIMIT {
             return Err(OpenError::BadConfig);
         }
-        self.open(place, capacity, takes)
+        self.open_with(place, capacity, takes)
     }
 
     /// Does the one step that is due next to keep the queue going for years, and returns which it was. Whoever polls

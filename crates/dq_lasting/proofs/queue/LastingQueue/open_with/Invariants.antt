@@ -1,6 +1,6 @@
 use Rattle.std.specs.Prelude.{IfSome}
 use Rattle.dq_lasting.specs.Growing.{IsUnusedQueue}
-use Rattle.dq_lasting.proofs.queue.LastingQueue.open.Given as goal
+use Rattle.dq_lasting.proofs.queue.LastingQueue.open_with.Given as goal
 
 abbrev pub invariant-loop : goal.invariant-loop
 invariant-loop g l =
