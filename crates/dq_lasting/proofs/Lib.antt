@@ -1,5 +1,5 @@
 pub mod Auditing
-pub mod Growing
+pub mod FreshQueues
 pub mod Locked
 pub mod Renewing
 pub mod Rounds
