@@ -82,7 +82,11 @@ impl<T, A: Allocator> LastingShard<T, A> {
         match anew {
             Anew::Done => (Begun::Answered(Ok(Kept::Reopened { place })), leaver, left),
             Anew::Wants(config) => (Begun::Opens(config), leaver, left),
-            Anew::Spent => (Begun::Answered(Err(ReopenError::NumbersSpent)), leaver, left),
+            Anew::Spent => (
+                Begun::Answered(Err(ReopenError::NumbersSpent)),
+                leaver,
+                left,
+            ),
             Anew::Linked(_) => unreachable!(),
         }
     }

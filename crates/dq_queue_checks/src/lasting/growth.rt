@@ -18,11 +18,7 @@ struct Out {
 }
 
 // Puts the values from one on in, until the queue is full, and returns the one that it refused.
-fn fill<A: Allocator, R: Wait>(
-    rt: &R,
-    queue: &Numbers<A>,
-    from: u32,
-) -> Result<u32, LastingError> {
+fn fill<A: Allocator, R: Wait>(rt: &R, queue: &Numbers<A>, from: u32) -> Result<u32, LastingError> {
     for value in from..64 {
         match queue.insert(rt, 0, value, 5) {
             Ok(_key) => {}

@@ -2,7 +2,9 @@
 
 use super::same;
 use dq_core::CoreError;
-use dq_lasting::{HandleError, HandleRenewError, Kept, LastingConfig, LastingQueue, OpenError, ReopenError};
+use dq_lasting::{
+    HandleError, HandleRenewError, Kept, LastingConfig, LastingQueue, OpenError, ReopenError,
+};
 use linked_list_allocator::LocalHeap;
 use refusing_heap::RefusingHeap;
 use std::process::Abort;

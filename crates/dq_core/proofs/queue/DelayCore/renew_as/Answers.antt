@@ -16,6 +16,6 @@ returns-clause-renews g c =
       c.replace.ensures.value,
       ap (λ q. q.wheel.filing) after ∙ c.come_to.ensures.way ∙ ap (λ n. passed c.args.fresh.wheel.filing n) noted,
       after ∙ c.come_to.ensures.rest
-      ∙ ap (λ n. record c.args.fresh { noted = n; wheel = c.come_to.new.self.wheel }) noted
-      ∙ ap (λ w. record c.args.fresh { noted = c.args.self.now.noted; wheel = w }) (sym (ap (λ q. q.wheel) after)),
+          ∙ ap (λ n. record c.args.fresh { noted = n; wheel = c.come_to.new.self.wheel }) noted
+          ∙ ap (λ w. record c.args.fresh { noted = c.args.self.now.noted; wheel = w }) (sym (ap (λ q. q.wheel) after)),
     )
