@@ -1,9 +1,9 @@
 -- A queue that was never used, and what goes on as it.
-use Rattle.std.proofs.Common.{◌≡◌, ℕ, ◌+◌, zero, suc, List, [], ◌∷◌, length, replicate, Option, None, Ok, refl, sym, ap, ◌∙◌, subst, arith}
+use Rattle.std.proofs.Common.{◌≡◌, ℕ, zero, suc, ◌∷◌, length, replicate, None, Ok, refl, sym, ap, ◌∙◌, subst, arith}
 use Rattle.std.specs.List.{count_by, sum_by}
 use Rattle.std.proofs.lemmas.List.{length-replicate}
 use Rattle.std.proofs.lemmas.List.Sums.{sum_by-cons}
-use Rattle.dq_wheel.specs.State.{Filing, fresh_filing}
+use Rattle.dq_wheel.specs.State.{fresh_filing}
 use Rattle.dq_wheel.specs.Moves.{passed, moves_down, move_counts}
 use Rattle.dq_core.specs.AtTheCall.{linked_in}
 use Rattle.dq_core.specs.Core.{Core}
@@ -14,7 +14,7 @@ use Rattle.dq_core.proofs.Renewing.{none_counted}
 use Rattle.dq_words.specs.AtTheCall.{KnowsNothing}
 use Rattle.dq_words.specs.Seats.{Sat}
 use Rattle.dq_words.specs.Shards.{IsFreshQueue}
-use Rattle.dq_lasting.specs.Growing.{IsUnusedQueue, HasNumbers}
+use Rattle.dq_lasting.specs.Growing.{IsUnusedQueue}
 
 -- of what isn't filed nothing moves
 unmoved : (e n m : ℕ) → move_counts e n (replicate m None) (replicate m 0) ≡ replicate m 0
