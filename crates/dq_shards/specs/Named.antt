@@ -6,6 +6,9 @@ use Rattle.dq_core.specs.declared.errors.CoreError.{CoreError}
 use Rattle.dq_core.specs.declared.outcomes.Removed.{Removed}
 use Rattle.dq_core.specs.declared.outcomes.Turn.{Turn}
 use Rattle.dq_words.specs.Seats.{Sat}
+use Rattle.dq_words.specs.declared.keeper.WordsError.{WordsError}
+use Rattle.dq_words.specs.declared.keeper.WordsError.TheVariants.{BadConfig, NoMemory, TooManyHandles}
+use Rattle.dq_words.specs.declared.keeper.TheConstants.{HANDLE_LIMIT}
 use Rattle.dq_journal.specs.declared.views.Entry.{Entry}
 use Rattle.dq_journal.specs.declared.views.View.{View}
 use Rattle.dq_journal.specs.History.{entry, entries_by}
@@ -22,6 +25,12 @@ pub record NamedCallerView (T : Type 0) : Type 0 where
 pub record NamedView (T : Type 0) : Type 0 where
   pub shard : ShardView T
   pub history : View (ShardView T)
+
+-- why no caller is issued after so many: as many were as may be, or memory was refused
+abbrev pub IsRefusedAfter : ℕ → WordsError → Type 0
+IsRefusedAfter issued (TooManyHandles limit) = (limit ≡ HANDLE_LIMIT) × (issued ≡ HANDLE_LIMIT)
+IsRefusedAfter issued NoMemory = Unit {0}
+IsRefusedAfter issued BadConfig = ⊥
 
 module _ {T : Type 0} where
   -- the shard, whose keeper has issued so many callers

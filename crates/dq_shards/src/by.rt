@@ -1,13 +1,14 @@
 //! A shard whose words and history have names, and callers of it. So through its lock it is known that they are of one
 //! shard: a call by name is made once, on the shard that the caller's other calls were made on.
-ghost use Rattle.std.specs.Prelude.{◌≡◌, ◌≤◌, IfSome, IfOk, IfErr};
-ghost use Rattle.dq_core.specs.declared.errors.CoreError.{CoreError};
+ghost use Rattle.std.specs.Prelude.{◌≡◌, ◌≤◌, Ok, IfOk, IfErr, OnOk};
+ghost use Rattle.dq_core.specs.AtTheCall.{IfOut};
 ghost use Rattle.dq_journal.specs.Once.{IsTold};
 ghost use Rattle.dq_journal.specs.Views.{first_witness, new_witness};
 ghost use Rattle.dq_words.specs.CallerCalls.{CallerCancels, CallerExtends};
 ghost use Rattle.dq_shards.specs.ForCallers.{KeepsFor, no_table};
-ghost use Rattle.dq_shards.specs.Changes.{ShardInserts, ShardResets, ShardRemoves, ShardPolls};
-ghost use Rattle.dq_shards.specs.Named.{Once, IsHistory};
+ghost use Rattle.dq_shards.specs.Changes.{ShardInserts, ShardResets, ShardRemoves, ShardPolls, ShardIssues};
+ghost use Rattle.dq_shards.specs.Named.{Once, IsHistory, IsRefusedAfter};
+ghost use Rattle.dq_shards.specs.Shard.{keeper_of};
 
 mod quiet;
 
@@ -15,7 +16,7 @@ use crate::state::ShardState;
 use dq_core::{CallError, CoreError, Removed, Turn};
 use dq_journal::Witness;
 use dq_parking::Leaver;
-use dq_ticks::{EntryId, Key, is_same_key};
+use dq_ticks::{EntryId, Key};
 use dq_words::{Caller, WordsError};
 use std::alloc::{Allocator, Global};
 use std::marker::{Brand, Model, PhantomData};
@@ -147,7 +148,17 @@ impl<T, J: Room, A: Allocator> NamedShard<T, J, A> {
     /// - `NoMemory` if memory is refused.
     /// - `TooManyHandles` if 1,024 callers were made, given back or not.
     pub fn issue(&mut self) -> Result<NamedCaller<T, J, A>, WordsError>
-        ensures { IfOk result (λ c. c.history ≡ new_witness self.old.history) }
+        // The shard issues it, and it has no call in the history yet.
+        ensures issues { IfOk result
+            (λ c. ShardIssues self.old.shard (Ok c.caller) self.new.shard) }
+        ensures history { IfOk result (λ c. c.history ≡ new_witness self.old.history) }
+
+        // Refused, the shard stays: past the limit, or where memory is refused.
+        ensures refused { IfErr result (λ e. (self.new.shard ≡ self.old.shard)
+            × IsRefusedAfter (keeper_of self.old.shard).issued e) }
+
+        // No call is entered.
+        ensures log { self.new.history.log ≡ self.old.history.log }
     {
         let Ok(history) = self.history.open() else {
             return Err(WordsError::NoMemory);
@@ -233,28 +244,29 @@ impl<T, J: Room, A: Allocator> NamedShard<T, J, A> {
 }
 
 /// Takes the shard's lock, puts `value` in, to come out at the tick `when` of one millisecond, and returns its key.
-/// Who has left is woken once the lock is free, and the value that waited for its drop in the entry's slot is dropped.
+/// Who has left is woken once the lock is free. Beside the answer comes the value that waited for its drop in the
+/// entry's slot, if one did: no call by name drops a value.
 ///
 /// # Errors
 /// `value` comes back. In this order:
 /// - `TooFar` if `when` is beyond the last tick.
 /// - `Full` if no slot is free.
-pub fn insert_by<T: Drop, J: Room, A: Allocator, R: Wait>(
+pub fn insert_by<T, J: Room, A: Allocator, R: Wait>(
     rt: &R,
     shard: &Mutex<NamedShard<T, J, A>>,
     me: &mut NamedCaller<T, J, A>,
     value: T,
     when: u64,
-) -> Result<Key, (CoreError, T)>
-    ensures once { Once (λ old new. ShardInserts old value when result new)
+) -> (Result<Key, (CoreError, T)>, Option<T>)
+    ensures once { Once (λ old new. ShardInserts old value when result.0 new)
         me.old.history me.new.history }
     ensures same { me.new.caller ≡ me.old.caller }
 {
     let mut locked = shard.lock(rt);
-    let (answer, leaver, _crowded) = locked.insert(me, value, when);
+    let (answer, leaver, crowded) = locked.insert(me, value, when);
     drop(locked);
     leaver.wake();
-    answer
+    (answer, crowded)
 }
 
 /// Takes the shard's lock, gives a live entry the deadline `when`, a tick of one millisecond, and returns its new key.
@@ -331,28 +343,19 @@ pub fn poll_by<T, J: Room, A: Allocator, R: Wait>(
     answer
 }
 
-/// Extends an entry without the lock, and then polls by name. If that entry comes out, its deadline isn't before the
-/// one asked for, whatever other threads did meanwhile. It returns none if the extend was refused, or another entry
-/// or none came out.
-pub fn extend_then_poll<T: Drop, J: Room, A: Allocator, R: Wait>(
+/// Extends an entry without the lock, and then polls by name. If the extend is accepted and that entry comes out, its
+/// deadline isn't before the one asked for, whatever other threads did meanwhile.
+pub fn extend_then_poll<T, J: Room, A: Allocator, R: Wait>(
     rt: &R,
     shard: &Mutex<NamedShard<T, J, A>>,
     me: &mut NamedCaller<T, J, A>,
     key: &Key,
     when: u64,
     tick: u64,
-) -> Option<u64>
-    ensures { IfSome result (λ d. when ≤ d) }
+) -> (Result<u64, CallError>, Result<Turn<T>, CoreError>)
+    ensures { OnOk result.0 (IfOut result.1 (λ x. x.key ≡ key.now → when ≤ x.deadline)) }
 {
-    let Ok(_) = me.extend(key, when) else {
-        return None;
-    };
-    let Ok(Turn::Out(out)) = poll_by(rt, shard, me, tick) else {
-        return None;
-    };
-    if is_same_key(out.key, *key) {
-        Some(out.deadline)
-    } else {
-        None
-    }
+    let extended = me.extend(key, when);
+    let turn = poll_by(rt, shard, me, tick);
+    (extended, turn)
 }

@@ -5,7 +5,7 @@ ghost use Rattle.dq_shards.specs.Changes.{ShardInserts};
 ghost use Rattle.dq_shards.specs.Named.{HasOneMore, IsHistory, Once};
 
 use super::same;
-use dq_core::{CoreConfig, Turn};
+use dq_core::{CoreConfig, CoreError, Turn};
 use dq_journal::Witness;
 use dq_shards::ShardState;
 use dq_shards::by::{NamedCaller, NamedShard, Room, extend_then_poll, insert_by, poll_by};
@@ -28,7 +28,8 @@ fn insert_as<J: Room, R: Wait>(
     ensures { IfSome result.1 (λ key. Once (λ old new. ShardInserts old value when (Ok key) new)
         me.history result.0.history) }
 {
-    match insert_by(rt, shard, &mut me, value, when) {
+    let (answer, _crowded) = insert_by(rt, shard, &mut me, value, when);
+    match answer {
         Ok(key) => (me, Some(key)),
         Err(_) => (me, None),
     }
@@ -71,6 +72,13 @@ fn insert_both<J: Room + Send + Sync, R: Threads + Wait + Sync>(
     Some((shard, a, b))
 }
 
+fn came_out(turn: Result<Turn<u64>, CoreError>) -> Option<(u64, u64)> {
+    match turn {
+        Ok(Turn::Out(out)) => Some((out.value, out.deadline)),
+        _ => None,
+    }
+}
+
 // Two threads insert; then a third caller extends one of the entries, and polls both out.
 fn inserted_by_two<J: Room + Send + Sync, R: Threads + Wait + Abort + Sync>(
     rt: &R,
@@ -86,15 +94,13 @@ fn inserted_by_two<J: Room + Send + Sync, R: Threads + Wait + Abort + Sync>(
     let mut me = shard.issue().ok().ok_or("a caller")?;
     let (shard, a, _b) = insert_both(rt, shard, one, other, 100).ok_or("both insert")?;
     let shard = Mutex::new(shard);
-    let extended = extend_then_poll(rt, &shard, &mut me, &a, 150, 99);
-    same(rt, "not due", extended, None);
-    let first = match poll_by(rt, &shard, &mut me, 100) {
-        Ok(Turn::Out(out)) => Some((out.value, out.deadline)),
-        _ => None,
-    };
-    same(rt, "the other entry", first, Some((2, 100)));
-    let last = extend_then_poll(rt, &shard, &mut me, &a, 200, 200);
-    same(rt, "the extended entry", last, Some(200));
+    let (extended, turn) = extend_then_poll(rt, &shard, &mut me, &a, 150, 99);
+    same(rt, "extended", extended, Ok(150));
+    same(rt, "not due", came_out(turn), None);
+    let first = poll_by(rt, &shard, &mut me, 100);
+    same(rt, "the other entry", came_out(first), Some((2, 100)));
+    let (_, last) = extend_then_poll(rt, &shard, &mut me, &a, 200, 200);
+    same(rt, "the extended entry", came_out(last), Some((1, 200)));
     Ok(())
 }
 
