@@ -2,10 +2,7 @@
 use Rattle.std.specs.Prelude.{◌≡◌, ◌≢◌, ℕ, ◌*◌, ◌<◌, ◌≤◌, ◌⊎◌, Bool, true, false, Result}
 use Rattle.std.specs.Prelude.{Ok, Err, length, Option, Some, None, IfSome, is_some, if◌then◌else◌}
 use Rattle.std.specs.List.{count_by}
-use Rattle.dq_core.specs.Renewals.{UnusedRows, AreUnused}
 use Rattle.dq_core.specs.Slots.{is_held, is_worn}
-use Rattle.dq_words.specs.AtTheCall.{KnowsNothing}
-use Rattle.dq_words.specs.Seats.{Sat}
 use Rattle.dq_lasting.specs.declared.errors.ReopenError.{ReopenError}
 use Rattle.dq_lasting.specs.declared.keeping.Kept.{Kept}
 use Rattle.dq_lasting.specs.declared.keeping.Kept.TheVariants.{Fine, Closed, Drains, Reopened}
@@ -18,10 +15,10 @@ use Rattle.dq_lasting.specs.declared.keeping.Due.{Due}
 use Rattle.dq_lasting.specs.declared.keeping.Due.TheVariants.{Made, At}
 use Rattle.dq_lasting.specs.declared.opening.Begun.{Begun}
 use Rattle.dq_lasting.specs.declared.opening.Begun.TheVariants.{Answered, Opens}
-use Rattle.dq_lasting.specs.declared.opening.ShardSize.{ShardSize}
 use Rattle.dq_lasting.specs.Shard.{LastingView}
 use Rattle.dq_lasting.specs.Answers.{AtPlace}
 use Rattle.dq_lasting.specs.Changes.{LastingSweepsOn, Closes, Reopens}
+use Rattle.dq_lasting.specs.Growing.{IsNextConfig}
 
 -- where a shard was opened
 abbrev pub IfReopened : Begun → Type 0 → Type 0
@@ -87,26 +84,11 @@ module _ {T : Type 0} where
   GoesOnAt shards place old (Ok Fine) new = DrainsOn place old Fine new
   GoesOnAt shards place old (Ok (Closed p)) new = ⊥
 
-  -- so many slots has a shard, and so many stamps each of them
-  abbrev pub IsOfShardSize : LastingView T → ShardSize → Type 0
-  IsOfShardSize s size =
-      (size.capacity ≡ length s.core.slots.rows) × (size.last_stamp ≡ s.core.slots.last_stamp)
-
-  -- The step was made, or the shard is drained and is to be opened over rows of its size.
+  -- The step was made, or the shard is drained and is to go on as a queue of these numbers.
   abbrev pub BeginsAt : ℕ → ℕ → LastingView T → Begun → LastingView T → Type 0
   BeginsAt shards place old (Answered r) new = GoesOnAt shards place old r new
-  BeginsAt shards place old (Opens size) new =
-      IsDrained old × IsOfShardSize old size × (new ≡ old)
-
-  -- rows of which none was ever used, and a keeper that knows nothing
-  abbrev pub IsUnknown : UnusedRows T Sat → Type 0
-  IsUnknown r = AreUnused r × KnowsNothing r.words
-
-  -- such rows of that size
-  abbrev pub AreFreshRows : ShardSize → UnusedRows T Sat → Type 0
-  AreFreshRows size r =
-      IsUnknown r × (length r.slots.rows ≡ size.capacity)
-      × (r.slots.last_stamp ≡ size.last_stamp)
+  BeginsAt shards place old (Opens config) new =
+      IsDrained old × IsNextConfig old shards (length old.core.slots.rows) config × (new ≡ old)
 
 -- at the shard of each place, one after the other, the call gave that answer
 abbrev pub AtEach :
