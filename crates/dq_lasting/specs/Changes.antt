@@ -161,7 +161,8 @@ module _ {T : Type 0} where
       (number_end ≤ old.core.shard + by) ⊎ (count_end ≤ old.past.inserted + old.core.counts.begins)
 
   -- It goes on over a keeper that knows nothing, under a number that is higher by so much, and
-  -- takes entries; no poller is left parked. Refused, nothing changes.
+  -- takes entries; no poller is left parked, and the next sweep begins at the first slot. Refused,
+  -- nothing changes.
   abbrev pub Reopens : LastingView T → ℕ → Result (Unit {0}) ReopenError → LastingView T → Type 0
   Reopens old by (Ok done) new =
       (count_by is_held old.core.slots.rows ≡ 0)
@@ -169,6 +170,7 @@ module _ {T : Type 0} where
       new.core.words)
       × AreFresh new.core.known new.core.counts × KnowsNothing new.core.words
       × (new.takes ≡ true) × IsEndedBefore old new.past × (new.parked ≡ None)
+      × (new.sweep_from ≡ 0)
   Reopens old by (Err NumbersSpent) new =
       (count_by is_held old.core.slots.rows ≡ 0) × NumbersAreSpent old by × (new ≡ old)
   Reopens old by (Err NoMemory) new = (count_by is_held old.core.slots.rows ≡ 0) × (new ≡ old)
