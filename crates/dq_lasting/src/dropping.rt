@@ -3,10 +3,10 @@
 //!
 //! A value's drop is a user's code: it may call the queue, and it may panic. What is reaped or cleared is set aside in
 //! its shard, and the row takes it out and drops it behind the lock. Where a drop panics the shard is whole, and what
-//! is still set aside is dropped by a later call. Beside the row no other impl says that a value may be dropped, so the
-//! checker refuses a drop anywhere else.
+//! is still set aside is dropped by a later call. Beside the row and a stream's poll no other impl says that a value
+//! may be dropped, so the checker refuses a drop anywhere else.
 ghost use Rattle.std.specs.Prelude.{◌≡◌, ◌+◌, ◌-◌, ◌*◌, ◌%◌, ◌<◌, ◌≤◌, ◌↔◌, if◌then◌else◌};
-ghost use Rattle.std.specs.Prelude.{false, Some, None, Err, IfErr, IsErrOf, OnErr, vec_capacity};
+ghost use Rattle.std.specs.Prelude.{Some, None, Err, IfErr, IsErrOf, OnErr, vec_capacity};
 ghost use Rattle.dq_lasting.specs.declared.config.TheConstants.{SHARD_LIMIT};
 ghost use Rattle.futures.specs.Task.{Covers, Keeps};
 ghost use Rattle.futures.specs.Poll.{OnPending};
@@ -28,15 +28,14 @@ use crate::keeping::{Due, Kept};
 use crate::opening::{Begun, fresh_rows};
 use crate::poller::{OneTick, told};
 use crate::queue::LastingQueue;
-use crate::shard::LastingShard;
 use dq_core::{CoreConfig, CoreError, Expired, Piece, ReapError, Swept, Turn};
-use dq_parking::{Parked, Row, Shards, TickSource, poll_place, unlock, waiting_row};
+use dq_parking::{Row, poll_place, unlock, waiting_row};
 use dq_ticks::{EntryId, Key};
 use dq_words::{ManyTurn, locked_shards};
 use futures::task::{Context, Poll, Source};
 use std::alloc::Allocator;
 use std::num::NonZeroU32;
-use std::sync::{MutexGuard, Wait};
+use std::sync::Wait;
 
 // An odd number near 2^64 divided by the golden ratio: its multiples are spread evenly.
 const DRAWS: u64 = 0x9E37_79B9_7F4A_7C15;
@@ -306,11 +305,8 @@ impl<T: Drop, A: Allocator> LastingQueue<T, A> {
     {
         let mut shard = self.entered(rt, place)?;
         let (answer, leaver) = shard.attended.poll(tick);
-        let aside = unlock(shard, leaver);
-        // A drop that panics would lose what came out.
-        if !matches!(answer, Ok(Turn::Out(_))) {
-            self.row.drop_aside(rt, place, aside);
-        }
+        let is_out = matches!(answer, Ok(Turn::Out(_)));
+        self.row.leave(rt, place, shard, leaver, is_out);
         Ok(answer?)
     }
 
@@ -367,11 +363,8 @@ impl<T: Drop, A: Allocator> LastingQueue<T, A> {
     {
         let mut shard = self.entered(rt, place)?;
         let (answer, leaver) = shard.attended.poll_some(tick, most);
-        let aside = unlock(shard, leaver);
-        // A drop that panics would lose what came out.
-        if !matches!(answer, Ok(Piece::Answer(Turn::Out(_)))) {
-            self.row.drop_aside(rt, place, aside);
-        }
+        let is_out = matches!(answer, Ok(Piece::Answer(Turn::Out(_))));
+        self.row.leave(rt, place, shard, leaver, is_out);
         Ok(answer?)
     }
 
@@ -486,11 +479,8 @@ impl<T: Drop, A: Allocator> LastingQueue<T, A> {
         let before = row.len();
         let mut shard = self.entered(rt, place)?;
         let (answer, leaver) = shard.attended.poll_many(tick, row);
-        let aside = unlock(shard, leaver);
-        // A drop that panics would lose what came out.
-        if row.len() == before {
-            self.row.drop_aside(rt, place, aside);
-        }
+        let is_out = row.len() != before;
+        self.row.leave(rt, place, shard, leaver, is_out);
         Ok(answer?)
     }
 
@@ -589,8 +579,7 @@ impl<T: Drop, A: Allocator> LastingQueue<T, A> {
     {
         let mut shard = self.entered(rt, place)?;
         let (reaped, leaver) = shard.attended.sweep();
-        let aside = unlock(shard, leaver);
-        self.row.drop_aside(rt, place, aside);
+        self.row.leave(rt, place, shard, leaver, false);
         Ok(reaped)
     }
 
@@ -608,8 +597,7 @@ impl<T: Drop, A: Allocator> LastingQueue<T, A> {
     {
         let mut shard = self.entered(rt, place)?;
         let (removed, leaver) = shard.attended.clear();
-        let aside = unlock(shard, leaver);
-        self.row.drop_aside(rt, place, aside);
+        self.row.leave(rt, place, shard, leaver, false);
         Ok(removed)
     }
 
@@ -649,8 +637,7 @@ impl<T: Drop, A: Allocator> LastingQueue<T, A> {
     {
         let mut shard = self.entered(rt, place)?;
         let (swept, leaver) = shard.attended.sweep_some(from, count);
-        let aside = unlock(shard, leaver);
-        self.row.drop_aside(rt, place, aside);
+        self.row.leave(rt, place, shard, leaver, false);
         Ok(swept)
     }
 
@@ -670,8 +657,7 @@ impl<T: Drop, A: Allocator> LastingQueue<T, A> {
         let place = self.place_of(entry.shard());
         let mut shard = self.lock(rt, place);
         let (answer, leaver) = shard.attended.reap(entry);
-        let aside = unlock(shard, leaver);
-        self.row.drop_aside(rt, place, aside);
+        self.row.leave(rt, place, shard, leaver, false);
         answer
     }
 
@@ -753,51 +739,5 @@ impl<T: Drop, A: Allocator> LastingQueue<T, A> {
             Due::Made(kept) => Ok(kept),
             Due::At(place) => self.go_on(rt, alloc, place),
         }
-    }
-}
-
-/// A stream of a place asks its source before the shard's lock, and goes on after a refused tick.
-impl<T: Drop, A: Allocator> Shards for LastingQueue<T, A> {
-    type State = LastingShard<T, A>;
-
-    type Error = LastingError;
-
-    ghost places = { λ queue. queue.shards };
-
-    ghost unknown = { Unknown };
-
-    ghost ends = { false };
-
-    fn places(&self) -> usize {
-        self.row.len()
-    }
-
-    fn unknown() -> LastingError {
-        LastingError::Unknown
-    }
-
-    fn ends() -> bool {
-        false
-    }
-
-    fn give_way(&self, place: usize) {
-        self.row.give_way(place);
-    }
-
-    fn entered<S: TickSource, R: Wait>(
-        &self,
-        rt: &R,
-        place: usize,
-        source: &mut S,
-        before: &mut Option<Parked<Option<u64>>>,
-    ) -> (MutexGuard<'_, LastingShard<T, A>>, u64) {
-        let tick = source.now();
-        let mut shard = self.row.lock(rt, place);
-        *before = shard.take_parked();
-        (shard, tick)
-    }
-
-    fn drop_aside<R: Wait>(&self, rt: &R, place: usize, most: usize) {
-        self.row.drop_aside(rt, place, most);
     }
 }

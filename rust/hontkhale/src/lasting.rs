@@ -29,6 +29,7 @@ pub use ended::{Ended, LastingTally, LastingTotals};
 pub use errors::{HandleError, HandleRenewError, LastingError, ReopenError};
 pub use handle::LastingHandle;
 pub use keeping::Kept;
+pub(crate) use numbered::NumberedCaller;
 pub use poller::ParkedPoller;
 pub use queue::LastingQueue;
 pub(crate) use shard::{with_ended, LastingShard};

@@ -3,8 +3,8 @@
 //!
 //! A value's drop is a user's code: it may call the queue, and it may panic. What is reaped or cleared is set aside in
 //! its shard, and the row takes it out and drops it behind the lock. Where a drop panics the shard is whole, and what
-//! is still set aside is dropped by a later call. Beside the row no other impl says that a value may be dropped, so the
-//! checker refuses a drop anywhere else.
+//! is still set aside is dropped by a later call. Beside the row and a stream's poll no other impl says that a value
+//! may be dropped, so the checker refuses a drop anywhere else.
 
 use crate::core::{CoreConfig, CoreError, Expired, Piece, ReapError, Swept, Turn};
 use crate::lasting::config::LastingConfig;
@@ -14,9 +14,7 @@ use crate::lasting::names;
 use crate::lasting::opening::{fresh_rows, Begun};
 use crate::lasting::poller::{told, OneTick};
 use crate::lasting::queue::LastingQueue;
-use crate::lasting::shard::LastingShard;
-use crate::locks::MutexGuard;
-use crate::parking::{poll_place, unlock, waiting_row, Parked, Row, Shards, TickSource};
+use crate::parking::{poll_place, unlock, waiting_row, Row};
 use crate::ticks::{EntryId, Key};
 use crate::words::{locked_shards, ManyTurn};
 use alloc::vec::Vec;
@@ -229,11 +227,8 @@ impl<T> LastingQueue<T> {
     pub fn poll(&self, place: usize, tick: u64) -> Result<Turn<T>, LastingError> {
         let mut shard = self.entered(place)?;
         let (answer, leaver) = shard.attended.poll(tick);
-        let aside = unlock(shard, leaver);
-        // A drop that panics would lose what came out.
-        if !matches!(answer, Ok(Turn::Out(_))) {
-            self.row.drop_aside(place, aside);
-        }
+        let is_out = matches!(answer, Ok(Turn::Out(_)));
+        self.row.leave(place, shard, leaver, is_out);
         Ok(answer?)
     }
 
@@ -275,11 +270,8 @@ impl<T> LastingQueue<T> {
     pub fn poll_some(&self, place: usize, tick: u64, most: u32) -> Result<Piece<T>, LastingError> {
         let mut shard = self.entered(place)?;
         let (answer, leaver) = shard.attended.poll_some(tick, most);
-        let aside = unlock(shard, leaver);
-        // A drop that panics would lose what came out.
-        if !matches!(answer, Ok(Piece::Answer(Turn::Out(_)))) {
-            self.row.drop_aside(place, aside);
-        }
+        let is_out = matches!(answer, Ok(Piece::Answer(Turn::Out(_))));
+        self.row.leave(place, shard, leaver, is_out);
         Ok(answer?)
     }
 
@@ -357,11 +349,8 @@ impl<T> LastingQueue<T> {
         let before = row.len();
         let mut shard = self.entered(place)?;
         let (answer, leaver) = shard.attended.poll_many(tick, row);
-        let aside = unlock(shard, leaver);
-        // A drop that panics would lose what came out.
-        if row.len() == before {
-            self.row.drop_aside(place, aside);
-        }
+        let is_out = row.len() != before;
+        self.row.leave(place, shard, leaver, is_out);
         Ok(answer?)
     }
 
@@ -438,8 +427,7 @@ impl<T> LastingQueue<T> {
     pub fn sweep(&self, place: usize) -> Result<usize, LastingError> {
         let mut shard = self.entered(place)?;
         let (reaped, leaver) = shard.attended.sweep();
-        let aside = unlock(shard, leaver);
-        self.row.drop_aside(place, aside);
+        self.row.leave(place, shard, leaver, false);
         Ok(reaped)
     }
 
@@ -454,8 +442,7 @@ impl<T> LastingQueue<T> {
     pub fn clear(&self, place: usize) -> Result<usize, LastingError> {
         let mut shard = self.entered(place)?;
         let (removed, leaver) = shard.attended.clear();
-        let aside = unlock(shard, leaver);
-        self.row.drop_aside(place, aside);
+        self.row.leave(place, shard, leaver, false);
         Ok(removed)
     }
 
@@ -486,8 +473,7 @@ impl<T> LastingQueue<T> {
     pub fn sweep_some(&self, place: usize, from: usize, count: usize) -> Result<Swept, LastingError> {
         let mut shard = self.entered(place)?;
         let (swept, leaver) = shard.attended.sweep_some(from, count);
-        let aside = unlock(shard, leaver);
-        self.row.drop_aside(place, aside);
+        self.row.leave(place, shard, leaver, false);
         Ok(swept)
     }
 
@@ -504,8 +490,7 @@ impl<T> LastingQueue<T> {
         let place = self.place_of(entry.shard());
         let mut shard = self.lock(place);
         let (answer, leaver) = shard.attended.reap(entry);
-        let aside = unlock(shard, leaver);
-        self.row.drop_aside(place, aside);
+        self.row.leave(place, shard, leaver, false);
         answer
     }
 
@@ -578,44 +563,5 @@ impl<T> LastingQueue<T> {
             Due::Made(kept) => Ok(kept),
             Due::At(place) => self.go_on(place),
         }
-    }
-}
-
-/// A stream of a place asks its source before the shard's lock, and goes on after a refused tick.
-impl<T> Shards for LastingQueue<T> {
-    type State = LastingShard<T>;
-
-    type Error = LastingError;
-
-    fn places(&self) -> usize {
-        self.row.len()
-    }
-
-    fn unknown() -> LastingError {
-        LastingError::Unknown
-    }
-
-    fn ends() -> bool {
-        false
-    }
-
-    fn give_way(&self, place: usize) {
-        self.row.give_way(place);
-    }
-
-    fn entered<S: TickSource>(
-        &self,
-        place: usize,
-        source: &mut S,
-        before: &mut Option<Parked<Option<u64>>>,
-    ) -> (MutexGuard<'_, LastingShard<T>>, u64) {
-        let tick = source.now();
-        let mut shard = self.row.lock(place);
-        *before = shard.take_parked();
-        (shard, tick)
-    }
-
-    fn drop_aside(&self, place: usize, most: usize) {
-        self.row.drop_aside(place, most);
     }
 }
