@@ -118,7 +118,12 @@ fn inserted_by_two<J: Rooms + Send + Sync, R: Threads + Wait + Abort + Sync>(
     same(rt, "the other entry", came_out(first), Some((2, 100)));
     let (_, last) = queue.extend_then_poll(rt, &mut me, &a, 200, 200);
     same(rt, "the extended entry", came_out(last), Some((1, 200)));
-    same(rt, "another shard", came_out(queue.poll_by(rt, &mut apart, 200)), None);
+    same(
+        rt,
+        "another shard",
+        came_out(queue.poll_by(rt, &mut apart, 200)),
+        None,
+    );
     Ok(())
 }
 

@@ -1,14 +1,14 @@
 //! A queue's rows of shards, which are made one after the other as entries come, and give their memory back once they go.
 
-use crate::core::{CoreConfig, CoreError, DelayCore, Piece};
+use crate::core::{CoreError, DelayCore, Piece};
 use crate::delay_queue::dropping::{Dropping, LetGo};
 use crate::delay_queue::key::Places;
 use crate::delay_queue::waking::NEVER;
-use crate::lasting::{with_ended, LastingConfig, LastingQueue, LastingShard, NumberedCaller};
+use crate::lasting::{fresh_queue, Anew, LastingConfig, LastingQueue, LastingShard, NumberedCaller};
 use crate::locks::MutexGuard;
 use crate::memory::room_for;
 use crate::ticks::{EntryId, Key};
-use crate::words::{numbered_queue, Keeper, WordsError};
+use crate::words::{Keeper, WordsError};
 use std::sync::atomic::{
     AtomicBool, AtomicU64, AtomicUsize,
     Ordering::{Relaxed, SeqCst},
@@ -229,31 +229,24 @@ impl<T> Segment<T> {
 
     /// Puts an empty queue of that capacity in the place of each shard's, which is empty, under the shard's next number: keys
     /// from before are missing for good. It tells whether it did so in each shard: not where memory is refused, or a
-    /// number is the last.
+    /// number is the last. All queues are made before the first one is put in.
     fn put_in(&self, capacity: usize, takes: bool) -> bool {
-        let by = self.rows.len() as u32;
-        let next = |place| {
-            let shard = self.queue.lock(place).attended.core.shard().checked_add(by)?;
-            let last_stamp = self.config.last_stamp;
-            numbered_queue(CoreConfig {
-                shard,
-                capacity,
-                last_stamp,
-            })
-            .ok()
+        let next = |place| match self.queue.open_at(place, None, capacity, takes).0 {
+            Anew::Wants(config) => fresh_queue(config),
+            _ => None,
         };
         let Ok(mut made) = room_for(self.rows.len()) else {
             return false;
         };
         made.extend((0..self.rows.len()).map_while(next));
-        if made.len() < self.rows.len() {
-            return false;
-        }
-        for (place, core) in made.into_iter().enumerate() {
+        made.len() == self.rows.len() && made.into_iter().enumerate().all(|(place, core)| {
             // The one that goes is dropped once the lock is free.
-            let _old = self.enter(place).replace(core, takes);
-        }
-        true
+            let (anew, _old, _aside) = self.queue.open_at(place, Some(core), capacity, takes);
+            let mut shard = self.enter(place);
+            let next = shard.core().next_wake();
+            shard.set_hint(next);
+            anew == Anew::Done
+        })
     }
 }
 
@@ -349,16 +342,6 @@ impl<T> Locked<'_, T> {
     /// How many entries of the shard were cancelled and freed.
     pub fn reaped(&self) -> u64 {
         self.shard.past.cancelled + self.core().tally().cancelled
-    }
-
-    fn replace(&mut self, core: DelayCore<T, Keeper>, takes: bool) -> DelayCore<T, Keeper> {
-        // What has ended counts on.
-        if let Some(past) = with_ended(&self.shard.past, &self.core().tally()) {
-            self.shard.past = past;
-        }
-        self.shard.takes = takes;
-        self.row.hint.store(NEVER, SeqCst);
-        std::mem::replace(self.core_mut(), core)
     }
 }
 

@@ -8,14 +8,15 @@
 
 use crate::core::{CoreConfig, CoreError, Expired, Piece, ReapError, Swept, Turn};
 use crate::lasting::config::LastingConfig;
-use crate::lasting::errors::{LastingError, ReopenError};
+use crate::lasting::errors::{LastingError, OpenError, ReopenError};
+use crate::lasting::growing::{fresh_queue, Anew};
 use crate::lasting::keeping::{Due, Kept};
 use crate::lasting::names;
-use crate::lasting::opening::{fresh_rows, Begun};
+use crate::lasting::opening::Begun;
 use crate::lasting::poller::{told, OneTick};
 use crate::lasting::queue::LastingQueue;
 use crate::parking::{poll_place, unlock, waiting_row, Row};
-use crate::ticks::{EntryId, Key};
+use crate::ticks::{EntryId, Key, CAPACITY_LIMIT};
 use crate::words::{locked_shards, ManyTurn};
 use alloc::vec::Vec;
 use core::num::NonZeroU32;
@@ -54,8 +55,8 @@ fn tried_place(route: u64, turn: usize, shards: usize) -> usize {
 
 impl<T> LastingQueue<T> {
     /// Makes a queue of empty shards at tick 0, all of which accept entries. It takes time and memory in proportion
-    /// to the slots of all shards. Later only `handle` and its renewal, `keep_going`, `states`, and `poll_or_park`
-    /// for a waker take memory.
+    /// to the slots of all shards. Later only `handle` and its renewal, `keep_going`, `open_place`, `states`, and
+    /// `poll_or_park` for a waker take memory.
     ///
     /// # Errors
     /// - `BadConfig` if a number of `config` is out of its range: [`LastingConfig::check`] tells which.
@@ -511,20 +512,82 @@ impl<T> LastingQueue<T> {
     // Opens the shard at a place again where it is drained, and else sweeps the next few slots of a closed one.
     fn go_on(&self, place: usize) -> Result<Kept, ReopenError> {
         // requires place < self.now.shards
-        let mut rows = None;
+        let mut fresh = None;
         loop {
-            let (begun, left, aside) = self.step_at(place, rows);
+            let (begun, left, aside) = self.step_at(place, fresh);
             drop(left);
             self.row.drop_aside(place, aside);
-            let size = match begun {
+            let config = match begun {
                 Begun::Answered(answer) => return answer,
-                Begun::Opens(size) => size,
+                Begun::Opens(config) => config,
             };
-            rows = fresh_rows(size);
-            if rows.is_none() {
+            fresh = fresh_queue(config);
+            if fresh.is_none() {
                 return Err(ReopenError::NoMemory);
             }
         }
+    }
+
+    // Opens the shard at a place with so many slots.
+    fn open_with(&self, place: usize, capacity: usize, takes: bool) -> Result<(), OpenError> {
+        // requires place < self.now.shards
+        let mut fresh = None;
+        loop {
+            let (anew, left, aside) = self.open_at(place, fresh, capacity, takes);
+            drop(left);
+            self.row.drop_aside(place, aside);
+            let config = match anew {
+                Anew::Done => return Ok(()),
+                Anew::Linked(linked) => return Err(OpenError::StillLinked { linked }),
+                Anew::Spent => return Err(OpenError::NumbersSpent),
+                Anew::Wants(config) => config,
+            };
+            fresh = fresh_queue(config);
+            if fresh.is_none() {
+                return Err(OpenError::NoMemory);
+            }
+        }
+    }
+
+    /// Opens the place `place` with `capacity` slots, more or fewer than it has. Nothing may be linked there. From then
+    /// on it accepts entries if `takes` says so: a place of one slot that accepts none holds next to no memory. Its
+    /// noted tick stays, and what became of its entries counts on. Its number rises as by a renewal, so every key from
+    /// before is refused for good. The other places serve meanwhile.
+    ///
+    /// It takes the place's lock twice, each time for constant time. It takes memory for the new slots while the lock
+    /// is free, and gives the old memory back after it has released the lock. A parked task is woken then.
+    ///
+    /// # Errors
+    /// The place stays as it was. In this order:
+    /// - `Unknown` if there is no such place.
+    /// - `BadConfig` if `capacity` isn't 1 to [`CAPACITY_LIMIT`].
+    /// - `StillLinked` if an entry is linked there, even a cancelled one.
+    /// - `NumbersSpent` if no higher number is left.
+    /// - `NoMemory` if memory is refused.
+    ///
+    /// ```
+    /// use hontkhale::lasting::{LastingConfig, LastingQueue};
+    ///
+    /// # fn main() -> Result<(), Box<dyn std::error::Error>> {
+    /// let queue = LastingQueue::new(LastingConfig::of(2, 1))?;
+    /// queue.insert_or_drop(0, "first", 100)?;
+    /// queue.insert_or_drop(0, "second", 200)?;
+    /// assert!(queue.insert_or_drop(0, "third", 300).is_err());
+    ///
+    /// while let hontkhale::owner::Turn::Out(_) = queue.poll(0, 100)? {}
+    /// queue.open_place(0, 1_000, true)?;
+    /// queue.insert_or_drop(0, "third", 300)?;
+    /// # Ok(())
+    /// # }
+    /// ```
+    pub fn open_place(&self, place: usize, capacity: usize, takes: bool) -> Result<(), OpenError> {
+        if place >= self.shards() {
+            return Err(OpenError::Unknown);
+        }
+        if capacity == 0 || capacity > CAPACITY_LIMIT {
+            return Err(OpenError::BadConfig);
+        }
+        self.open_with(place, capacity, takes)
     }
 
     /// Does the one step that is due next to keep the queue going for years, and returns which it was. Whoever polls
