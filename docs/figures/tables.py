@@ -62,9 +62,8 @@ def speed():
     return grid(["", *peers.values()], rows)
 
 
-def shared_speed():
-    """The bench's table of the shared queue: medians of one shard in one thread, and of four shards in four."""
-    peers = PLAN["shared_peers"]
+def named_speed(peers):
+    """Medians of calls by name: of one shard in one thread, and of four shards in four."""
     heads = [*peers.values()] * 2
     heads[0], heads[3] = f"1 shard, 1 thread: {heads[0]}", f"4 shards, 4 threads: {heads[3]}"
     names = {"insert-burst": "insert, 64 under one lock", "poll-burst": "poll, 64 under one lock"}
@@ -72,6 +71,16 @@ def shared_speed():
     cells = list(itertools.product(("1", "4"), peers))
     rows = ([names.get(it, it), *(ns_text(ns(f"{it}/{many}", peer, threads=many)) for many, peer in cells)] for it in calls)
     return grid(["", *heads], rows)
+
+
+def shared_speed():
+    """The bench's table of the shared queue."""
+    return named_speed(PLAN["shared_peers"])
+
+
+def product_speed():
+    """The same of what a server uses, beside the lasting queue under it."""
+    return named_speed(PLAN["product_peers"])
 
 
 def headline():

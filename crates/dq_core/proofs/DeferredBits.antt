@@ -1,11 +1,11 @@
 -- How the count of the slots that wait goes with their bits.
-use Rattle.std.proofs.Common.{◌≡◌, ◌≢◌, ℕ, zero, suc, ◌+◌, ◌-◌, ◌*◌, ◌/◌, ◌%◌, ◌<◌, ◌≤◌, ◌↔◌, List, [], ◌∷◌, Bool, true, false, replicate, length, get_or, refl, sym, arith, ◌∙◌, ap, ⊎_elim}
+use Rattle.std.proofs.Common.{◌≡◌, ◌≢◌, ℕ, zero, suc, ◌+◌, ◌-◌, ◌*◌, ◌/◌, ◌%◌, ◌<◌, ◌≤◌, ◌↔◌, List, Bool, true, false, replicate, length, get_or, refl, sym, arith, ◌∙◌, ap, ⊎_elim}
 use Rattle.std.specs.Int.{bit_at}
 use Rattle.std.proofs.lemmas.List.{get_or-replicate, get_or_past, length-replicate}
 use Rattle.std.proofs.lemmas.Bool.{cases_eq, cases_lt}
 use Rattle.dq_wheel.specs.Walks.{bit_of}
 use Rattle.dq_core.specs.FreeSlots.{IsSummed}
-use Rattle.dq_core.specs.Deferred.{sum_below, bits_below, IsDeferredKept}
+use Rattle.dq_core.specs.Deferred.{sum_below, IsDeferredKept}
 use Rattle.dq_core.proofs.FreeBits.{none_free}
 
 below_same : (f g : ℕ → ℕ) (i n : ℕ) → ((j : ℕ) → j ≢ i → g j ≡ f j) → n ≤ i → sum_below g n ≡ sum_below f n

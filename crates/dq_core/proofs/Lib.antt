@@ -2,6 +2,7 @@ pub mod Asks
 pub mod ByKey
 pub mod CallWords
 mod Cells
+pub mod CellRows
 pub mod Clearing
 pub mod DeferredBits
 pub mod Finds

@@ -1,20 +1,23 @@
 -- A renewal: what it leaves of the slots, of the law and of the machine.
-use Rattle.std.proofs.Common.{◌≡◌, ℕ, ◌+◌, ◌<◌, ◌≤◌, zero, suc, Bool, true, false, cond, List, [], ◌∷◌, length, set, replicate, Option, None, Some, is_some, is_none, refl, sym, ap, ◌∙◌, subst, inl, ⊎_elim, arith}
+use Rattle.std.proofs.Common.{◌≡◌, ℕ, ◌+◌, ◌<◌, ◌≤◌, zero, suc, Bool, true, false, cond, List, [], ◌∷◌, length, set, replicate, Option, None, Some, MatchBool, is_some, is_none, refl, sym, ap, ◌∙◌, subst, inl, ⊎_elim, arith}
 use Rattle.std.specs.List.{count_by, sum_by}
 use Rattle.std.proofs.lemmas.List.{length-set, length-replicate, get_or-replicate, ext_get_or}
 use Rattle.std.proofs.lemmas.List.Sums.{sum_by-cons}
 use Rattle.std.proofs.lemmas.Bool.{and_right, cases_eq, lt-ltb, le-ltb}
 use Rattle.dq_ticks.specs.declared.words.Parts.{Parts}
+use Rattle.dq_ticks.specs.declared.TheConstants.{LAST_TICK}
 use Rattle.dq_wheel.specs.State.{Filing, filed_at}
+use Rattle.dq_wheel.specs.Moves.{passed, ReachesWake, ReachesLimit}
+use Rattle.dq_core.specs.declared.slots.Held.{Held}
 use Rattle.dq_core.specs.Words.{Counts, word_at, never, AreFresh}
 use Rattle.dq_core.specs.Slots.{Row, SlotRows, unused, row_at, is_held, is_free, IsRow}
 use Rattle.dq_core.specs.FreeSlots.{FreeIndexes, free_times, room_of}
 use Rattle.dq_core.specs.Deferred.{Deferred, deferred_at}
 use Rattle.dq_core.specs.SlotRowsKept.{is_open, usable_times, GivesSlot, IsSlotRowsKept}
 use Rattle.dq_core.specs.Machine.{TableRow, Machine}
-use Rattle.dq_core.specs.Core.{Core, machine, table_of, IsSlot, IsLawful}
+use Rattle.dq_core.specs.Core.{Core, machine, table_of, IsPlaced, IsSlot, IsLawful}
 use Rattle.dq_core.specs.Renewals.{never_used, fresh_machine, OldAreMissing}
-use Rattle.dq_core.proofs.Law.{loose_is}
+use Rattle.dq_core.proofs.Law.{filed_is, loose_is}
 use Rattle.dq_core.proofs.SlotRows.{count_set, open_other, open_same, slot_rows_set}
 use Rattle.dq_core.proofs.Ways.{length-table}
 
@@ -109,6 +112,11 @@ all_forgotten {T} s t n last size over each =
     let S : ℕ → List (Row T) → SlotRows T = λ l rs. record { last_stamp = l; rows = rs } in
     ap (λ l. S l s.rows) last ∙ ap (λ rs. S t.last_stamp rs) rows
 
+-- no slot is held that was never used
+pub none_counted : (T : Type 0) (n : ℕ) → count_by is_held (replicate n (unused {T = T})) ≡ 0
+none_counted T zero = refl
+none_counted T (suc n) = let s = sum_by-cons (λ x. one (is_held x)) (unused {T = T}) (replicate n unused) in let k = none_counted T n in omega arith
+
 -- the law, where nothing is linked and the words are fresh
 pub law_renewed : {T : Type 0} {noted : ℕ} {wheel : Filing} {slots slots' : SlotRows T} {known known' : List Parts} {counts counts' : Counts} → IsLawful noted wheel slots known counts → count_by is_held slots.rows ≡ 0 → slots' ≡ never_used slots → AreFresh known' counts' → length known' ≡ length slots.rows → IsLawful noted wheel slots' known' counts'
 law_renewed {T} {noted} {wheel} {slots} {slots'} {known} {known'} {counts} {counts'} l none es fresh size =
@@ -135,10 +143,6 @@ law_renewed {T} {noted} {wheel} {slots} {slots'} {known} {known'} {counts} {coun
       stamps = stamps;
       balance = omega (arith, held);
     })
-  where
-    none_counted : (T : Type 0) (n : ℕ) → count_by is_held (replicate n (unused {T = T})) ≡ 0
-    none_counted T zero = refl
-    none_counted T (suc n) = let s = sum_by-cons (λ x. one (is_held x)) (unused {T = T}) (replicate n unused) in let k = none_counted T n in omega arith
 
 -- the table of slots and words that were never used
 table_unused : {T : Type 0} (n : ℕ) → table_of (replicate n (unused {T = T})) (replicate n never) ≡ replicate n (record { stamp = 0; entry = None })
@@ -160,8 +164,39 @@ renewed_machine {T} {W} b slots known sizes es ek size =
 pub old_missing : {T W : Type 0} (b c : Core T W) → b.shard < c.shard → OldAreMissing b c
 old_missing b c higher id low same = absurd (omega arith)
 
--- a row that was never used is as one of its size that is forgotten
-pub fresh_as : {T : Type 0} (s row : SlotRows T) → row ≡ never_used row → length row.rows ≡ length s.rows → row.last_stamp ≡ s.last_stamp → row ≡ never_used s
-fresh_as {T} s row fresh size last =
-    let S : ℕ → ℕ → SlotRows T = λ l n. record { last_stamp = l; rows = replicate n unused } in
-    fresh ∙ ap (λ l. S l (length row.rows)) last ∙ ap (λ n. S s.last_stamp n) size
+-- nothing is filed where nothing is held
+pub none_filed : {T : Type 0} {noted : ℕ} {wheel : Filing} {slots : SlotRows T} {known : List Parts} {counts : Counts} → IsLawful noted wheel slots known counts → count_by is_held slots.rows ≡ 0 → (i f : ℕ) → filed_at wheel.filed i ≡ Some f → ⊥
+none_filed {T} {noted} {wheel} {slots} {known} {counts} l none i f e =
+    let at = filed_is l i f e in
+    let held : is_held (row_at slots.rows i) ≡ true = ap (λ o. is_some o) at.is_held in
+    let free : false ≡ true = sym (none_held_at slots.rows none i) ∙ held in
+    absurd (cc)
+
+-- where nothing is filed the wheel goes to the limit
+pub goes_to_limit : (old new : Filing) (limit : ℕ) (reached : Bool) → ((i f : ℕ) → filed_at old.filed i ≡ Some f → ⊥) → MatchBool reached (ReachesWake old limit new) (ReachesLimit old limit new) → new ≡ passed old limit
+goes_to_limit old new limit true none way = let wake = way.1.some in absurd (none wake.0 wake.1 wake.2)
+goes_to_limit old new limit false none way = way.1
+
+placed_noted : {T : Type 0} (tick noted later stamp : ℕ) (o : Option (Held T)) (w : Parts) (f : Option ℕ) → o ≡ None → noted ≤ later → IsPlaced tick noted stamp o w f → IsPlaced later later stamp o w f
+placed_noted tick noted later stamp None w None e up p = (p.0, λ x. let at = p.1 x in omega (arith, at, up))
+placed_noted tick noted later stamp None w (Some f) e up p = absurd p
+placed_noted tick noted later stamp (Some h) w f e up p = cc
+
+-- the law, where nothing is held, once a later tick is noted and the wheel went there
+pub law_later : {T : Type 0} {noted later : ℕ} {wheel wheel' : Filing} {slots : SlotRows T} {known : List Parts} {counts : Counts} → IsLawful noted wheel slots known counts → count_by is_held slots.rows ≡ 0 → noted ≤ later → later ≤ LAST_TICK → wheel' ≡ passed wheel later → IsLawful later wheel' slots known counts
+law_later {T} {noted} {later} {wheel} {wheel'} {slots} {known} {counts} l none up bound is =
+    rw is
+    (record {
+      as_filed = l.as_filed;
+      as_known = l.as_known;
+      capacity = l.capacity;
+      last_bound = l.last_bound;
+      tick = omega arith;
+      noted_bound = bound;
+      each = λ i inside.
+          let s = l.each i inside in
+          let gone = is_none_of (row_at slots.rows i).held (none_held_at slots.rows none i) in
+          record { stamp = s.stamp; bound = s.bound; placed = placed_noted wheel.tick noted later (row_at slots.rows i).stamp (row_at slots.rows i).held (word_at known i) (filed_at wheel.filed i) gone up s.placed };
+      stamps = l.stamps;
+      balance = l.balance;
+    })

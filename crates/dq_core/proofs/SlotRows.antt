@@ -8,7 +8,7 @@ use Rattle.dq_core.specs.declared.slots.Held.{Held}
 use Rattle.dq_ticks.specs.declared.TheConstants.{CAPACITY_LIMIT, LAST_STAMP}
 use Rattle.dq_core.specs.Slots.{Row, SlotRows, unused, row_at, is_held, is_free, is_worn, IsRow, IsSlotRows, filled_row, vacated_row, raised_row}
 use Rattle.dq_core.specs.FreeSlots.{FreeIndexes, free_times, room_of, GivesBack}
-use Rattle.dq_core.specs.Deferred.{Deferred, deferred_at, defers_room, Defers, TakesDeferred}
+use Rattle.dq_core.specs.Deferred.{Deferred, deferred_at, Defers, TakesDeferred}
 use Rattle.dq_core.specs.SlotRowsKept.{is_open, usable_times, GivesSlot, TakesSlot, IsSlotRowsKept}
 
 -- one where the test holds
@@ -40,7 +40,7 @@ parted last [] = refl
 parted last (r ∷ rows) =
     omega (arith, parted last rows, row_is_one last r, sum_by-cons (λ x. one (is_free last x)) r rows, sum_by-cons (λ x. one (is_worn last x)) r rows, sum_by-cons (λ x. one (is_held x)) r rows)
 
-open_parts : {T : Type 0} (last : ℕ) (rows : List (Row T)) (i n : ℕ) (b : Bool) → is_open last rows i ≡ b → n + 1 ≡ one b → (i < length rows) × (is_free last (row_at rows i) ≡ true) × (n ≡ 0)
+pub open_parts : {T : Type 0} (last : ℕ) (rows : List (Row T)) (i n : ℕ) (b : Bool) → is_open last rows i ≡ b → n + 1 ≡ one b → (i < length rows) × (is_free last (row_at rows i) ≡ true) × (n ≡ 0)
 open_parts last rows i n true is e = let p = and_parts _ _ is in (ltb-true _ _ (p.0), p.1, omega arith)
 open_parts last rows i n false is e = absurd (omega arith)
 
@@ -219,7 +219,7 @@ worn_count {last = last} {rows = rows} s =
     (omega arith, omega arith)
 
 -- a row of which one slot changes has the room that it had
-pub room_kept : {T : Type 0} (rows : List (Row T)) (i : ℕ) (r : Row T) (n m : ℕ) → length rows ≤ n → m ≡ n → length (set rows i r) ≤ m
+pub room_kept : {A : Type 0} (rows : List A) (i : ℕ) (r : A) (n m : ℕ) → length rows ≤ n → m ≡ n → length (set rows i r) ≤ m
 room_kept rows i r n m room same = rw (length-set rows i r) (omega (arith, room, same))
 
 -- a slot that is freed may be taken once more

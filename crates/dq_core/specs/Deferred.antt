@@ -1,6 +1,7 @@
 -- No public clause cites this module.
 -- The slots whose value waits for its drop: a bit for each, and how many they are.
-use Rattle.std.specs.Prelude.{◌≡◌, ◌≢◌, ℕ, zero, suc, ◌+◌, ◌*◌, ◌<◌, ◌≤◌, List, Option, Some, None, length}
+use Rattle.std.specs.Prelude.{◌≡◌, ◌≢◌, ℕ, zero, suc, ◌+◌, ◌*◌, ◌<◌, ◌≤◌, ◌⊎◌, List, Option, Some}
+use Rattle.std.specs.Prelude.{None, length, Bool, true, false}
 use Rattle.dq_wheel.specs.Walks.{bit_of}
 use Rattle.dq_core.specs.FreeSlots.{IsSummed}
 
@@ -40,6 +41,15 @@ Defers d i e =
 abbrev pub Undefers : Deferred → ℕ → Deferred → Type 0
 Undefers d i e =
     (deferred_at e i ≡ 0) × (e.count + deferred_at d i ≡ d.count) × OthersWait d i e
+
+-- slot i waits from now on, or nothing changes
+abbrev pub MayDefer : Deferred → ℕ → Deferred → Type 0
+MayDefer d i e = (e ≡ d) ⊎ Defers d i e
+
+-- slot i waits from now on where it has to, and else nothing changes
+abbrev pub DefersIf : Bool → Deferred → ℕ → Deferred → Type 0
+DefersIf true d i e = Defers d i e
+DefersIf false d i e = e ≡ d
 
 -- a slot that waited is taken out; none comes exactly where none waits
 abbrev pub TakesDeferred : Deferred → Option ℕ → Deferred → Type 0

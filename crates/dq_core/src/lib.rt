@@ -39,7 +39,7 @@ pub use errors::{BadNumber, CoreConfig, CoreError, ReapError};
 pub use outcomes::{Expired, Piece, Removed, Swept, Tally, Turn};
 pub use plain::{Pending, PlainQueue, PlainTurn};
 pub use queue::DelayCore;
-pub use renew::{FreshRows, RenewError};
+pub use renew::RenewError;
 pub use slots::{Held, Slots};
 pub use vec_words::VecWords;
 pub use words::{CallError, Look, Settled, SharedWords, Words, shown};

@@ -9,7 +9,8 @@
 //! drops a value: no impl here says that one may be dropped.
 ghost use Rattle.std.specs.Prelude.{◌≡◌, ℕ, ◌+◌, ◌<◌, ◌≤◌, ◌^◌, length, replicate, IfOk, MatchOption, Some, None, true, false};
 ghost use Rattle.std.specs.List.{count_by};
-ghost use Rattle.dq_core.specs.Deferred.{deferred_at, defers_room};
+ghost use Rattle.dq_core.specs.Deferred.{deferred_at, defers_room, MayDefer, DefersIf};
+ghost use Rattle.dq_core.specs.Cells.{AreThere, AreTaken, TakesWaiting, TakesAny};
 ghost use Rattle.dq_core.specs.FreeSlots.{free_times, room_of};
 ghost use Rattle.dq_core.specs.SlotRowsKept.{GivesSlot, TakesSlot};
 
@@ -41,21 +42,21 @@ struct Cell<T> {
 }
 
 impl<T> Model for Cell<T> {
-    ghost use Rattle.dq_core.specs.Slots.{Row};
-    ghost use Rattle.dq_core.specs.Cells.{held_of, IsCell};
+    ghost use Rattle.dq_core.specs.Cells.{CellRow, cell_of, IsCell};
 
-    ghost Value = { Row T };
+    ghost Value = { CellRow T };
 
-    ghost view = { λ a. record { stamp = a.stamp; held = held_of a.born a.value } };
+    ghost view = { λ a. cell_of a.stamp a.born a.value };
 
     ghost invariant = { λ a. IsCell a.born a.value };
 }
 
 impl<T> Cell<T> {
-    ghost use Rattle.dq_core.specs.Slots.{unused, is_held, IsBorn, filled_row, vacated_row, raised_row};
+    ghost use Rattle.dq_core.specs.Slots.{is_held, IsBorn};
+    ghost use Rattle.dq_core.specs.Cells.{unused_cell, filled_cell, vacated_cell, let_go_cell, emptied_cell, forgotten_cell, raised_cell};
 
     fn unused() -> Self
-        ensures { result ≡ unused }
+        ensures { result ≡ unused_cell }
     {
         Cell {
             stamp: 0,
@@ -66,7 +67,7 @@ impl<T> Cell<T> {
 
     #[inline]
     fn stamp(&self) -> u32
-        ensures { result ≡ self.now.stamp }
+        ensures { result ≡ self.now.row.stamp }
     {
         self.stamp
     }
@@ -75,7 +76,7 @@ impl<T> Cell<T> {
     // know: it keeps the read.
     #[inline(always)]
     fn once_read(&self, number: u64) -> u64
-        requires { self.now.stamp ≤ LAST_STAMP }
+        requires { self.now.row.stamp ≤ LAST_STAMP }
         ensures { result ≡ number }
     {
         number + (self.stamp / (LAST_STAMP + 1)) as u64
@@ -83,22 +84,22 @@ impl<T> Cell<T> {
 
     #[inline]
     fn is_held(&self) -> bool
-        ensures { result ≡ is_held self.now }
+        ensures { result ≡ is_held self.now.row }
     {
         self.born > 0
     }
 
     #[inline]
     fn born(&self) -> Option<u32>
-        ensures { IsBorn self.now result }
+        ensures { IsBorn self.now.row result }
     {
         if self.born > 0 { Some(self.born) } else { None }
     }
 
     #[inline]
     fn held(&self) -> Option<(u32, &T)>
-        ensures { MatchOption result (self.now.held ≡ None)
-            (λ h. self.now.held ≡ Some (record { born = h.0; value = h.1.now })) }
+        ensures { MatchOption result (self.now.row.held ≡ None)
+            (λ h. self.now.row.held ≡ Some (record { born = h.0; value = h.1.now })) }
     {
         if self.born == 0 {
             return None;
@@ -112,8 +113,9 @@ impl<T> Cell<T> {
     // Puts a value in, and returns the one that was set aside here.
     #[inline]
     fn fill(&mut self, value: T) -> Option<T>
-        requires { self.old.stamp + 1 < 2 ^ 32 }
-        ensures { self.new ≡ filled_row self.old value }
+        requires { self.old.row.stamp + 1 < 2 ^ 32 }
+        ensures filled { self.new ≡ filled_cell self.old value }
+        ensures crowded { self.old.row.held ≡ None → result ≡ self.old.aside }
     {
         self.stamp += 1;
         self.born = self.stamp;
@@ -122,9 +124,9 @@ impl<T> Cell<T> {
 
     #[inline]
     fn vacate(&mut self) -> Held<T>
-        requires { is_held self.old ≡ true }
-        ensures held { self.old.held ≡ Some result }
-        ensures vacated { self.new ≡ vacated_row self.old }
+        requires { is_held self.old.row ≡ true }
+        ensures held { self.old.row.held ≡ Some result }
+        ensures vacated { self.new ≡ vacated_cell self.old }
     {
         let value = self.value.take().unwrap();
         let born = self.born;
@@ -134,14 +136,15 @@ impl<T> Cell<T> {
 
     // Lets go of what it holds, which is set aside here.
     fn let_go(&mut self)
-        ensures { self.new ≡ vacated_row self.old }
+        ensures { self.new ≡ let_go_cell self.old }
     {
         self.born = 0;
     }
 
     // Takes out what was set aside here, if anything was.
     fn take_aside(&mut self) -> Option<T>
-        ensures { self.new ≡ self.old }
+        ensures out { result ≡ self.old.aside }
+        ensures left { self.new ≡ emptied_cell self.old }
     {
         if self.born != 0 {
             return None;
@@ -151,7 +154,7 @@ impl<T> Cell<T> {
 
     // As if it had never been used; but what was set aside stays.
     fn forget(&mut self)
-        ensures { self.new ≡ unused }
+        ensures { self.new ≡ forgotten_cell self.old }
     {
         self.stamp = 0;
         self.born = 0;
@@ -159,8 +162,8 @@ impl<T> Cell<T> {
 
     #[inline]
     fn raise(&mut self)
-        requires { self.old.stamp + 1 < 2 ^ 32 }
-        ensures { self.new ≡ raised_row self.old }
+        requires { self.old.row.stamp + 1 < 2 ^ 32 }
+        ensures { self.new ≡ raised_cell self.old }
     {
         self.stamp += 1;
     }
@@ -185,15 +188,18 @@ impl<T, A: Allocator> Model for Slots<T, A> {
     ghost use Rattle.dq_core.specs.Slots.{SlotRows};
     ghost use Rattle.std.specs.Prelude.{◌≤◌, length};
     ghost use Rattle.dq_core.specs.Deferred.{defers_room};
+    ghost use Rattle.dq_core.specs.Cells.{rows_of, AreAside};
     ghost use Rattle.dq_core.specs.SlotRowsKept.{IsSlotRowsKept};
 
     ghost Value = { SlotRows T };
 
-    ghost view = { λ a. record { last_stamp = a.last; rows = a.cells.items } };
+    ghost view = { λ a. record { last_stamp = a.last; rows = rows_of a.cells.items } };
 
-    ghost invariant = { λ a. IsSlotRowsKept a.last a.cells.items a.free a.deferred a.held_count a.free_count
+    ghost invariant = { λ a. IsSlotRowsKept a.last (rows_of a.cells.items) a.free a.deferred
+        a.held_count a.free_count
         × (length a.cells.items ≤ defers_room a.deferred)
-        × (length a.cells.items ≤ defers_room a.deferred_worn) };
+        × (length a.cells.items ≤ defers_room a.deferred_worn)
+        × AreAside a.last a.cells.items a.deferred a.deferred_worn };
 }
 
 impl<T, A: Allocator + Clone> Slots<T, A> {
@@ -233,7 +239,7 @@ impl<T, A: Allocator + Clone> Slots<T, A> {
 #[inline(always)]
 fn mark<T, A: Allocator>(deferred: &mut DeferredDrops<A>, index: usize)
     requires { index < defers_room deferred.old }
-    ensures { defers_room deferred.new ≡ defers_room deferred.old }
+    ensures { MayDefer deferred.old index deferred.new }
 {
     if mem::needs_drop::<T>() {
         deferred.add(index);
@@ -252,7 +258,8 @@ fn set_aside<T, A: Allocator>(
     requires held { free_times free.old index ≡ 0 }
     requires bit { index < defers_room deferred.old }
     requires taken { deferred_at deferred.old index ≡ 0 }
-    ensures { GivesSlot free.old deferred.old index free.new deferred.new }
+    ensures gives { GivesSlot free.old deferred.old index free.new deferred.new }
+    ensures waits { MayDefer deferred.old index deferred.new }
 {
     if mem::needs_drop::<T>() {
         deferred.add(index);
@@ -273,7 +280,8 @@ fn renew_slot<A: Allocator>(
     requires held { free_times free.old index ≡ 0 }
     requires bit { index < defers_room deferred.old }
     requires taken { deferred_at deferred.old index ≡ 0 }
-    ensures { GivesSlot free.old deferred.old index free.new deferred.new }
+    ensures gives { GivesSlot free.old deferred.old index free.new deferred.new }
+    ensures waits { DefersIf waits deferred.old index deferred.new }
 {
     if waits {
         deferred.add(index);
@@ -294,6 +302,49 @@ fn take_slot<A: Allocator>(
         Some(index) => Some(index),
         None => deferred.take(),
     }
+}
+
+// Takes out a value that waits for its drop, with the slot that it waited in; none comes exactly where none waits.
+fn take_waiting<T, A: Allocator>(
+    cells: &mut Vec<Cell<T>, A>,
+    waiting: &mut DeferredDrops<A>,
+) -> Option<(usize, T)>
+    requires { AreThere cells.old.items waiting.old }
+    ensures { TakesWaiting cells.old.items waiting.old result cells.new.items waiting.new }
+{
+    let Some(index) = waiting.take() else {
+        return None;
+    };
+    let cell = &mut cells[index];
+    let value = cell.take_aside().unwrap();
+    Some((index, value))
+}
+
+// Takes out a value that waits for its drop, in a worn slot only where none waits in another, which is free then. None
+// comes exactly where none waits.
+fn take_any<T, A: Allocator>(
+    cells: &mut Vec<Cell<T>, A>,
+    free: &mut FreeSlots<A>,
+    deferred: &mut DeferredDrops<A>,
+    deferred_worn: &mut DeferredDrops<A>,
+) -> Option<T>
+    requires there { AreThere cells.old.items deferred.old }
+    requires worn_there { AreThere cells.old.items deferred_worn.old }
+    requires taken { AreTaken free.old deferred.old }
+    ensures { TakesAny cells.old.items free.old deferred.old deferred_worn.old result
+        cells.new.items free.new deferred.new deferred_worn.new }
+{
+    if deferred.count() == 0 {
+        let Some((_, value)) = take_waiting(cells, deferred_worn) else {
+            return None;
+        };
+        return Some(value);
+    }
+    let Some((index, value)) = take_waiting(cells, deferred) else {
+        return None;
+    };
+    free.give(index);
+    Some(value)
 }
 
 // A poll reads a slot whose index is due. So its wheel reads these rows ahead.
@@ -453,30 +504,16 @@ impl<T, A: Allocator> Slots<T, A> {
         }
     }
 
-    // Takes out a value that waits for its drop in a worn slot; none where none does.
-    fn take_from_worn(&mut self) -> Option<T>
-        ensures { self.new ≡ self.old }
-    {
-        let Some(index) = self.deferred_worn.take() else {
-            return None;
-        };
-        if index >= self.cells.len() {
-            return None;
-        }
-        let cell = &mut self.cells[index];
-        cell.take_aside()
-    }
-
     /// Takes out a value that waits for its drop; none where none does.
     pub fn take_aside(&mut self) -> Option<T>
         ensures { self.new ≡ self.old }
     {
-        let Some(index) = self.deferred.take() else {
-            return self.take_from_worn();
-        };
-        self.free.give(index);
-        let cell = &mut self.cells[index];
-        cell.take_aside()
+        take_any(
+            &mut self.cells,
+            &mut self.free,
+            &mut self.deferred,
+            &mut self.deferred_worn,
+        )
     }
 
     // Takes out a value that waits for its drop where one waits in each slot that a fill may take.

@@ -1,5 +1,5 @@
 -- Each step keeps the rule.
-use Rattle.std.proofs.Common.{◌≡◌, ◌≢◌, ◌⊎◌, ℕ, zero, suc, ◌+◌, List, [], ◌∷◌, ◌++◌, length, get_or, set, Bool, true, false, true≢false, cond, refl, sym, ap, ◌∙◌, subst, inl, inr, ⊎_elim, append-nil, arith, Option}
+use Rattle.std.proofs.Common.{◌≡◌, ◌≢◌, ◌⊎◌, ℕ, zero, suc, ◌+◌, List, [], ◌∷◌, ◌++◌, length, get_or, set, true, false, true≢false, refl, sym, ap, ◌∙◌, subst, inl, inr, ⊎_elim, append-nil, arith, Option}
 use mathlib.Core.Option.{some, none, some-ne-none, some-injective}
 use lib.ListN.{get_elem?}
 use Rattle.std.proofs.lemmas.Bool.Decides.{nat_tests}
@@ -200,14 +200,10 @@ module _ {E : Type 0} where
       g : Fits h.0 h.1 other t
       g = h.2.each other t theirs
 
-      log_of : (k : Bool) → Continues h.0 v.log → Continues h.0 t.log → Continues h.0 (cond k v.log t.log)
-      log_of true x y = x
-      log_of false x y = y
-
       fits_b : Fits h.0 h.1 id b
       fits_b = record {
-        keeper = λ k. ((f.keeper k).0, (let e : v.keeps ≡ true = k in ap (λ q. cond q v.log t.log) e) ∙ (f.keeper k).1, (f.keeper k).2);
-        seen = log_of v.keeps f.seen g.seen;
+        keeper = f.keeper;
+        seen = f.seen;
         told = g.seen;
         mine = g.mine;
       }
@@ -320,34 +316,11 @@ module _ {E : Type 0} where
       alone zero (suc k) u v ej ek hu hv n = absurd (some-ne-none v (sym ek))
       alone (suc j) k u v ej ek hu hv n = absurd (some-ne-none u (sym ej))
 
-  -- the history that the keeper knows stays as a caller's number comes to its seat
-  pub keeps_log : (v t : (View E)) → v.keeps ≡ true → (taken v t).log ≡ v.log
-  keeps_log v t k = ap (λ b. cond b v.log t.log) k
-
   -- a caller's number came to the witness under the lock, which entered, and went back
-  pub once : (h v : View E) (x : Option E) → h.keeps ≡ true → v.keeps ≡ false → IsFair (taken h (lent v)) → IsFair (entering (taken h (lent v)) x)
-      → EntersOnce h v x (taken (left v) (lent (entering (taken h (lent v)) x)))
-  once h v x keeper caller before after =
-      let same : (taken h (lent v)).log ≡ h.log = keeps_log h (lent v) keeper in
-      let w : View E = entering (taken h (lent v)) x in
-      let log : (taken (left v) (lent w)).log ≡ w.log = ap (λ b. cond b (left v).log w.log) caller in (
-        before.0.0,
-        sym same ∙ before.0.1,
-        log ∙ ap (λ l. entry v.number x ∷ l) same,
-        refl,
-        ap (entries_by v.number) log ∙ after.1,
-        refl,
-      )
+  pub once : (h v : View E) (x : Option E) → IsFair (taken h (lent v)) → IsFair (entering (taken h (lent v)) x)
+      → EntersOnce h v x (lent (entering (taken h (lent v)) x))
+  once h v x before after = (before.0.0, before.0.1, refl, refl, after.1, refl)
 
   -- it came, looked, and went back
-  pub told : (h v : View E) → h.keeps ≡ true → v.keeps ≡ false → IsFair (taken h (lent v)) → IsTold h v (taken (left v) (lent (taken h (lent v))))
-  told h v keeper caller fairly =
-      let same : (taken h (lent v)).log ≡ h.log = keeps_log h (lent v) keeper in
-      let w : View E = taken h (lent v) in
-      let log : (taken (left v) (lent w)).log ≡ w.log = ap (λ b. cond b (left v).log w.log) caller in (
-        (fairly.0.0, log ∙ fairly.0.1),
-        log ∙ same,
-        refl,
-        ap (entries_by v.number) log ∙ fairly.1,
-        refl,
-      )
+  pub told : (h v : View E) → IsFair (taken h (lent v)) → IsTold h v (lent (taken h (lent v)))
+  told h v fairly = (fairly.0, refl, refl, fairly.1, refl)

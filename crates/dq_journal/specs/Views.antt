@@ -1,5 +1,5 @@
 -- What witnesses know.
-use Rattle.std.specs.Prelude.{◌+◌, if◌then◌else◌, [], true, false}
+use Rattle.std.specs.Prelude.{◌+◌, [], true, false}
 use Rattle.dq_journal.specs.declared.views.View.{View}
 
 module _ {E : Type 0} where
@@ -25,13 +25,6 @@ module _ {E : Type 0} where
   abbrev pub lent : View E → View E
   lent v = record { keeps = false; made = 0; holds = v.holds; number = v.number; mine = v.mine; log = v.log; told = [] }
 
-  -- a witness that took them in: a caller's has then seen what they have, and the one under the lock was told of it
+  -- the witness under the lock that took them in, and was told what their caller had seen
   abbrev pub taken : View E → View E → View E
-  taken v t =
-      record v {
-        holds = t.holds;
-        number = t.number;
-        mine = t.mine;
-        log = if v.keeps then v.log else t.log;
-        told = t.log;
-      }
+  taken v t = record v { holds = t.holds; number = t.number; mine = t.mine; told = t.log }

@@ -57,7 +57,7 @@ impl<E> Split<View<E>> for Open {
     ghost right = { new_witness };
 }
 
-// A number and its entries go from one witness to another.
+// A number and its entries go from a caller to the witness under the lock, or back.
 pub(crate) struct Pass;
 
 impl<E> Split<View<E>> for Pass {

@@ -57,7 +57,7 @@ impl<E, A: Allocator> Witness<E, A> {
         Ok(Witness { table, seat })
     }
 
-    // A number and its entries go from another witness of the history to this one. Two loads.
+    // A caller's number and entries go to the witness under the lock. Two loads.
     fn take_from(&mut self, other: &mut Witness<E, A>)
         requires table { self.old.table ≡ other.old.table }
         requires free { self.old.view.holds ≡ false }
@@ -67,6 +67,16 @@ impl<E, A: Allocator> Witness<E, A> {
     {
         let token = self.table.shared.split_seat::<Pass>(&mut other.seat);
         self.table.shared.join_seat::<Pass>(&mut self.seat, token);
+    }
+
+    // They go back to the caller, whose seat is another from then on: it has seen all of the history. One load.
+    fn give_to(&mut self, caller: &mut Witness<E, A>)
+        requires { self.old.table ≡ caller.old.table }
+        ensures given { caller.new.view ≡ lent self.old.view }
+        ensures left { self.new.view ≡ left self.old.view }
+        ensures tables { (self.new.table ≡ self.old.table) × (caller.new.table ≡ caller.old.table) }
+    {
+        caller.seat = self.table.shared.split_seat::<Pass>(&mut self.seat);
     }
 
     // Enters `what`, by the number that is with the witness under the lock. One load.
@@ -93,7 +103,7 @@ impl<E, A: Allocator> Witness<E, A> {
     }
 
     /// Enters `what` as what one call of a caller left, by the witness under the lock. The caller's then knows the
-    /// whole history. Five loads.
+    /// whole history. Four loads.
     pub fn enter_for(&mut self, caller: &mut Witness<E, A>, what: &E)
         requires keeper { IsUnderLock self.old.view }
         requires caller { IsWithNumber caller.old.view }
@@ -106,7 +116,7 @@ impl<E, A: Allocator> Witness<E, A> {
     {
         self.take_from(caller);
         self.enter(what);
-        caller.take_from(self);
+        self.give_to(caller);
     }
 
     // The witness under the lock looks, with a caller's number. One load.
@@ -119,7 +129,7 @@ impl<E, A: Allocator> Witness<E, A> {
         self.table.shared.load::<Learn>(&mut self.seat, 0);
     }
 
-    /// Tells a caller the whole history, by the witness under the lock. Five loads.
+    /// Tells a caller the whole history, by the witness under the lock. Four loads.
     pub fn tell(&mut self, caller: &mut Witness<E, A>)
         requires keeper { IsUnderLock self.old.view }
         requires caller { IsWithNumber caller.old.view }
@@ -132,6 +142,6 @@ impl<E, A: Allocator> Witness<E, A> {
     {
         self.take_from(caller);
         self.look();
-        caller.take_from(self);
+        self.give_to(caller);
     }
 }

@@ -1,4 +1,5 @@
 pub mod Auditing
+pub mod FreshQueues
 pub mod Locked
 pub mod Renewing
 pub mod Rounds

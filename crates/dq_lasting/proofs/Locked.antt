@@ -30,7 +30,7 @@ each_more {T} n p gives result before one t below =
     (cases_eq t p)
 
 -- one turn more
-each_turn : (P : ℕ → Type 0) (many : ℕ) → ((t : ℕ) → t < many → P t) → P many → (t : ℕ) → t < many + 1 → P t
+pub each_turn : (P : ℕ → Type 0) (many : ℕ) → ((t : ℕ) → t < many → P t) → P many → (t : ℕ) → t < many + 1 → P t
 each_turn P many before one t below =
     ⊎_elim
     (λ eq. subst P (sym eq) one)

@@ -15,12 +15,11 @@ use Rattle.dq_core.specs.declared.outcomes.Turn.{Turn}
 use Rattle.dq_core.specs.Calls.{SameCore, Inserts, Resets, Removes, Polls, TellsDeadline}
 use Rattle.dq_core.specs.Pieces.{PollsSome}
 use Rattle.dq_core.specs.Readers.{IsTally, with_words}
-use Rattle.dq_core.specs.Renewals.{renewed_core}
 use Rattle.dq_core.specs.Slots.{is_held}
 use Rattle.dq_core.specs.Sweeps.{Sweeps, SweepsSome, Reaps, Clears}
-use Rattle.dq_core.specs.Words.{AreFresh}
-use Rattle.dq_words.specs.AtTheCall.{KnowsNothing, StepsAtMost}
+use Rattle.dq_words.specs.AtTheCall.{StepsAtMost}
 use Rattle.dq_words.specs.KeeperCalls.{Issues}
+use Rattle.dq_words.specs.Shards.{IsFreshQueue}
 use Rattle.dq_words.specs.declared.keeper.WordsError.{WordsError}
 use Rattle.dq_lasting.specs.Numbered.{Numbered}
 use Rattle.dq_lasting.specs.declared.opening.TheConstants.{SWEPT_AT_ONCE}
@@ -160,15 +159,19 @@ module _ {T : Type 0} where
   NumbersAreSpent old by =
       (number_end ≤ old.core.shard + by) ⊎ (count_end ≤ old.past.inserted + old.core.counts.begins)
 
-  -- It goes on over a keeper that knows nothing, under a number that is higher by so much, and
-  -- takes entries; no poller is left parked. Refused, nothing changes.
-  abbrev pub Reopens : LastingView T → ℕ → Result (Unit {0}) ReopenError → LastingView T → Type 0
-  Reopens old by (Ok done) new =
+  -- Where nothing is linked it goes on as a queue of so many slots that were never used, under a
+  -- number that is higher by so much and at the same noted tick, and takes entries as is asked. What
+  -- has ended counts on, and no poller is left parked.
+  abbrev pub GoesOnAnew : LastingView T → ℕ → ℕ → Bool → LastingView T → Type 0
+  GoesOnAnew old by capacity takes new =
       (count_by is_held old.core.slots.rows ≡ 0)
-      × (new.core ≡ renewed_core old.core (old.core.shard + by) new.core.known new.core.counts
-      new.core.words)
-      × AreFresh new.core.known new.core.counts × KnowsNothing new.core.words
-      × (new.takes ≡ true) × IsEndedBefore old new.past × (new.parked ≡ None)
+      × IsFreshQueue (old.core.shard + by) capacity old.core.slots.last_stamp old.core.noted new.core
+      × (new.takes ≡ takes) × IsEndedBefore old new.past × (new.parked ≡ None)
+      × (new.sweep_from ≡ 0)
+
+  -- It goes on anew with as many slots, and takes entries. Refused, nothing changes.
+  abbrev pub Reopens : LastingView T → ℕ → Result (Unit {0}) ReopenError → LastingView T → Type 0
+  Reopens old by (Ok done) new = GoesOnAnew old by (length old.core.slots.rows) true new
   Reopens old by (Err NumbersSpent) new =
       (count_by is_held old.core.slots.rows ≡ 0) × NumbersAreSpent old by × (new ≡ old)
   Reopens old by (Err NoMemory) new = (count_by is_held old.core.slots.rows ≡ 0) × (new ≡ old)

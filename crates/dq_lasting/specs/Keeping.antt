@@ -1,11 +1,8 @@
 -- What the steps do that keep a queue going.
 use Rattle.std.specs.Prelude.{◌≡◌, ◌≢◌, ℕ, ◌*◌, ◌<◌, ◌≤◌, ◌⊎◌, Bool, true, false, Result}
-use Rattle.std.specs.Prelude.{Ok, Err, length, Option, Some, None, IfSome, is_some, if◌then◌else◌}
+use Rattle.std.specs.Prelude.{Ok, Err, length, Option, Some, None, is_some, if◌then◌else◌}
 use Rattle.std.specs.List.{count_by}
-use Rattle.dq_core.specs.Renewals.{UnusedRows, AreUnused}
 use Rattle.dq_core.specs.Slots.{is_held, is_worn}
-use Rattle.dq_words.specs.AtTheCall.{KnowsNothing}
-use Rattle.dq_words.specs.Seats.{Sat}
 use Rattle.dq_lasting.specs.declared.errors.ReopenError.{ReopenError}
 use Rattle.dq_lasting.specs.declared.keeping.Kept.{Kept}
 use Rattle.dq_lasting.specs.declared.keeping.Kept.TheVariants.{Fine, Closed, Drains, Reopened}
@@ -18,10 +15,10 @@ use Rattle.dq_lasting.specs.declared.keeping.Due.{Due}
 use Rattle.dq_lasting.specs.declared.keeping.Due.TheVariants.{Made, At}
 use Rattle.dq_lasting.specs.declared.opening.Begun.{Begun}
 use Rattle.dq_lasting.specs.declared.opening.Begun.TheVariants.{Answered, Opens}
-use Rattle.dq_lasting.specs.declared.opening.ShardSize.{ShardSize}
 use Rattle.dq_lasting.specs.Shard.{LastingView}
 use Rattle.dq_lasting.specs.Answers.{AtPlace}
 use Rattle.dq_lasting.specs.Changes.{LastingSweepsOn, Closes, Reopens}
+use Rattle.dq_lasting.specs.Growing.{IsNextConfig}
 
 -- where a shard was opened
 abbrev pub IfReopened : Begun → Type 0 → Type 0
@@ -58,7 +55,8 @@ module _ {T : Type 0} where
   TellsSeen old Fresh new =
       (¬ IsDrained old) × (old.takes ≡ true) × (¬ IsWornBy Half old) × (new ≡ old)
   TellsSeen old HalfWorn new =
-      (¬ IsDrained old) × (old.takes ≡ true) × IsWornBy Half old × (new ≡ old)
+      (¬ IsDrained old) × (old.takes ≡ true) × IsWornBy Half old × (¬ IsWornBy Far old)
+      × (new ≡ old)
   TellsSeen old FarWorn new =
       (¬ IsDrained old) × (old.takes ≡ true) × IsWornBy Far old × (new ≡ old)
 
@@ -87,26 +85,11 @@ module _ {T : Type 0} where
   GoesOnAt shards place old (Ok Fine) new = DrainsOn place old Fine new
   GoesOnAt shards place old (Ok (Closed p)) new = ⊥
 
-  -- so many slots has a shard, and so many stamps each of them
-  abbrev pub IsOfShardSize : LastingView T → ShardSize → Type 0
-  IsOfShardSize s size =
-      (size.capacity ≡ length s.core.slots.rows) × (size.last_stamp ≡ s.core.slots.last_stamp)
-
-  -- The step was made, or the shard is drained and is to be opened over rows of its size.
+  -- The step was made, or the shard is drained and is to go on as a queue of these numbers.
   abbrev pub BeginsAt : ℕ → ℕ → LastingView T → Begun → LastingView T → Type 0
   BeginsAt shards place old (Answered r) new = GoesOnAt shards place old r new
-  BeginsAt shards place old (Opens size) new =
-      IsDrained old × IsOfShardSize old size × (new ≡ old)
-
-  -- rows of which none was ever used, and a keeper that knows nothing
-  abbrev pub IsUnknown : UnusedRows T Sat → Type 0
-  IsUnknown r = AreUnused r × KnowsNothing r.words
-
-  -- such rows of that size
-  abbrev pub AreFreshRows : ShardSize → UnusedRows T Sat → Type 0
-  AreFreshRows size r =
-      IsUnknown r × (length r.slots.rows ≡ size.capacity)
-      × (r.slots.last_stamp ≡ size.last_stamp)
+  BeginsAt shards place old (Opens config) new =
+      IsDrained old × IsNextConfig old shards (length old.core.slots.rows) config × (new ≡ old)
 
 -- at the shard of each place, one after the other, the call gave that answer
 abbrev pub AtEach :
@@ -137,11 +120,31 @@ ClosesBeside T shards p =
     AtEach {T = T} shards shards TellsDrained false × SomeIsClosed T shards
     × AtPlace {T = T} shards p (ClosesWorn Far) true × AnotherTakes T shards p
 
--- the shard of that place was seen drained; or none was, and it was seen closed
+-- the shards of all other places were seen closed
+abbrev pub NoOtherTakes : (T : Type 0) → ℕ → ℕ → Type 0
+NoOtherTakes T shards p =
+    (q : ℕ) → q < shards → q ≢ p → AtPlace {T = T} shards q TellsTakes false
+
+-- the shard of a place was seen worn by three quarters, and under its next lock it was closed or not
+-- worn so any more
+abbrev pub WasWornNoMore : (T : Type 0) → ℕ → ℕ → Type 0
+WasWornNoMore T shards p =
+    AtPlace {T = T} shards p TellsSeen FarWorn × AtPlace {T = T} shards p (ClosesWorn Far) false
+
+-- No shard was to be closed while one drains: each was seen closed or not worn by three quarters, or
+-- one alone to take entries; or the one that was to be closed wasn't any more.
+abbrev pub NoneIsDueBeside : (T : Type 0) → ℕ → Type 0
+NoneIsDueBeside T shards =
+    AtEach {T = T} shards shards (ClosesWorn Far) false
+    ⊎ ((p : ℕ) × (NoOtherTakes T shards p ⊎ WasWornNoMore T shards p))
+
+-- The shard of that place was seen drained; or none was, it was seen closed, and no other was to be
+-- closed beside it.
 abbrev pub WasDue : (T : Type 0) → ℕ → ℕ → Type 0
 WasDue T shards p =
     AtPlace {T = T} shards p TellsDrained true
-    ⊎ (AtEach {T = T} shards shards TellsDrained false × AtPlace {T = T} shards p TellsTakes false)
+    ⊎ (AtEach {T = T} shards shards TellsDrained false × AtPlace {T = T} shards p TellsTakes false
+    × NoneIsDueBeside T shards)
 
 -- the shard of that place was due, and under its next lock it wasn't any more
 abbrev pub WasOpenedMeanwhile : (T : Type 0) → ℕ → ℕ → Type 0
@@ -204,9 +207,17 @@ IsFirstWorn T shards many None = AtEach {T = T} shards many (ClosesWorn Half) fa
 IsFirstWorn T shards many (Some p) =
     (p < many) × AtEach {T = T} shards p (ClosesWorn Half) false
 
--- one of so many that takes entries, beside another place
+-- one of so many that takes entries and is worn by three quarters; where there is none each was closed
+-- or not worn so
+abbrev pub IsFarWorn : (T : Type 0) → ℕ → ℕ → Option ℕ → Type 0
+IsFarWorn T shards many None = AtEach {T = T} shards many (ClosesWorn Far) false
+IsFarWorn T shards many (Some p) = (p < many) × AtPlace {T = T} shards p TellsSeen FarWorn
+
+-- one of so many that takes entries, beside another place; where there is none each beside it was
+-- closed
 abbrev pub TakesBeside : (T : Type 0) → ℕ → ℕ → Option ℕ → Option ℕ → Type 0
-TakesBeside T shards many far None = Unit {0}
+TakesBeside T shards many far None =
+    (q : ℕ) → q < many → far ≢ Some q → AtPlace {T = T} shards q TellsTakes false
 TakesBeside T shards many far (Some q) =
     (q < many) × AtPlace {T = T} shards q TellsTakes true × ((p : ℕ) → far ≡ Some p → q ≢ p)
 
@@ -215,5 +226,5 @@ pub record IsRound (T : Type 0) (shards many : ℕ) (found : Round) : Type 0 whe
   pub undrained : AtEach {T = T} shards many TellsDrained false
   pub closed : IsFirstClosed T shards many found.closed
   pub half_worn : IsFirstWorn T shards many found.half_worn
-  pub far_worn : IfSome found.far_worn (λ p. p < many)
+  pub far_worn : IsFarWorn T shards many found.far_worn
   pub beside : TakesBeside T shards many found.far_worn found.beside

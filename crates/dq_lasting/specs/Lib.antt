@@ -1,6 +1,7 @@
 pub mod Answers
 pub mod Audits
 pub mod Changes
+pub mod Growing
 pub mod Handles
 pub mod Keeping
 pub mod Many

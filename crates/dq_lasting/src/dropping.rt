@@ -3,40 +3,42 @@
 //!
 //! A value's drop is a user's code: it may call the queue, and it may panic. What is reaped or cleared is set aside in
 //! its shard, and the row takes it out and drops it behind the lock. Where a drop panics the shard is whole, and what
-//! is still set aside is dropped by a later call. Beside the row no other impl says that a value may be dropped, so the
-//! checker refuses a drop anywhere else.
+//! is still set aside is dropped by a later call. Beside the row and a stream's poll no other impl says that a value
+//! may be dropped, so the checker refuses a drop anywhere else.
 ghost use Rattle.std.specs.Prelude.{◌≡◌, ◌+◌, ◌-◌, ◌*◌, ◌%◌, ◌<◌, ◌≤◌, ◌↔◌, if◌then◌else◌};
-ghost use Rattle.std.specs.Prelude.{false, Some, None, Err, IfErr, IsErrOf, OnErr, vec_capacity};
+ghost use Rattle.std.specs.Prelude.{Some, None, Err, IfErr, IsErrOf, OnErr, vec_capacity};
 ghost use Rattle.dq_lasting.specs.declared.config.TheConstants.{SHARD_LIMIT};
 ghost use Rattle.futures.specs.Task.{Covers, Keeps};
 ghost use Rattle.futures.specs.Poll.{OnPending};
 ghost use Rattle.dq_ticks.specs.declared.TheConstants.{LAST_TICK};
 ghost use Rattle.dq_core.specs.declared.errors.CoreError.TheVariants.{TickTooLarge};
 ghost use Rattle.dq_lasting.specs.declared.errors.LastingError.TheVariants.{Core, Unknown};
+ghost use Rattle.dq_lasting.specs.declared.errors.OpenError.TheVariants as OpenRefusal;
 ghost use Rattle.dq_lasting.specs.Answers.{AtPlace, AtPlaceOr, AtPlaceAll, InsertsAtPlace, LastingQueueInserts};
 ghost use Rattle.dq_lasting.specs.Answers.{InsertsElsewhere, LastingIsMade, goes_on, told_of, value_handed_back};
 ghost use Rattle.dq_lasting.specs.Changes.{LastingPolls, LastingPollsSome, LastingSweeps, LastingSweepsSome};
 ghost use Rattle.dq_lasting.specs.Changes.{LastingReaps, LastingClears};
+ghost use Rattle.dq_lasting.specs.Growing.{OpensAnew, OpensPlace};
 ghost use Rattle.dq_lasting.specs.Keeping.{KeepsGoing, GoesOnAt};
 ghost use Rattle.dq_lasting.specs.Many.{LastingPollsMany};
 ghost use Rattle.dq_lasting.specs.Polling.{PollsOrParksAt};
 ghost use Rattle.dq_lasting.specs.Through.{LastingAnswersThrough};
 
 use crate::config::LastingConfig;
-use crate::errors::{LastingError, ReopenError};
+use crate::errors::{LastingError, OpenError, ReopenError};
+use crate::growing::{Anew, fresh_queue};
 use crate::keeping::{Due, Kept};
-use crate::opening::{Begun, fresh_rows};
+use crate::opening::Begun;
 use crate::poller::{OneTick, told};
 use crate::queue::LastingQueue;
-use crate::shard::LastingShard;
 use dq_core::{CoreConfig, CoreError, Expired, Piece, ReapError, Swept, Turn};
-use dq_parking::{Parked, Row, Shards, TickSource, poll_place, unlock, waiting_row};
-use dq_ticks::{EntryId, Key};
+use dq_parking::{Row, poll_place, unlock, waiting_row};
+use dq_ticks::{CAPACITY_LIMIT, EntryId, Key};
 use dq_words::{ManyTurn, locked_shards};
 use futures::task::{Context, Poll, Source};
 use std::alloc::Allocator;
 use std::num::NonZeroU32;
-use std::sync::{MutexGuard, Wait};
+use std::sync::Wait;
 
 // An odd number near 2^64 divided by the golden ratio: its multiples are spread evenly.
 const DRAWS: u64 = 0x9E37_79B9_7F4A_7C15;
@@ -81,8 +83,8 @@ fn tried_place(route: u64, turn: usize, shards: usize) -> usize
 
 impl<T: Drop, A: Allocator> LastingQueue<T, A> {
     /// Makes a queue of empty shards at tick 0, all of which accept entries. It takes time and memory in proportion
-    /// to the slots of all shards. Later only `handle` and its renewal, `keep_going`, `states`, and `poll_or_park`
-    /// for a waker take memory.
+    /// to the slots of all shards. Later only `handle` and its renewal, `keep_going`, `open_place`, `states`, and
+    /// `poll_or_park` for a waker take memory.
     ///
     /// # Errors
     /// - `BadConfig` if a number of `config` is out of its range: [`LastingConfig::check`] tells which.
@@ -306,11 +308,8 @@ impl<T: Drop, A: Allocator> LastingQueue<T, A> {
     {
         let mut shard = self.entered(rt, place)?;
         let (answer, leaver) = shard.attended.poll(tick);
-        let aside = unlock(shard, leaver);
-        // A drop that panics would lose what came out.
-        if !matches!(answer, Ok(Turn::Out(_))) {
-            self.row.drop_aside(rt, place, aside);
-        }
+        let is_out = matches!(answer, Ok(Turn::Out(_)));
+        self.row.leave(rt, place, shard, leaver, is_out);
         Ok(answer?)
     }
 
@@ -367,11 +366,8 @@ impl<T: Drop, A: Allocator> LastingQueue<T, A> {
     {
         let mut shard = self.entered(rt, place)?;
         let (answer, leaver) = shard.attended.poll_some(tick, most);
-        let aside = unlock(shard, leaver);
-        // A drop that panics would lose what came out.
-        if !matches!(answer, Ok(Piece::Answer(Turn::Out(_)))) {
-            self.row.drop_aside(rt, place, aside);
-        }
+        let is_out = matches!(answer, Ok(Piece::Answer(Turn::Out(_))));
+        self.row.leave(rt, place, shard, leaver, is_out);
         Ok(answer?)
     }
 
@@ -486,11 +482,8 @@ impl<T: Drop, A: Allocator> LastingQueue<T, A> {
         let before = row.len();
         let mut shard = self.entered(rt, place)?;
         let (answer, leaver) = shard.attended.poll_many(tick, row);
-        let aside = unlock(shard, leaver);
-        // A drop that panics would lose what came out.
-        if row.len() == before {
-            self.row.drop_aside(rt, place, aside);
-        }
+        let is_out = row.len() != before;
+        self.row.leave(rt, place, shard, leaver, is_out);
         Ok(answer?)
     }
 
@@ -589,8 +582,7 @@ impl<T: Drop, A: Allocator> LastingQueue<T, A> {
     {
         let mut shard = self.entered(rt, place)?;
         let (reaped, leaver) = shard.attended.sweep();
-        let aside = unlock(shard, leaver);
-        self.row.drop_aside(rt, place, aside);
+        self.row.leave(rt, place, shard, leaver, false);
         Ok(reaped)
     }
 
@@ -608,8 +600,7 @@ impl<T: Drop, A: Allocator> LastingQueue<T, A> {
     {
         let mut shard = self.entered(rt, place)?;
         let (removed, leaver) = shard.attended.clear();
-        let aside = unlock(shard, leaver);
-        self.row.drop_aside(rt, place, aside);
+        self.row.leave(rt, place, shard, leaver, false);
         Ok(removed)
     }
 
@@ -649,8 +640,7 @@ impl<T: Drop, A: Allocator> LastingQueue<T, A> {
     {
         let mut shard = self.entered(rt, place)?;
         let (swept, leaver) = shard.attended.sweep_some(from, count);
-        let aside = unlock(shard, leaver);
-        self.row.drop_aside(rt, place, aside);
+        self.row.leave(rt, place, shard, leaver, false);
         Ok(swept)
     }
 
@@ -670,8 +660,7 @@ impl<T: Drop, A: Allocator> LastingQueue<T, A> {
         let place = self.place_of(entry.shard());
         let mut shard = self.lock(rt, place);
         let (answer, leaver) = shard.attended.reap(entry);
-        let aside = unlock(shard, leaver);
-        self.row.drop_aside(rt, place, aside);
+        self.row.leave(rt, place, shard, leaver, false);
         answer
     }
 
@@ -696,21 +685,108 @@ impl<T: Drop, A: Allocator> LastingQueue<T, A> {
         requires { place < self.now.shards }
         ensures { AtPlace {T = T} self.now.shards place (GoesOnAt self.now.shards place) result }
     {
-        let mut rows = None;
+        let mut fresh = None;
         for _ in rt.forever() {
-            let (begun, left, aside) = self.step_at(rt, place, rows);
+            let (begun, left, aside) = self.step_at(rt, place, fresh);
             drop(left);
             self.row.drop_aside(rt, place, aside);
-            let size = match begun {
+            let config = match begun {
                 Begun::Answered(answer) => return answer,
-                Begun::Opens(size) => size,
+                Begun::Opens(config) => config,
             };
-            rows = fresh_rows(&alloc, size);
-            if rows.is_none() {
+            fresh = fresh_queue(&alloc, config);
+            if fresh.is_none() {
                 return Err(ReopenError::NoMemory);
             }
         }
         unreachable!()
+    }
+
+    // Opens the shard at a place with so many slots.
+    fn open_with<R: Wait>(
+        &self,
+        rt: &R,
+        alloc: A,
+        place: usize,
+        capacity: usize,
+        takes: bool,
+    ) -> Result<(), OpenError>
+    where
+        A: Clone + Drop,
+        requires { place < self.now.shards }
+        ensures { AtPlace {T = T} self.now.shards place
+            (OpensAnew self.now.shards capacity takes) result }
+    {
+        let mut fresh = None;
+        for _ in rt.forever() {
+            let (anew, left, aside) = self.open_at(rt, place, fresh, capacity, takes);
+            drop(left);
+            self.row.drop_aside(rt, place, aside);
+            let config = match anew {
+                Anew::Done => return Ok(()),
+                Anew::Linked(linked) => return Err(OpenError::StillLinked { linked }),
+                Anew::Spent => return Err(OpenError::NumbersSpent),
+                Anew::Wants(config) => config,
+            };
+            fresh = fresh_queue(&alloc, config);
+            if fresh.is_none() {
+                return Err(OpenError::NoMemory);
+            }
+        }
+        unreachable!()
+    }
+
+    /// Opens the place `place` with `capacity` slots, more or fewer than it has. Nothing may be linked there. From then
+    /// on it accepts entries if `takes` says so: a place of one slot that accepts none holds next to no memory. Its
+    /// noted tick stays, and what became of its entries counts on. Its number rises as by a renewal, so every key from
+    /// before is refused for good. The other places serve meanwhile.
+    ///
+    /// It takes the place's lock twice, each time for constant time. It takes memory for the new slots while the lock
+    /// is free, and gives the old memory back after it has released the lock. A parked task is woken then.
+    ///
+    /// # Errors
+    /// The place stays as it was. In this order:
+    /// - `Unknown` if there is no such place.
+    /// - `BadConfig` if `capacity` isn't 1 to [`CAPACITY_LIMIT`].
+    /// - `StillLinked` if an entry is linked there, even a cancelled one.
+    /// - `NumbersSpent` if no higher number is left.
+    /// - `NoMemory` if memory is refused.
+    ///
+    /// ```
+    /// use hontkhale::lasting::{LastingConfig, LastingQueue};
+    ///
+    /// # fn main() -> Result<(), Box<dyn std::error::Error>> {
+    /// let queue = LastingQueue::new(LastingConfig::of(2, 1))?;
+    /// queue.insert_or_drop(0, "first", 100)?;
+    /// queue.insert_or_drop(0, "second", 200)?;
+    /// assert!(queue.insert_or_drop(0, "third", 300).is_err());
+    ///
+    /// while let hontkhale::owner::Turn::Out(_) = queue.poll(0, 100)? {}
+    /// queue.open_place(0, 1_000, true)?;
+    /// queue.insert_or_drop(0, "third", 300)?;
+    /// # Ok(())
+    /// # }
+    /// ```
+    pub fn open_place<R: Wait>(
+        &self,
+        rt: &R,
+        alloc: A,
+        place: usize,
+        capacity: usize,
+        takes: bool,
+    ) -> Result<(), OpenError>
+    where
+        A: Clone + Drop,
+        ensures unknown { IsErrOf result OpenRefusal.Unknown ↔ (self.now.shards ≤ place) }
+        ensures opens { OpensPlace T self.now.shards place capacity takes result }
+    {
+        if place >= self.shards() {
+            return Err(OpenError::Unknown);
+        }
+        if capacity == 0 || capacity > CAPACITY_LIMIT {
+            return Err(OpenError::BadConfig);
+        }
+        self.open_with(rt, alloc, place, capacity, takes)
     }
 
     /// Does the one step that is due next to keep the queue going for years, and returns which it was. Whoever polls
@@ -753,51 +829,5 @@ impl<T: Drop, A: Allocator> LastingQueue<T, A> {
             Due::Made(kept) => Ok(kept),
             Due::At(place) => self.go_on(rt, alloc, place),
         }
-    }
-}
-
-/// A stream of a place asks its source before the shard's lock, and goes on after a refused tick.
-impl<T: Drop, A: Allocator> Shards for LastingQueue<T, A> {
-    type State = LastingShard<T, A>;
-
-    type Error = LastingError;
-
-    ghost places = { λ queue. queue.shards };
-
-    ghost unknown = { Unknown };
-
-    ghost ends = { false };
-
-    fn places(&self) -> usize {
-        self.row.len()
-    }
-
-    fn unknown() -> LastingError {
-        LastingError::Unknown
-    }
-
-    fn ends() -> bool {
-        false
-    }
-
-    fn give_way(&self, place: usize) {
-        self.row.give_way(place);
-    }
-
-    fn entered<S: TickSource, R: Wait>(
-        &self,
-        rt: &R,
-        place: usize,
-        source: &mut S,
-        before: &mut Option<Parked<Option<u64>>>,
-    ) -> (MutexGuard<'_, LastingShard<T, A>>, u64) {
-        let tick = source.now();
-        let mut shard = self.row.lock(rt, place);
-        *before = shard.take_parked();
-        (shard, tick)
-    }
-
-    fn drop_aside<R: Wait>(&self, rt: &R, place: usize, most: usize) {
-        self.row.drop_aside(rt, place, most);
     }
 }

@@ -1,6 +1,7 @@
 //! Why a call of a lasting queue is refused.
 
 use dq_core::CoreError;
+use dq_ticks::CAPACITY_LIMIT;
 use thiserror::Error;
 
 /// Why a call of a lasting queue is refused.
@@ -31,6 +32,29 @@ impl From<CoreError> for LastingError {
 /// Why a shard isn't opened again.
 #[derive(Clone, Copy, Debug, PartialEq, Eq, Error)]
 pub enum ReopenError {
+    /// No higher number is left, or more entries were inserted than a tally counts.
+    #[error("the shard has no number left")]
+    NumbersSpent,
+    /// Memory was refused.
+    #[error("out of memory")]
+    NoMemory,
+}
+
+/// Why a place isn't opened with slots of another number.
+#[derive(Clone, Copy, Debug, PartialEq, Eq, Error)]
+pub enum OpenError {
+    /// The queue has no such place.
+    #[error("there is no such place")]
+    Unknown,
+    /// The capacity isn't 1 to [`dq_ticks::CAPACITY_LIMIT`].
+    #[error("the capacity isn't 1 to {CAPACITY_LIMIT}")]
+    BadConfig,
+    /// Entries are linked there, live or cancelled and not yet freed.
+    #[error("{linked} entries are still linked")]
+    StillLinked {
+        /// How many.
+        linked: usize,
+    },
     /// No higher number is left, or more entries were inserted than a tally counts.
     #[error("the shard has no number left")]
     NumbersSpent,

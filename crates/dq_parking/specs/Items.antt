@@ -1,5 +1,5 @@
 -- What a stream of expired entries gives, one at a time.
-use Rattle.std.specs.Prelude.{⊤, Option, Some, None, Result, Ok, Err}
+use Rattle.std.specs.Prelude.{ℕ, ⊤, Option, Some, None, Result, Ok, Err}
 use Rattle.futures.specs.declared.task.Poll.{Poll}
 use Rattle.futures.specs.declared.task.Poll.TheVariants.{Ready, Pending}
 use Rattle.dq_core.specs.declared.outcomes.Expired.{Expired}
@@ -32,3 +32,10 @@ abbrev pub OnEnd : {T : Type 0} → Answer T → Type 0 → Type 0
 OnEnd (Ready (Some x)) P = ⊤
 OnEnd (Ready None) P = P
 OnEnd Pending P = ⊤
+
+-- how many of the values that are set aside are dropped behind an answer: none where it has an entry
+abbrev pub dropped_after : {T : Type 0} → Answer T → ℕ → ℕ
+dropped_after (Ready (Some (Ok x))) aside = 0
+dropped_after (Ready (Some (Err e))) aside = aside
+dropped_after (Ready None) aside = aside
+dropped_after Pending aside = aside

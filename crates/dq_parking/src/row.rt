@@ -1,18 +1,18 @@
 //! A row of shards behind locks, of either queue: the locks, who waits for them, and what is done once one is free.
 //!
 //! A front, as `SharedDelayQueue` and `LastingQueue`, has a `Row` of its own shards, and says in `impl Shard` what a
-//! call asks of one. A call by name of a front is then four lines:
+//! call asks of one. A call by name of a front is then three lines:
 //!
 //! ```ignore
 //! let mut shard = self.row.lock(rt, place);
-//! let (answer, leaver) = shard.attended.poll(tick);
-//! let aside = unlock(shard, leaver);
-//! self.row.drop_aside(rt, place, aside);
+//! let (reaped, leaver) = shard.attended.sweep();
+//! self.row.leave(rt, place, shard, leaver, false);
 //! ```
 //!
-//! `lock` compares once whether the shard stands at the place, and waits for ever where another was put there. `unlock`
-//! lets the lock go, wakes who has left, and answers how many values are set aside. A value's drop is a user's code: it
-//! may call the queue, and it may panic. So it runs while the lock is free, and where it panics the shard is whole.
+//! `lock` compares once whether the shard stands at the place, and waits for ever where another was put there. `leave`
+//! lets the lock go, wakes who has left, and drops what is set aside; `unlock` is for what drops nothing. A value's drop
+//! is a user's code: it may call the queue, and it may panic. So it runs while the lock is free, and where it panics the
+//! shard is whole.
 ghost use Rattle.std.specs.Prelude.{◌≡◌, ℕ, ◌<◌, ◌≤◌, IfOk, IsTrue, vec_len, vec_capacity};
 ghost use Rattle.std.specs.Sync.Mutex.{mutex_guard_value};
 
@@ -154,8 +154,9 @@ impl<S: Shard, A: Allocator> Row<S, A>
 where
     S::Value: Drop,
 {
-    /// As `lock`, for an insert, for which each value that is set aside has a place. One that has none is dropped
-    /// before it: a drop that panics then loses no key.
+    /// The shard at a place, with its lock held, where no value waits for its drop in the slot that the next insert
+    /// fills. One that waits there is taken out, and dropped while the lock is free: a drop that panics then loses no
+    /// key. Whether the shard stands at the place is compared each time that its lock is taken.
     #[inline(always)]
     pub fn lock_with_room<R: Wait>(&self, rt: &R, place: usize) -> MutexGuard<'_, S>
         requires { place < self.now }
@@ -171,6 +172,25 @@ where
             drop(crowded);
         }
         unreachable!()
+    }
+
+    /// Ends a call on the shard at a place: lets its lock go, wakes who has left, and then drops what is set aside
+    /// there. Where an entry came out nothing is dropped, since a drop that panics would lose it: a later call does so.
+    #[inline(always)]
+    pub fn leave<R: Wait>(
+        &self,
+        rt: &R,
+        place: usize,
+        shard: MutexGuard<'_, S>,
+        leaver: Leaver<S::Next>,
+        is_out: bool,
+    )
+        ensures { S.keeps (mutex_guard_value shard.entry) }
+    {
+        let aside = unlock(shard, leaver);
+        if !is_out {
+            self.drop_aside(rt, place, aside);
+        }
     }
 
     /// Drops what is set aside in the shard at a place, where the caller has left so many there: nothing is done where

@@ -59,8 +59,8 @@ pub trait Sleeps: Shard {
     ghost same_core: { (s : Self) (p : Option (Parked Self.Next)) → core (parks s p) ≡ core s };
 }
 
-/// Parks a poller with the waker that a registration left. Refused as NoMemory where it left none; the shard stays as it
-/// was then. A future of your own over a locked shard may use it.
+/// Parks a poller with the waker that a registration left. Refused as NoMemory where it left none; the shard stays as
+/// it was then. A future of your own over a locked shard may use it.
 pub fn park_with<S: Sleeps>(
     shard: &mut S,
     next: S::Next,
@@ -90,8 +90,8 @@ fn wait<S: Sleeps>(shard: &mut S, wake: Option<u64>, slot: &mut Option<Waker>) -
     }
 }
 
-/// One poll, while the shard's lock is held and none is parked there, for a task that left its waker. None where more is
-/// to do.
+/// One poll, while the shard's lock is held and none is parked there, for a task that left its waker. None where more
+/// is to do.
 pub fn turn<S: Sleeps>(
     shard: &mut S,
     tick: u64,

@@ -3,25 +3,27 @@
 //! A stream waits in its shard, as the shard's parked poller. The shard wakes it where its next wake comes sooner or is
 //! gone. Whoever keeps the time rings the shard, at each tick or at the ticks that matter: a stream that nobody rings
 //! sleeps until the next wake changes. A shard parks one poller, so a second stream on it puts the first to sleep.
-ghost use Rattle.std.specs.Prelude.{◌≡◌, ◌<◌, ◌≤◌, ◌⊎◌, ℕ, ⊤, true, false, [], Bool, Option, Some, None, IfOk, IfErr, IfSome, OnSome};
+ghost use Rattle.std.specs.Prelude.{◌≡◌, ◌<◌, ◌≤◌, ◌⊎◌, ℕ, ⊤, true, false, [], Bool, Option, Some, None};
+ghost use Rattle.std.specs.Prelude.{IfOk, IfErr, IfSome, OnSome};
 ghost use Rattle.futures.specs.Task.{Covers, Keeps};
 ghost use Rattle.futures.specs.Poll.{IfReady, OnPending};
 ghost use Rattle.futures.specs.Runs.{After, Within};
 ghost use Rattle.std.specs.Sync.Mutex.{mutex_guard_value};
-ghost use Rattle.dq_parking.specs.Items.{IfGiven, OnEnd};
+ghost use Rattle.dq_parking.specs.Items.{IfGiven, OnEnd, dropped_after};
 ghost use Rattle.dq_parking.specs.Streaming.{StreamPolls};
-ghost use Rattle.dq_parking.specs.EachPoll.{IsEntered, IsLeastDue, IsParkedAtWake, IsAtWork, EndsWhereEmpty, EndsByFault};
-ghost use Rattle.dq_parking.specs.EachPoll.{TurnsAt, AnswersAt, GivesAt, is_over};
+ghost use Rattle.dq_parking.specs.EachPoll.{IsEntered, IsLeastDue, IsParkedAtWake, IsAtWork};
+ghost use Rattle.dq_parking.specs.EachPoll.{EndsWhereEmpty, EndsByFault, TurnsAt, AnswersAt, GivesAt, is_over};
 
 use crate::fault::StreamFault;
 use crate::parked::{Parked, let_sleep};
 use crate::registering::{forget, register};
-use crate::row::Shard;
+use crate::row::{Row, Shard};
 use crate::sleeping::{NextOf, Polled, Sleeps, ValueOf, turn};
 use crate::source::TickSource;
 use dq_core::Expired;
 use futures::Stream;
 use futures::task::{Context, Poll, Source, Waker};
+use std::alloc::Allocator;
 use std::num::NonZeroU32;
 use std::sync::{MutexGuard, Wait};
 
@@ -29,6 +31,8 @@ use std::sync::{MutexGuard, Wait};
 pub trait Shards {
     /// A shard behind its lock.
     type State: Sleeps;
+
+    type Alloc: Allocator;
 
     /// Why a call is refused.
     type Error;
@@ -42,9 +46,9 @@ pub trait Shards {
     /// Whether a refused tick ends a stream for good.
     ghost ends: { Bool };
 
-    /// How many shards it has.
-    fn places(&self) -> usize
-        ensures { result ≡ places self.now };
+    /// Its shards behind their locks.
+    fn row(&self) -> &Row<Self::State, Self::Alloc>
+        ensures { result.now ≡ places self.now };
 
     /// The refusal where there is no such shard.
     fn unknown() -> Self::Error
@@ -53,9 +57,6 @@ pub trait Shards {
     /// Whether a refused tick ends a stream for good.
     fn ends() -> bool
         ensures { result ≡ ends };
-
-    /// Gives way to whoever waits for a shard's lock.
-    fn give_way(&self, place: usize);
 
     /// Takes a shard's lock, takes out who is parked there, and asks the source for the tick, before the lock or under
     /// it.
@@ -71,9 +72,6 @@ pub trait Shards {
         ensures entered { IsEntered Self.State.parks Self.State.keeps Self.State.stands place
             (places self.now) (mutex_guard_value result.0) }
         ensures none { Self.State.parked (mutex_guard_value result.0) ≡ None };
-
-    /// Drops the values that are set aside in a shard, while its lock is free.
-    fn drop_aside<R: Wait>(&self, rt: &R, place: usize, most: usize);
 }
 
 /// How many steps a stream makes a poll.
@@ -141,7 +139,7 @@ impl<'q, Q: Shards, S, R: Wait> ShardStream<'q, Q, S, R, Whole> {
         ensures refused { IfErr result (λ e. (Q.places queue.now ≤ place)
             × (e ≡ (Q.unknown, source))) }
     {
-        if place >= queue.places() {
+        if place >= queue.row().len() {
             return Err((Q::unknown(), source));
         }
         Ok(ShardStream {
@@ -199,9 +197,11 @@ impl<'q, Q: Shards, S, R: Wait, P: Drop> ShardStream<'q, Q, S, R, P> {
     }
 }
 
-// How many of the values that are set aside are dropped behind a poll: none where it gave an entry, which a drop that panics
-// would lose.
-fn dropped_behind<T>(answer: &Polled<T>, aside: usize) -> usize {
+// How many of the values that are set aside are dropped behind a poll: none where it gave an entry, which a drop that
+// panics would lose.
+fn dropped_behind<T>(answer: &Polled<T>, aside: usize) -> usize
+    ensures { result ≡ dropped_after answer.now aside }
+{
     match answer {
         Poll::Ready(Some(Ok(_))) => 0,
         _ => aside,
@@ -224,8 +224,8 @@ fn ends_by<T>(ends: bool, answer: &Polled<T>) -> bool
     }
 }
 
-// What a poll does under its shard's lock, for a task that left its waker. Who was parked there before goes out with the
-// answer, and so does how many values are set aside.
+// What a poll does under its shard's lock, for a task that left its waker. Who was parked there before goes out with
+// the answer, and so does how many values are set aside. It knows no drop of a value, so none is dropped here.
 fn poll_entered<Q: Shards, S: TickSource, R: Wait>(
     queue: &Q,
     rt: &R,
@@ -246,8 +246,9 @@ fn poll_entered<Q: Shards, S: TickSource, R: Wait>(
     (polled, shard.aside())
 }
 
-/// Polls the shard at a place of a queue once for a task, whole or by at most `most` steps. None is given where the shard
-/// has more to do: the task is woken then.
+/// Polls the shard at a place of a queue once for a task, whole or by at most `most` steps. It is pending where the
+/// shard has more to do: the task is woken then. What is set aside is dropped once the lock is free; where an entry is
+/// given, by a later call.
 pub fn poll_place<Q: Shards, S: TickSource, R: Wait>(
     queue: &Q,
     rt: &R,
@@ -257,6 +258,8 @@ pub fn poll_place<Q: Shards, S: TickSource, R: Wait>(
     name: &Source,
     cx: &mut Context<'_>,
 ) -> Polled<ValueOf<Q::State>>
+where
+    ValueOf<Q::State>: Drop,
     requires { place < Q.places queue.now }
     ensures registered { OnPending result (Covers cx.new (λ s. s ≡ name.now.id)) }
     ensures polls { (tick : ℕ) × S.tells source.old tick source.new
@@ -272,10 +275,12 @@ pub fn poll_place<Q: Shards, S: TickSource, R: Wait>(
     forget(slot);
     let Some(answer) = polled else {
         let _woken: Poll<()> = cx.yield_now();
-        queue.drop_aside(rt, place, aside);
+        queue.row().drop_aside(rt, place, aside);
         return Poll::Pending;
     };
-    queue.drop_aside(rt, place, dropped_behind(&answer, aside));
+    queue
+        .row()
+        .drop_aside(rt, place, dropped_behind(&answer, aside));
     answer
 }
 
@@ -347,7 +352,10 @@ impl<'q, Q: Shards, S: TickSource, R: Wait, P: Pace> ShardStream<'q, Q, S, R, P>
     }
 }
 
-impl<'q, Q: Shards, S: TickSource, R: Wait, P: Pace> Stream for ShardStream<'q, Q, S, R, P> {
+impl<'q, Q: Shards, S: TickSource, R: Wait, P: Pace> Stream for ShardStream<'q, Q, S, R, P>
+where
+    ValueOf<Q::State>: Drop,
+{
     type Item = Result<Expired<ValueOf<Q::State>>, StreamFault>;
 
     ghost needs = { λ stream s. s ≡ stream.name.id };
@@ -420,7 +428,7 @@ impl<'q, Q: Shards, S: TickSource, R: Wait, P: Pace> Stream for ShardStream<'q, 
         }
         let most = self.pace.most();
         if most.is_some() {
-            self.queue.give_way(self.place);
+            self.queue.row().give_way(self.place);
         }
         let answer = poll_place(
             self.queue,

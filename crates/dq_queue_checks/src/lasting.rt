@@ -1,5 +1,6 @@
-//! A lasting queue, and refused memory.
+//! A lasting queue: refused memory, and places that open.
 
+mod growth;
 mod memory;
 
 use crate::same;

@@ -4,8 +4,12 @@ use mathlib.Core.Option.{some, some-injective, some-ne-none}
 use lib.ListN.{get_elem?}
 use Rattle.dq_core.specs.declared.outcomes.Turn.{Turn}
 use Rattle.dq_core.specs.declared.outcomes.Turn.TheVariants.{Out, Waiting, Idle}
+use Rattle.dq_core.specs.AtTheCall.{IfOut}
 use Rattle.dq_core.specs.declared.errors.CoreError.{CoreError}
-use Rattle.std.specs.Prelude.{Result, Ok, Err}
+use Rattle.dq_core.specs.declared.words.CallError.{CallError}
+use Rattle.dq_ticks.specs.Keys.{KeyName}
+use Rattle.dq_words.specs.CallerCalls.{CallerExtends}
+use Rattle.std.specs.Prelude.{Result, Ok, Err, OnOk}
 use Rattle.dq_words.specs.declared.views.View.{View}
 use Rattle.dq_words.specs.declared.views.Write.{Write}
 use Rattle.dq_words.specs.declared.views.Call.{Call}
@@ -42,3 +46,14 @@ asked_for v w i s when d calls covers =
     let P : List Call → Type 0 = λ cs. IsIn (extends_at i s cs) when in
     let Q : List ℕ → Type 0 = λ xs. IsIn xs when in
     covers.0 when (subst P (sym calls) (subst Q (sym (if_here i s when (extends_at i s v.calls))) (inl refl)))
+
+-- after an accepted extend, what a poll takes out under its key comes out no sooner than was asked for
+pub extended_first : (T : Type 0) (v w : View) (k : KeyName) (when : ℕ) (extended : Result ℕ CallError) (turn : Result (Turn T) CoreError)
+    → CallerExtends v k when extended w → KeepsFor w turn → OnOk extended (IfOut turn (λ x. x.key ≡ k → when ≤ x.deadline))
+extended_first T v w k when (Ok d) (Ok (Out x)) extends kept = λ same.
+    let P : KeyName → Type 0 = λ (key : KeyName). Covers w.calls key.entry.index key.stamp x.deadline in
+    asked_for v w k.entry.index k.stamp when x.deadline extends.calls (subst P same kept)
+extended_first T v w k when (Ok d) (Ok (Waiting next)) extends kept = tt
+extended_first T v w k when (Ok d) (Ok Idle) extends kept = tt
+extended_first T v w k when (Ok d) (Err e) extends kept = tt
+extended_first T v w k when (Err e) turn extends kept = tt

@@ -11,6 +11,10 @@ use Rattle.dq_shards.specs.Changes.{ShardIssues, with_keeper}
 use Rattle.dq_shards.specs.Named.{with_issued, Follows, IsCall, IsHistory, Once, HasOneMore}
 use Rattle.dq_shards.specs.Shard.{ShardView, IsShard, keeper_of}
 
+-- what stands under the name of one number
+pub one_name : {X : Type 0} (named : ℕ → X) (a b : X) (m n : ℕ) → a ≡ named m → b ≡ named n → m ≡ n → a ≡ b
+one_name named a b m n x y same = x ∙ (ap named same ∙ sym y)
+
 module _ {T : Type 0} where
   -- the history goes on with what the call left
   pub goes_on : (h v w : View (ShardView T)) (log : List (Entry (ShardView T))) (a b : ShardView T)

@@ -6,6 +6,9 @@ use Rattle.dq_core.specs.declared.errors.CoreError.{CoreError}
 use Rattle.dq_core.specs.declared.outcomes.Removed.{Removed}
 use Rattle.dq_core.specs.declared.outcomes.Turn.{Turn}
 use Rattle.dq_words.specs.Seats.{Sat}
+use Rattle.dq_words.specs.declared.keeper.WordsError.{WordsError}
+use Rattle.dq_words.specs.declared.keeper.WordsError.TheVariants.{BadConfig, NoMemory, TooManyHandles}
+use Rattle.dq_words.specs.declared.keeper.TheConstants.{HANDLE_LIMIT}
 use Rattle.dq_journal.specs.declared.views.Entry.{Entry}
 use Rattle.dq_journal.specs.declared.views.View.{View}
 use Rattle.dq_journal.specs.History.{entry, entries_by}
@@ -13,8 +16,9 @@ use Rattle.dq_shards.specs.Changes.{ShardInserts, ShardResets, ShardRemoves, Sha
 use Rattle.dq_shards.specs.Changes.{with_keeper}
 use Rattle.dq_shards.specs.Shard.{ShardView, IsShard, keeper_of}
 
--- a caller: its seat at the words, and what it knows of the history
+-- a caller: the number of its shard, its seat at the words, and what it knows of the history
 pub record NamedCallerView (T : Type 0) : Type 0 where
+  pub shard : ℕ
   pub caller : Sat
   pub history : View (ShardView T)
 
@@ -22,6 +26,12 @@ pub record NamedCallerView (T : Type 0) : Type 0 where
 pub record NamedView (T : Type 0) : Type 0 where
   pub shard : ShardView T
   pub history : View (ShardView T)
+
+-- why no caller is issued after so many: as many were as may be, or memory was refused
+abbrev pub IsRefusedAfter : ℕ → WordsError → Type 0
+IsRefusedAfter issued (TooManyHandles limit) = (limit ≡ HANDLE_LIMIT) × (issued ≡ HANDLE_LIMIT)
+IsRefusedAfter issued NoMemory = Unit {0}
+IsRefusedAfter issued BadConfig = ⊥
 
 module _ {T : Type 0} where
   -- the shard, whose keeper has issued so many callers
@@ -52,6 +62,11 @@ module _ {T : Type 0} where
       (old : ShardView T) × (new : ShardView T) × (e.left ≡ Some new) × Follows es old
       × IsCall old new × IsHistory es
 
+  -- a call of the shard of that number
+  abbrev pub AtShard :
+      ℕ → (ShardView T → ShardView T → Type 0) → ShardView T → ShardView T → Type 0
+  AtShard number gives old new = (old.core.shard ≡ number) × gives old new
+
   -- The caller's call was made once: it took the shard, as the history had left it, from one state
   -- to another, and is the newest entry. What is between are other callers' entries, since the
   -- history has of this caller this entry and those that it knew, and no other.
@@ -64,6 +79,15 @@ module _ {T : Type 0} where
       × (w.mine ≡ entry v.number (Some new) ∷ v.mine) × (entries_by w.number w.log ≡ w.mine)
       × IsHistory w.log × (w.number ≡ v.number)
 
+  -- it was made once, on the shard of the caller's number
+  abbrev pub OnceAt :
+      NamedCallerView T → (ShardView T → ShardView T → Type 0) → NamedCallerView T → Type 0
+  OnceAt v gives w = Once (AtShard v.shard gives) v.history w.history
+
+  -- the seat at the words and the shard stay
+  abbrev pub IsSameCaller : NamedCallerView T → NamedCallerView T → Type 0
+  IsSameCaller v w = (w.caller ≡ v.caller) × (w.shard ≡ v.shard)
+
   -- of the caller's calls the history has those that it knew and one more, which did that
   abbrev pub HasOneMore :
       (ShardView T → ShardView T → Type 0) → View (ShardView T) → List (Entry (ShardView T))
@@ -71,3 +95,9 @@ module _ {T : Type 0} where
   HasOneMore gives v log =
       (old : ShardView T) × (new : ShardView T) × IsShard old × IsShard new × gives old new
       × (entries_by v.number log ≡ entry v.number (Some new) ∷ v.mine)
+
+  -- one more, on the shard of the caller's number
+  abbrev pub HasOneMoreAt :
+      NamedCallerView T → (ShardView T → ShardView T → Type 0) → List (Entry (ShardView T))
+      → Type 0
+  HasOneMoreAt v gives log = HasOneMore (AtShard v.shard gives) v.history log

@@ -1,51 +1,57 @@
-//! A shard whose words and history have names, and callers of it. So through its lock it is known that they are of one
-//! shard: a call by name is made once, on the shard that the caller's other calls were made on.
-ghost use Rattle.std.specs.Prelude.{◌≡◌, ◌≤◌, IfSome, IfOk, IfErr};
-ghost use Rattle.dq_core.specs.declared.errors.CoreError.{CoreError};
+//! Shards whose words and history have names, and callers of them. So through a shard's lock it is known that they are of
+//! one shard: a call by name is made once, on the shard that the caller's other calls were made on.
+ghost use Rattle.std.specs.Prelude.{◌≡◌, ◌<◌, Ok, IfOk, IfErr};
 ghost use Rattle.dq_journal.specs.Once.{IsTold};
 ghost use Rattle.dq_journal.specs.Views.{first_witness, new_witness};
 ghost use Rattle.dq_words.specs.CallerCalls.{CallerCancels, CallerExtends};
 ghost use Rattle.dq_shards.specs.ForCallers.{KeepsFor, no_table};
-ghost use Rattle.dq_shards.specs.Changes.{ShardInserts, ShardResets, ShardRemoves, ShardPolls};
-ghost use Rattle.dq_shards.specs.Named.{Once, IsHistory};
+ghost use Rattle.dq_shards.specs.Changes.{ShardInserts, ShardResets, ShardRemoves, ShardPolls, ShardIssues};
+ghost use Rattle.dq_shards.specs.Named.{OnceAt, IsSameCaller, IsHistory, IsRefusedAfter};
+ghost use Rattle.dq_shards.specs.Shard.{keeper_of};
 
+mod queue;
 mod quiet;
 
 use crate::state::ShardState;
 use dq_core::{CallError, CoreError, Removed, Turn};
 use dq_journal::Witness;
 use dq_parking::Leaver;
-use dq_ticks::{EntryId, Key, is_same_key};
+use dq_ticks::{EntryId, Key};
 use dq_words::{Caller, WordsError};
+pub use queue::NamedQueue;
 use std::alloc::{Allocator, Global};
 use std::marker::{Brand, Model, PhantomData};
-use std::sync::{Mutex, Wait};
 
-/// Names the words of one shard, and its history.
-pub trait Room {
+/// Names a queue: how many shards it has and, of each by its number, the words and the history.
+pub trait Rooms {
+    ghost use Rattle.std.specs.Prelude.{ℕ};
     ghost use Rattle.atomic_table.specs.Seated.{TableId};
 
-    ghost words: { TableId };
+    ghost shards: { ℕ };
 
-    ghost history: { TableId };
+    ghost words: { ℕ → TableId };
+
+    ghost history: { ℕ → TableId };
 }
 
-impl Room for Brand {
-    ghost words = { no_table };
+impl Rooms for Brand {
+    ghost shards = { 0 };
 
-    ghost history = { no_table };
+    ghost words = { λ _. no_table };
+
+    ghost history = { λ _. no_table };
 }
 
-/// A shard whose words and history are the room's.
+/// A shard whose words and history are those that its number names.
 #[derive(Drop)]
-pub struct NamedShard<T, J: Room, A: Allocator = Global> {
+pub struct NamedShard<T, J: Rooms, A: Allocator = Global> {
     state: ShardState<T, A>,
     history: Witness<ShardState<T, A>, A>,
-    room: PhantomData<J>,
+    rooms: PhantomData<J>,
 }
 
-impl<T, J: Room, A: Allocator> Model for NamedShard<T, J, A> {
-    ghost use Rattle.std.specs.Prelude.{◌≡◌};
+impl<T, J: Rooms, A: Allocator> Model for NamedShard<T, J, A> {
+    ghost use Rattle.std.specs.Prelude.{◌≡◌, ◌<◌};
     ghost use Rattle.dq_journal.specs.Once.{IsUnderLock};
     ghost use Rattle.dq_shards.specs.Named.{NamedView, Follows, IsHistory};
 
@@ -53,33 +59,43 @@ impl<T, J: Room, A: Allocator> Model for NamedShard<T, J, A> {
 
     ghost view = { λ s. record { shard = s.state; history = s.history.view } };
 
-    ghost invariant = { λ s. (s.state.core.words.table ≡ J.words) × (s.history.table ≡ J.history)
+    ghost invariant = { λ s. (s.state.core.shard < J.shards)
+        × (s.state.core.words.table ≡ J.words s.state.core.shard)
+        × (s.history.table ≡ J.history s.state.core.shard)
         × IsUnderLock s.history.view × Follows s.history.view.log s.state
         × IsHistory s.history.view.log };
 }
 
-/// A caller of the room's shard, in any thread.
+/// A caller of one shard, in any thread.
 #[derive(Drop)]
-pub struct NamedCaller<T, J: Room, A: Allocator = Global> {
+pub struct NamedCaller<T, J: Rooms, A: Allocator = Global> {
+    shard: usize,
     caller: Caller<A>,
     history: Witness<ShardState<T, A>, A>,
-    room: PhantomData<J>,
+    rooms: PhantomData<J>,
 }
 
-impl<T, J: Room, A: Allocator> Model for NamedCaller<T, J, A> {
-    ghost use Rattle.std.specs.Prelude.{◌≡◌};
+impl<T, J: Rooms, A: Allocator> Model for NamedCaller<T, J, A> {
+    ghost use Rattle.std.specs.Prelude.{◌≡◌, ◌<◌};
     ghost use Rattle.dq_journal.specs.Once.{IsWithNumber};
     ghost use Rattle.dq_shards.specs.Named.{NamedCallerView};
 
     ghost Value = { NamedCallerView T };
 
-    ghost view = { λ c. record { caller = c.caller; history = c.history.view } };
+    ghost view = { λ c. record { shard = c.shard; caller = c.caller; history = c.history.view } };
 
-    ghost invariant = { λ c. (c.caller.table ≡ J.words) × (c.history.table ≡ J.history)
-        × IsWithNumber c.history.view };
+    ghost invariant = { λ c. (c.shard < J.shards) × (c.caller.table ≡ J.words c.shard)
+        × (c.history.table ≡ J.history c.shard) × IsWithNumber c.history.view };
 }
 
-impl<T, J: Room, A: Allocator> NamedCaller<T, J, A> {
+impl<T, J: Rooms, A: Allocator> NamedCaller<T, J, A> {
+    /// The number of its shard.
+    pub fn shard(&self) -> usize
+        ensures { result ≡ self.now.shard }
+    {
+        self.shard
+    }
+
     /// Raises the deadline of a live entry to `when`, a tick of one millisecond, and returns the deadline that is
     /// then in force: `when`, or a later one that the entry had. It takes constant time and no lock.
     ///
@@ -92,7 +108,7 @@ impl<T, J: Room, A: Allocator> NamedCaller<T, J, A> {
     pub fn extend(&mut self, key: &Key, when: u64) -> Result<u64, CallError>
         ensures extends { CallerExtends self.old.caller.view key.now when result
             self.new.caller.view }
-        ensures history { self.new.history ≡ self.old.history }
+        ensures same { (self.new.history ≡ self.old.history) × (self.new.shard ≡ self.old.shard) }
     {
         self.caller.extend(key, when)
     }
@@ -107,7 +123,7 @@ impl<T, J: Room, A: Allocator> NamedCaller<T, J, A> {
     /// - `Ended` if the entry isn't live.
     pub fn cancel(&mut self, key: &Key) -> Result<u64, CallError>
         ensures cancels { CallerCancels self.old.caller.view key.now result self.new.caller.view }
-        ensures history { self.new.history ≡ self.old.history }
+        ensures same { (self.new.history ≡ self.old.history) × (self.new.shard ≡ self.old.shard) }
     {
         self.caller.cancel(key)
     }
@@ -117,26 +133,29 @@ impl<T, J: Room, A: Allocator> NamedCaller<T, J, A> {
         ensures { result ≡ self.caller }
     {
         let NamedCaller {
+            shard: _,
             caller,
             history: _,
-            room: _,
+            rooms: _,
         } = self;
         caller
     }
 }
 
-impl<T, J: Room, A: Allocator> NamedShard<T, J, A> {
-    /// A shard's state and a history with nothing in it, under their names.
+impl<T, J: Rooms, A: Allocator> NamedShard<T, J, A> {
+    /// A shard's state and a history with nothing in it, under the names of its number.
     pub fn of(state: ShardState<T, A>, history: Witness<ShardState<T, A>, A>) -> NamedShard<T, J, A>
-        requires words { state.core.words.table ≡ J.words }
-        requires history { (history.table ≡ J.history) × (history.view ≡ first_witness) }
+        requires number { state.core.shard < J.shards }
+        requires words { state.core.words.table ≡ J.words state.core.shard }
+        requires history { (history.table ≡ J.history state.core.shard)
+            × (history.view ≡ first_witness) }
         ensures shard { result.shard ≡ state }
         ensures history { result.history ≡ first_witness }
     {
         NamedShard {
             state,
             history,
-            room: PhantomData,
+            rooms: PhantomData,
         }
     }
 
@@ -147,16 +166,29 @@ impl<T, J: Room, A: Allocator> NamedShard<T, J, A> {
     /// - `NoMemory` if memory is refused.
     /// - `TooManyHandles` if 1,024 callers were made, given back or not.
     pub fn issue(&mut self) -> Result<NamedCaller<T, J, A>, WordsError>
-        ensures { IfOk result (λ c. c.history ≡ new_witness self.old.history) }
+        // The shard issues it, and it has no call in the history yet.
+        ensures issues { IfOk result
+            (λ c. ShardIssues self.old.shard (Ok c.caller) self.new.shard) }
+        ensures history { IfOk result (λ c. c.history ≡ new_witness self.old.history) }
+        ensures number { IfOk result (λ c. c.shard ≡ self.old.shard.core.shard) }
+
+        // Refused, the shard stays: past the limit, or where memory is refused.
+        ensures refused { IfErr result (λ e. (self.new.shard ≡ self.old.shard)
+            × IsRefusedAfter (keeper_of self.old.shard).issued e) }
+
+        // No call is entered.
+        ensures log { self.new.history.log ≡ self.old.history.log }
     {
         let Ok(history) = self.history.open() else {
             return Err(WordsError::NoMemory);
         };
+        let shard = self.state.shard() as usize;
         match self.state.issue() {
             Ok(caller) => Ok(NamedCaller {
+                shard,
                 caller,
                 history,
-                room: PhantomData,
+                rooms: PhantomData,
             }),
             Err(refusal) => Err(refusal),
         }
@@ -164,9 +196,10 @@ impl<T, J: Room, A: Allocator> NamedShard<T, J, A> {
 
     /// Tells a caller the whole history of the shard: of its own calls it has those that it made, each once.
     pub fn tell(&mut self, me: &mut NamedCaller<T, J, A>)
+        requires { me.old.shard ≡ self.old.shard.core.shard }
         ensures told { IsTold self.old.history me.old.history me.new.history }
         ensures history { IsHistory self.old.history.log }
-        ensures same { (me.new.caller ≡ me.old.caller) × (self.new.shard ≡ self.old.shard)
+        ensures same { IsSameCaller me.old me.new × (self.new.shard ≡ self.old.shard)
             × (self.new.history.log ≡ self.old.history.log) }
     {
         self.history.tell(&mut me.history);
@@ -178,9 +211,9 @@ impl<T, J: Room, A: Allocator> NamedShard<T, J, A> {
         value: T,
         when: u64,
     ) -> (Result<Key, (CoreError, T)>, Leaver, Option<T>)
-        ensures once { Once (λ old new. ShardInserts old value when result.0 new)
-            me.old.history me.new.history }
-        ensures same { me.new.caller ≡ me.old.caller }
+        requires { me.old.shard ≡ self.old.shard.core.shard }
+        ensures once { OnceAt me.old (λ old new. ShardInserts old value when result.0 new) me.new }
+        ensures same { IsSameCaller me.old me.new }
     {
         let answered = self.state.insert_quietly(value, when);
         self.history.enter_for(&mut me.history, &self.state);
@@ -193,9 +226,10 @@ impl<T, J: Room, A: Allocator> NamedShard<T, J, A> {
         entry: &EntryId,
         when: u64,
     ) -> (Result<Key, CoreError>, Leaver)
-        ensures once { Once (λ old new. ShardResets old entry.now when result.0 new)
-            me.old.history me.new.history }
-        ensures same { me.new.caller ≡ me.old.caller }
+        requires { me.old.shard ≡ self.old.shard.core.shard }
+        ensures once { OnceAt me.old
+            (λ old new. ShardResets old entry.now when result.0 new) me.new }
+        ensures same { IsSameCaller me.old me.new }
     {
         let answered = self.state.reset_quietly(entry, when);
         self.history.enter_for(&mut me.history, &self.state);
@@ -207,9 +241,9 @@ impl<T, J: Room, A: Allocator> NamedShard<T, J, A> {
         me: &mut NamedCaller<T, J, A>,
         entry: &EntryId,
     ) -> (Result<Removed<T>, CoreError>, Leaver)
-        ensures once { Once (λ old new. ShardRemoves old entry.now result.0 new)
-            me.old.history me.new.history }
-        ensures same { me.new.caller ≡ me.old.caller }
+        requires { me.old.shard ≡ self.old.shard.core.shard }
+        ensures once { OnceAt me.old (λ old new. ShardRemoves old entry.now result.0 new) me.new }
+        ensures same { IsSameCaller me.old me.new }
     {
         let answered = self.state.remove_quietly(entry);
         self.history.enter_for(&mut me.history, &self.state);
@@ -221,138 +255,13 @@ impl<T, J: Room, A: Allocator> NamedShard<T, J, A> {
         me: &mut NamedCaller<T, J, A>,
         tick: u64,
     ) -> (Result<Turn<T>, CoreError>, Leaver)
+        requires { me.old.shard ≡ self.old.shard.core.shard }
         ensures kept { KeepsFor me.old.caller.view result.0 }
-        ensures once { Once (λ old new. ShardPolls old tick result.0 new)
-            me.old.history me.new.history }
-        ensures same { me.new.caller ≡ me.old.caller }
+        ensures once { OnceAt me.old (λ old new. ShardPolls old tick result.0 new) me.new }
+        ensures same { IsSameCaller me.old me.new }
     {
         let answered = self.state.poll_for(&mut me.caller, tick);
         self.history.enter_for(&mut me.history, &self.state);
         answered
-    }
-}
-
-/// Takes the shard's lock, puts `value` in, to come out at the tick `when` of one millisecond, and returns its key.
-/// Who has left is woken once the lock is free, and the value that waited for its drop in the entry's slot is dropped.
-///
-/// # Errors
-/// `value` comes back. In this order:
-/// - `TooFar` if `when` is beyond the last tick.
-/// - `Full` if no slot is free.
-pub fn insert_by<T: Drop, J: Room, A: Allocator, R: Wait>(
-    rt: &R,
-    shard: &Mutex<NamedShard<T, J, A>>,
-    me: &mut NamedCaller<T, J, A>,
-    value: T,
-    when: u64,
-) -> Result<Key, (CoreError, T)>
-    ensures once { Once (λ old new. ShardInserts old value when result new)
-        me.old.history me.new.history }
-    ensures same { me.new.caller ≡ me.old.caller }
-{
-    let mut locked = shard.lock(rt);
-    let (answer, leaver, _crowded) = locked.insert(me, value, when);
-    drop(locked);
-    leaver.wake();
-    answer
-}
-
-/// Takes the shard's lock, gives a live entry the deadline `when`, a tick of one millisecond, and returns its new key.
-/// Who has left is woken once the lock is free.
-///
-/// # Errors
-/// In this order:
-/// - `TooFar` if `when` is beyond the last tick.
-/// - `Missing` if the entry isn't linked here.
-/// - `WasCancelled` if the entry was cancelled.
-/// - `Worn` if the entry's slot has no stamp left for another key.
-pub fn reset_by<T, J: Room, A: Allocator, R: Wait>(
-    rt: &R,
-    shard: &Mutex<NamedShard<T, J, A>>,
-    me: &mut NamedCaller<T, J, A>,
-    entry: &EntryId,
-    when: u64,
-) -> Result<Key, CoreError>
-    ensures once { Once (λ old new. ShardResets old entry.now when result new)
-        me.old.history me.new.history }
-    ensures same { me.new.caller ≡ me.old.caller }
-{
-    let mut locked = shard.lock(rt);
-    let (answer, leaver) = locked.reset(me, entry, when);
-    drop(locked);
-    leaver.wake();
-    answer
-}
-
-/// Takes the shard's lock, takes a live entry out, and returns its value with its key and its current deadline, a tick
-/// of one millisecond. Who has left is woken once the lock is free.
-///
-/// # Errors
-/// In this order:
-/// - `Missing` if the entry isn't linked here.
-/// - `WasCancelled` if the entry was cancelled.
-pub fn remove_by<T, J: Room, A: Allocator, R: Wait>(
-    rt: &R,
-    shard: &Mutex<NamedShard<T, J, A>>,
-    me: &mut NamedCaller<T, J, A>,
-    entry: &EntryId,
-) -> Result<Removed<T>, CoreError>
-    ensures once { Once (λ old new. ShardRemoves old entry.now result new)
-        me.old.history me.new.history }
-    ensures same { me.new.caller ≡ me.old.caller }
-{
-    let mut locked = shard.lock(rt);
-    let (answer, leaver) = locked.remove(me, entry);
-    drop(locked);
-    leaver.wake();
-    answer
-}
-
-/// Takes the shard's lock, notes `tick`, of one millisecond, and takes one entry out that is due. Who has left is woken
-/// once the lock is free; values that were reaped stay set aside.
-///
-/// # Errors
-/// `TickTooLarge` if `tick` is beyond the last tick.
-pub fn poll_by<T, J: Room, A: Allocator, R: Wait>(
-    rt: &R,
-    shard: &Mutex<NamedShard<T, J, A>>,
-    me: &mut NamedCaller<T, J, A>,
-    tick: u64,
-) -> Result<Turn<T>, CoreError>
-    // No extend of the caller is lost: what comes out has a deadline before none that it was promised.
-    ensures kept { KeepsFor me.old.caller.view result }
-    ensures once { Once (λ old new. ShardPolls old tick result new) me.old.history me.new.history }
-    ensures same { me.new.caller ≡ me.old.caller }
-{
-    let mut locked = shard.lock(rt);
-    let (answer, leaver) = locked.poll(me, tick);
-    drop(locked);
-    leaver.wake();
-    answer
-}
-
-/// Extends an entry without the lock, and then polls by name. If that entry comes out, its deadline isn't before the
-/// one asked for, whatever other threads did meanwhile. It returns none if the extend was refused, or another entry
-/// or none came out.
-pub fn extend_then_poll<T: Drop, J: Room, A: Allocator, R: Wait>(
-    rt: &R,
-    shard: &Mutex<NamedShard<T, J, A>>,
-    me: &mut NamedCaller<T, J, A>,
-    key: &Key,
-    when: u64,
-    tick: u64,
-) -> Option<u64>
-    ensures { IfSome result (λ d. when ≤ d) }
-{
-    let Ok(_) = me.extend(key, when) else {
-        return None;
-    };
-    let Ok(Turn::Out(out)) = poll_by(rt, shard, me, tick) else {
-        return None;
-    };
-    if is_same_key(out.key, *key) {
-        Some(out.deadline)
-    } else {
-        None
     }
 }

@@ -3,9 +3,10 @@
 //!
 //! A value's drop is a user's code: it may call the queue, and it may panic. What is reaped or cleared is set aside in
 //! the shard, and the row takes it out and drops it behind the lock. Where a drop panics the shard is whole, and what
-//! is still set aside is dropped by a later call. Beside the row no other impl of a queue says that a value of it may
-//! be dropped, so the checker refuses a drop anywhere else.
-ghost use Rattle.std.specs.Prelude.{◌≡◌, ◌%◌, ◌<◌, ◌≤◌, ◌↔◌, true, vec_capacity, IfOk, IfErr, OnOk, OnErr, IsErrOf, IsErrAnd};
+//! is still set aside is dropped by a later call. Beside the row and a stream's poll no other impl of a queue says that
+//! a value of it may be dropped, so the checker refuses a drop anywhere else.
+ghost use Rattle.std.specs.Prelude.{◌≡◌, ◌%◌, ◌<◌, ◌≤◌, ◌↔◌, vec_capacity};
+ghost use Rattle.std.specs.Prelude.{IfOk, IfErr, OnOk, OnErr, IsErrOf, IsErrAnd};
 ghost use Rattle.std.specs.Fn.{FnOnceReturnsAtMut};
 ghost use Rattle.dq_ticks.specs.declared.TheConstants.{LAST_TICK};
 ghost use Rattle.dq_core.specs.declared.errors.CoreError.TheVariants.{TooFar, TickTooLarge};
@@ -21,12 +22,12 @@ use crate::errors::{QueueConfig, QueueError};
 use crate::queue::SharedDelayQueue;
 use crate::state::ShardState;
 use dq_core::{CoreConfig, CoreError, Expired, Piece, ReapError, Swept, Turn};
-use dq_parking::{Parked, Row, Shards, TickSource, unlock, waiting_row};
+use dq_parking::{Leaver, Row, unlock, waiting_row};
 use dq_ticks::{EntryId, Key};
 use dq_words::{ManyTurn, locked_shards};
 use std::alloc::Allocator;
 use std::num::NonZeroU32;
-use std::sync::{MutexGuard, Wait};
+use std::sync::Wait;
 
 // The shard of a route. A route that is a shard's number is spared the division.
 #[inline]
@@ -203,11 +204,8 @@ impl<T: Drop, A: Allocator> SharedDelayQueue<T, A> {
     {
         let mut locked = self.enter(rt, shard)?;
         let (answer, leaver) = locked.attended.poll(tick);
-        let aside = unlock(locked, leaver);
-        // A drop that panics would lose what came out.
-        if !matches!(answer, Ok(Turn::Out(_))) {
-            self.row.drop_aside(rt, shard, aside);
-        }
+        let is_out = matches!(answer, Ok(Turn::Out(_)));
+        self.row.leave(rt, shard, locked, leaver, is_out);
         Ok(answer?)
     }
 
@@ -262,11 +260,8 @@ impl<T: Drop, A: Allocator> SharedDelayQueue<T, A> {
     {
         let mut locked = self.enter(rt, shard)?;
         let (answer, leaver) = locked.attended.poll_some(tick, most);
-        let aside = unlock(locked, leaver);
-        // A drop that panics would lose what came out.
-        if !matches!(answer, Ok(Piece::Answer(Turn::Out(_)))) {
-            self.row.drop_aside(rt, shard, aside);
-        }
+        let is_out = matches!(answer, Ok(Piece::Answer(Turn::Out(_))));
+        self.row.leave(rt, shard, locked, leaver, is_out);
         Ok(answer?)
     }
 
@@ -376,11 +371,8 @@ impl<T: Drop, A: Allocator> SharedDelayQueue<T, A> {
         let before = row.len();
         let mut locked = self.enter(rt, shard)?;
         let (answer, leaver) = locked.attended.poll_many(tick, row);
-        let aside = unlock(locked, leaver);
-        // A drop that panics would lose what came out.
-        if row.len() == before {
-            self.row.drop_aside(rt, shard, aside);
-        }
+        let is_out = row.len() != before;
+        self.row.leave(rt, shard, locked, leaver, is_out);
         Ok(answer?)
     }
 
@@ -399,8 +391,7 @@ impl<T: Drop, A: Allocator> SharedDelayQueue<T, A> {
     {
         let mut locked = self.enter(rt, shard)?;
         let (reaped, leaver) = locked.attended.sweep();
-        let aside = unlock(locked, leaver);
-        self.row.drop_aside(rt, shard, aside);
+        self.row.leave(rt, shard, locked, leaver, false);
         Ok(reaped)
     }
 
@@ -439,8 +430,7 @@ impl<T: Drop, A: Allocator> SharedDelayQueue<T, A> {
     {
         let mut locked = self.enter(rt, shard)?;
         let (swept, leaver) = locked.attended.sweep_some(from, count);
-        let aside = unlock(locked, leaver);
-        self.row.drop_aside(rt, shard, aside);
+        self.row.leave(rt, shard, locked, leaver, false);
         Ok(swept)
     }
 
@@ -466,8 +456,7 @@ impl<T: Drop, A: Allocator> SharedDelayQueue<T, A> {
         let shard = entry.shard() as usize;
         let mut locked = self.enter(rt, shard)?;
         let (answer, leaver) = locked.attended.reap(entry);
-        let aside = unlock(locked, leaver);
-        self.row.drop_aside(rt, shard, aside);
+        self.row.leave(rt, shard, locked, leaver, false);
         Ok(answer)
     }
 
@@ -485,8 +474,7 @@ impl<T: Drop, A: Allocator> SharedDelayQueue<T, A> {
     {
         let mut locked = self.enter(rt, shard)?;
         let (cleared, leaver) = locked.attended.clear();
-        let aside = unlock(locked, leaver);
-        self.row.drop_aside(rt, shard, aside);
+        self.row.leave(rt, shard, locked, leaver, false);
         Ok(cleared)
     }
 
@@ -514,52 +502,6 @@ impl<T: Drop, A: Allocator> SharedDelayQueue<T, A> {
     #[inline(always)]
     pub fn drop_aside<R: Wait>(&self, rt: &R, shard: usize, most: usize) {
         self.row.drop_aside(rt, shard, most);
-    }
-}
-
-/// A stream of a shard asks its source under the shard's lock, and ends by a refused tick.
-impl<T: Drop, A: Allocator> Shards for SharedDelayQueue<T, A> {
-    type State = ShardState<T, A>;
-
-    type Error = QueueError;
-
-    ghost places = { λ shards. shards };
-
-    ghost unknown = { Unknown };
-
-    ghost ends = { true };
-
-    fn places(&self) -> usize {
-        self.row.len()
-    }
-
-    fn unknown() -> QueueError {
-        QueueError::Unknown
-    }
-
-    fn ends() -> bool {
-        true
-    }
-
-    fn give_way(&self, place: usize) {
-        self.row.give_way(place);
-    }
-
-    fn entered<S: TickSource, R: Wait>(
-        &self,
-        rt: &R,
-        place: usize,
-        source: &mut S,
-        before: &mut Option<Parked>,
-    ) -> (MutexGuard<'_, ShardState<T, A>>, u64) {
-        let mut shard = self.row.lock(rt, place);
-        *before = shard.take_parked();
-        let tick = source.now();
-        (shard, tick)
-    }
-
-    fn drop_aside<R: Wait>(&self, rt: &R, place: usize, most: usize) {
-        SharedDelayQueue::drop_aside(self, rt, place, most);
     }
 }
 
@@ -604,10 +546,8 @@ impl<T: Drop> SharedDelayQueue<T> {
     {
         let mut locked = self.enter(rt, shard)?;
         let answer = f(&mut locked);
-        locked.law();
-        let aside = locked.aside();
-        drop(locked);
-        self.row.drop_aside(rt, shard, aside);
+        self.row
+            .leave(rt, shard, locked, Leaver { poller: None }, false);
         Ok(answer)
     }
 }

@@ -1,14 +1,18 @@
-//! What a queue's row asks of a shard behind its lock.
-ghost use Rattle.std.specs.Prelude.{◌≡◌};
+//! What a queue's row and a stream ask of a shard behind its lock, and what a stream asks of the queue.
+ghost use Rattle.std.specs.Prelude.{◌≡◌, true};
+ghost use Rattle.dq_shards.specs.declared.errors.QueueError.TheVariants.{Unknown};
 ghost use Rattle.dq_shards.specs.Shard.{IsShard};
 ghost use Rattle.dq_shards.specs.Changes.{Changes};
 ghost use Rattle.std.proofs.Common.{refl};
 
+use crate::errors::QueueError;
+use crate::queue::SharedDelayQueue;
 use crate::state::ShardState;
 use dq_core::{CoreError, Piece};
-use dq_parking::{Parked, Shard, Sleeps};
+use dq_parking::{Parked, Row, Shard, Shards, Sleeps, TickSource};
 use futures::task::Waker;
 use std::alloc::Allocator;
+use std::sync::{MutexGuard, Wait};
 
 impl<T, A: Allocator> ShardState<T, A> {
     /// How many values are set aside: those of entries that were reaped or cleared, and that aren't dropped yet.
@@ -81,4 +85,44 @@ impl<T, A: Allocator> Sleeps for ShardState<T, A> {
     ghost is_parked = { λ s p. refl };
 
     ghost same_core = { λ s p. refl };
+}
+
+/// A stream of a shard asks its source under the shard's lock, and ends by a refused tick.
+impl<T, A: Allocator> Shards for SharedDelayQueue<T, A> {
+    type State = ShardState<T, A>;
+
+    type Alloc = A;
+
+    type Error = QueueError;
+
+    ghost places = { λ shards. shards };
+
+    ghost unknown = { Unknown };
+
+    ghost ends = { true };
+
+    fn row(&self) -> &Row<ShardState<T, A>, A> {
+        &self.row
+    }
+
+    fn unknown() -> QueueError {
+        QueueError::Unknown
+    }
+
+    fn ends() -> bool {
+        true
+    }
+
+    fn entered<S: TickSource, R: Wait>(
+        &self,
+        rt: &R,
+        place: usize,
+        source: &mut S,
+        before: &mut Option<Parked>,
+    ) -> (MutexGuard<'_, ShardState<T, A>>, u64) {
+        let mut shard = self.row.lock(rt, place);
+        *before = shard.take_parked();
+        let tick = source.now();
+        (shard, tick)
+    }
 }

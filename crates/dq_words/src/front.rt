@@ -7,6 +7,7 @@ ghost use Rattle.dq_core.specs.Machine.{NoneLinked};
 ghost use Rattle.dq_core.specs.Words.{AreFresh};
 ghost use Rattle.dq_core.specs.Calls.{NewRefused};
 ghost use Rattle.dq_words.specs.AtTheCall.{KnowsNothing};
+ghost use Rattle.dq_words.specs.Shards.{IsFreshQueue};
 
 use crate::keeper::Keeper;
 use dq_core::{CoreConfig, CoreError, DelayCore};
@@ -53,6 +54,10 @@ pub fn numbered_queue<T, A: Allocator + Clone + Drop>(
     ensures fresh { IfOk result (λ q. AreFresh q.known q.counts × KnowsNothing q.words) }
     ensures refused { IfErr result
         (λ e. NewRefused config.capacity config.last_stamp config.capacity e) }
+
+    // Exactly: what the new queue is.
+    ensures made { IfOk result
+        (λ q. IsFreshQueue config.shard config.capacity config.last_stamp 0 q) }
 {
     if config.check().is_err() {
         return Err(CoreError::BadConfig);

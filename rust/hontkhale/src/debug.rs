@@ -100,6 +100,7 @@ mod with_std {
     use crate::apps::{CountedCache, IdleSessions, Name, Seen, TtlCache};
     use crate::lasting::{LastingHandle, LastingQueue, LastingShard};
     use crate::parking::{MillisecondTicks, Parked, ShardStream, Shards};
+    use crate::shards::by::{NamedCaller, NamedQueue, NamedShard, Rooms};
     use crate::shards::{Handle, ShardState, SharedDelayQueue};
     use std::hash::{BuildHasher, Hash};
 
@@ -136,6 +137,28 @@ mod with_std {
         fn fmt(&self, f: &mut Formatter<'_>) -> Result {
             f.debug_struct("Handle")
                 .field("cancels", &self.cancels())
+                .finish_non_exhaustive()
+        }
+    }
+
+    impl<T, J: Rooms> Debug for NamedQueue<T, J> {
+        fn fmt(&self, f: &mut Formatter<'_>) -> Result {
+            f.debug_struct("NamedQueue")
+                .field("shards", &self.shards())
+                .finish_non_exhaustive()
+        }
+    }
+
+    impl<T, J: Rooms> Debug for NamedShard<T, J> {
+        fn fmt(&self, f: &mut Formatter<'_>) -> Result {
+            f.debug_struct("NamedShard").finish_non_exhaustive()
+        }
+    }
+
+    impl<T, J: Rooms> Debug for NamedCaller<T, J> {
+        fn fmt(&self, f: &mut Formatter<'_>) -> Result {
+            f.debug_struct("NamedCaller")
+                .field("shard", &self.shard())
                 .finish_non_exhaustive()
         }
     }

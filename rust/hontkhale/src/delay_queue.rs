@@ -207,6 +207,7 @@ impl<T> DelayQueue<T> {
     /// assert_eq!(queue.deadline(&key)?, deadline);
     /// # Ok::<(), Box<dyn std::error::Error>>(())
     /// ```
+    #[inline]
     pub fn extend(&self, key: &Key, after: Duration) -> Result<Instant, KeyError> {
         self.extend_to(key, self.shared.front.time.tick_in(after))
     }
@@ -215,11 +216,12 @@ impl<T> DelayQueue<T> {
     ///
     /// # Errors
     /// As [`extend`](DelayQueue::extend) returns them.
+    #[inline]
     pub fn extend_at(&self, key: &Key, when: Instant) -> Result<Instant, KeyError> {
         self.extend_to(key, self.shared.front.time.tick_at(when))
     }
 
-    #[inline]
+    #[inline(always)]
     fn extend_to(&self, key: &Key, tick: Option<u64>) -> Result<Instant, KeyError> {
         self.step(key, Step::to(tick))
     }

@@ -1,6 +1,8 @@
 //! Delay queues behind locks, one a shard, whose entries are extended and cancelled without them.
 
 mod audit;
+#[doc(hidden)]
+pub mod by;
 mod callers;
 mod calls;
 mod drops;

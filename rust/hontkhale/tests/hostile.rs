@@ -21,6 +21,8 @@ mod first_callers;
 mod forged;
 #[path = "hostile/join.rs"]
 mod join;
+#[path = "hostile/named.rs"]
+mod named;
 #[path = "hostile/numbers.rs"]
 mod numbers;
 #[path = "hostile/owners.rs"]

@@ -2,7 +2,9 @@
 
 use super::same;
 use dq_core::CoreError;
-use dq_lasting::{HandleError, HandleRenewError, Kept, LastingConfig, LastingQueue, ReopenError};
+use dq_lasting::{
+    HandleError, HandleRenewError, Kept, LastingConfig, LastingQueue, OpenError, ReopenError,
+};
 use linked_list_allocator::LocalHeap;
 use refusing_heap::RefusingHeap;
 use std::process::Abort;
@@ -20,6 +22,7 @@ enum Refused {
     InHandle,
     InStates,
     InReopen,
+    InOpen,
     Nowhere,
 }
 
@@ -56,14 +59,38 @@ fn reopens<'heap, 'all, R: Abort + Wait>(
     Err(ReopenError::NoMemory)
 }
 
-// Where memory was refused to the opening of a shard or to the handle that takes on its new caller.
+// A place opens with more slots, once more where memory was refused first, and tells whether it was. A refusal leaves it as
+// it was.
+fn opens<'heap, 'all, R: Abort + Wait>(
+    rt: &R,
+    heap: &'heap Heap<'all>,
+    queue: &Letters<'heap, 'all>,
+) -> Result<bool, OpenError> {
+    let mut was_refused = false;
+    for _ in 0..2 {
+        let before = queue.state(rt, 0);
+        match queue.open_place(rt, heap, 0, 8, true) {
+            Ok(()) => return Ok(was_refused),
+            Err(OpenError::NoMemory) => was_refused = true,
+            Err(error) => return Err(error),
+        }
+        same(rt, "state", queue.state(rt, 0), before);
+    }
+    Err(OpenError::NoMemory)
+}
+
+// Where memory was refused to an opening of a shard or to the handle that takes on its new caller.
 fn refused_in<R: Abort>(
     rt: &R,
     reopened: Result<bool, ReopenError>,
+    opened: Result<bool, OpenError>,
     took: Result<usize, HandleRenewError>,
 ) -> Result<Refused, Fail> {
     if reopened? {
         return Ok(Refused::InReopen);
+    }
+    if opened? {
+        return Ok(Refused::InOpen);
     }
     match took {
         Ok(took) => same(rt, "renew", took, 1),
@@ -78,7 +105,8 @@ fn refused_in<R: Abort>(
     Ok(Refused::Nowhere)
 }
 
-// A handle is made, the states are told, and a closed shard is opened again, whose new caller the handle takes on.
+// A handle is made, the states are told, and a closed shard is opened again, and then with more slots. The handle takes on
+// its new caller.
 fn goes_on<'heap, 'all, R: Abort + Wait>(
     rt: &R,
     heap: &'heap Heap<'all>,
@@ -92,12 +120,13 @@ fn goes_on<'heap, 'all, R: Abort + Wait>(
     };
     let told = queue.states(rt, heap).is_ok();
     let reopened = reopens(rt, heap, queue);
+    let opened = opens(rt, heap, queue);
     let took = handle.renew(rt, queue);
     handle.give_back();
     if !told {
         return Ok(Refused::InStates);
     }
-    refused_in(rt, reopened, took)
+    refused_in(rt, reopened, opened, took)
 }
 
 // A queue is made, and goes on.
@@ -119,8 +148,8 @@ fn refused_at<R: Abort + Wait>(rt: &R, all: &LocalHeap, grants: u64) -> Result<R
 }
 
 // How often memory was refused where, until it isn't.
-fn counted<R: Abort + Wait>(rt: &R, all: &LocalHeap) -> Result<[u64; 5], Fail> {
-    let mut counts = [0u64; 5];
+fn counted<R: Abort + Wait>(rt: &R, all: &LocalHeap) -> Result<[u64; 6], Fail> {
+    let mut counts = [0u64; 6];
     for grants in 0..64u64 {
         let refused = refused_at(rt, all, grants)?;
         let at = match refused {
@@ -128,7 +157,8 @@ fn counted<R: Abort + Wait>(rt: &R, all: &LocalHeap) -> Result<[u64; 5], Fail> {
             Refused::InHandle => 1,
             Refused::InStates => 2,
             Refused::InReopen => 3,
-            Refused::Nowhere => 4,
+            Refused::InOpen => 4,
+            Refused::Nowhere => 5,
         };
         counts[at] = counts[at].wrapping_add(1);
         if refused == Refused::Nowhere {
@@ -141,13 +171,13 @@ fn counted<R: Abort + Wait>(rt: &R, all: &LocalHeap) -> Result<[u64; 5], Fail> {
 fn counts_each<R: Abort + Wait>(rt: &R, all: &LocalHeap) -> Result<(), Fail> {
     let counts = counted(rt, all)?;
     same(rt, "used", all.used(), 0);
-    same(rt, "refused", counts, [22, 1, 1, 9, 1]);
+    same(rt, "refused", counts, [22, 1, 1, 10, 10, 1]);
     Ok(())
 }
 
 // A queue of two shards takes a row of them and one of who waits for their locks, and ten times for each: four for
-// its words, five for its slots, one for its wheel. A handle takes a row of callers, the states take one, and an
-// opening takes the words and the slots anew.
+// its words, five for its slots, one for its wheel. A handle takes a row of callers, the states take one, and each
+// opening takes all ten of a shard anew.
 // promise: lasting.shard-holds
 #[test]
 fn each_allocation_refused(rt: HostRuntime) -> Result<(), Fail> {

@@ -4,12 +4,9 @@
 //! linked the queue may be renewed: each slot begins anew, and the queue's keys carry a higher number from then on.
 //! So each key from before is refused for good.
 
-use crate::core::errors::CoreError;
 use crate::core::queue::DelayCore;
-use crate::core::slots::Slots;
 use crate::core::words::Words;
 use crate::fresh::are_fresh;
-use crate::ticks::{CAPACITY_LIMIT, LAST_STAMP};
 use core::{fmt, mem};
 
 /// Why a queue isn't renewed.
@@ -26,7 +23,7 @@ pub enum RenewError {
         /// The queue's number.
         number: u32,
     },
-    /// The words aren't as many as the slots, or the fresh slots not as many or with another last stamp.
+    /// The words aren't as many as the slots.
     WrongRows,
 }
 
@@ -44,35 +41,6 @@ impl fmt::Display for RenewError {
 
 #[cfg(feature = "std")]
 impl std::error::Error for RenewError {}
-
-/// Words and slots that were never used, one of each, for [`DelayCore::renew_with`]. Their memory is taken when they
-/// are made: before the lock is taken that a queue is behind, say.
-pub struct FreshRows<T, W: Words> {
-    words: W,
-    slots: Slots<T>,
-}
-
-impl<T, W: Words> FreshRows<T, W> {
-    /// Pairs `words` with a slot for each, which has `last_stamp` stamps. It takes memory for the slots.
-    ///
-    /// # Errors
-    /// The words come back. In this order:
-    /// - `BadConfig` if the words aren't 1 to [`CAPACITY_LIMIT`], or the last stamp isn't 1 to [`LAST_STAMP`].
-    /// - `NoMemory` if memory is refused.
-    pub fn new(words: W, last_stamp: u32) -> Result<FreshRows<T, W>, (CoreError, W)> {
-        // requires AreFresh (W.known words) (W.counts words)
-        let capacity = words.rows();
-        if capacity == 0 || capacity > CAPACITY_LIMIT || last_stamp == 0 || last_stamp > LAST_STAMP {
-            return Err((CoreError::BadConfig, words));
-        }
-        match Slots::new(capacity, last_stamp) {
-            Ok(slots) => Ok(FreshRows { words, slots }),
-            Err(_refused) => Err((CoreError::NoMemory, words)),
-        }
-    }
-}
-
-impl<T, W: Words> FreshRows<T, W> {}
 
 impl<T, W: Words> DelayCore<T, W> {
     /// Goes on with fresh `words`, under the number `shard`, and returns the words that it had. No slot is worn then,
@@ -135,45 +103,42 @@ impl<T, W: Words> DelayCore<T, W> {
         Ok(mem::replace(&mut self.words, words))
     }
 
-    /// Goes on with fresh words and slots, under the number `shard`, and returns the words and the slots that it had,
-    /// which hold no entry. No slot is worn then, and each has all its stamps again. The noted tick stays. Every key
-    /// from before has a lower number, so the queue refuses it for good. Callers of the old words stay at those, and
-    /// reach nothing new.
+    // Notes a tick, where nothing is linked, and goes to it. Constant time.
+    fn come_to(&mut self, tick: u64) {
+        // requires linked_in self.old ≡ 0
+        // requires self.old.noted ≤ tick
+        // requires tick ≤ LAST_TICK
+        self.noted = tick;
+        self.wheel.advance(tick);
+    }
+
+    /// Goes on as `fresh`, a queue of its own capacity under a higher number, and returns the whole queue that it was,
+    /// which holds no entry. The noted tick stays: `fresh` comes to it. Every key from before has a lower number, so
+    /// the queue refuses it for good. Callers of the old words stay at those, and reach nothing new.
     ///
-    /// It takes no memory and gives none back, in constant time. Values that wait for their drop go with the old
-    /// slots.
+    /// It takes no memory and gives none back, in constant time: so a queue behind a lock goes on as one that was made
+    /// while the lock was free. Values that wait for their drop go with the old queue.
     ///
     /// # Errors
-    /// The rows come back, and nothing changes. In this order:
+    /// `fresh` comes back, and nothing changes. In this order:
     /// - `StillLinked` if an entry is in the queue, even a cancelled one.
-    /// - `UsedNumber` if `shard` isn't higher than the queue's number.
-    /// - `WrongRows` if the rows aren't as many as the slots, or have another last stamp.
-    #[allow(clippy::type_complexity, clippy::result_large_err)]
-    pub(crate) fn renew_with(
+    /// - `UsedNumber` if the number of `fresh` isn't higher than the queue's.
+    #[allow(clippy::result_large_err)]
+    pub(crate) fn renew_as(
         &mut self,
-        shard: u32,
-        rows: FreshRows<T, W>,
-    ) -> Result<(W, Slots<T>), (RenewError, FreshRows<T, W>)> {
+        mut fresh: DelayCore<T, W>,
+    ) -> Result<DelayCore<T, W>, (RenewError, DelayCore<T, W>)> {
+        // requires linked_in fresh ≡ 0
+        // requires fresh.noted ≤ self.old.noted
         let linked = self.slots.linked();
         if linked > 0 {
-            return Err((RenewError::StillLinked { linked }, rows));
+            return Err((RenewError::StillLinked { linked }, fresh));
         }
-        if shard <= self.shard {
+        if fresh.shard <= self.shard {
             let number = self.shard;
-            return Err((RenewError::UsedNumber { number }, rows));
+            return Err((RenewError::UsedNumber { number }, fresh));
         }
-        if rows.slots.capacity() != self.slots.capacity() {
-            return Err((RenewError::WrongRows, rows));
-        }
-        if rows.slots.last() != self.slots.last() {
-            return Err((RenewError::WrongRows, rows));
-        }
-        let FreshRows { words, slots } = rows;
-        self.shard = shard;
-        self.inserted = 0;
-        self.expired = 0;
-        self.removed = 0;
-        let old = mem::replace(&mut self.slots, slots);
-        Ok((mem::replace(&mut self.words, words), old))
+        fresh.come_to(self.noted);
+        Ok(mem::replace(self, fresh))
     }
 }

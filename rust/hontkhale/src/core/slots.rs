@@ -52,7 +52,7 @@ impl<T> Cell<T> {
     // know: it keeps the read.
     #[inline(always)]
     fn once_read(&self, number: u64) -> u64 {
-        // requires self.now.stamp ≤ LAST_STAMP
+        // requires self.now.row.stamp ≤ LAST_STAMP
         number + (self.stamp / (LAST_STAMP + 1)) as u64
     }
 
@@ -84,7 +84,7 @@ impl<T> Cell<T> {
     // Puts a value in, and returns the one that was set aside here.
     #[inline]
     fn fill(&mut self, value: T) -> Option<T> {
-        // requires self.old.stamp + 1 < 2 ^ 32
+        // requires self.old.row.stamp + 1 < 2 ^ 32
         self.stamp += 1;
         self.born = self.stamp;
         self.value.replace(value)
@@ -92,7 +92,7 @@ impl<T> Cell<T> {
 
     #[inline]
     fn vacate(&mut self) -> Held<T> {
-        // requires is_held self.old ≡ true
+        // requires is_held self.old.row ≡ true
         let value = self.value.take().unwrap();
         let born = self.born;
         self.born = 0;
@@ -120,7 +120,7 @@ impl<T> Cell<T> {
 
     #[inline]
     fn raise(&mut self) {
-        // requires self.old.stamp + 1 < 2 ^ 32
+        // requires self.old.row.stamp + 1 < 2 ^ 32
         self.stamp += 1;
     }
 }
@@ -211,6 +211,35 @@ fn take_slot(free: &mut FreeSlots, deferred: &mut DeferredDrops) -> Option<usize
         Some(index) => Some(index),
         None => deferred.take(),
     }
+}
+
+// Takes out a value that waits for its drop, with the slot that it waited in; none comes exactly where none waits.
+fn take_waiting<T>(cells: &mut [Cell<T>], waiting: &mut DeferredDrops) -> Option<(usize, T)> {
+    // requires AreThere cells.old.items waiting.old
+    let index = waiting.take()?;
+    let cell = nth_mut(cells, index);
+    let value = cell.take_aside().unwrap();
+    Some((index, value))
+}
+
+// Takes out a value that waits for its drop, in a worn slot only where none waits in another, which is free then. None
+// comes exactly where none waits.
+fn take_any<T>(
+    cells: &mut [Cell<T>],
+    free: &mut FreeSlots,
+    deferred: &mut DeferredDrops,
+    deferred_worn: &mut DeferredDrops,
+) -> Option<T> {
+    // requires AreThere cells.old.items deferred.old
+    // requires AreThere cells.old.items deferred_worn.old
+    // requires AreTaken free.old deferred.old
+    if deferred.count() == 0 {
+        let (_, value) = take_waiting(cells, deferred_worn)?;
+        return Some(value);
+    }
+    let (index, value) = take_waiting(cells, deferred)?;
+    free.give(index);
+    Some(value)
 }
 
 // A poll reads a slot whose index is due. So its wheel reads these rows ahead.
@@ -335,24 +364,14 @@ impl<T> Slots<T> {
         }
     }
 
-    // Takes out a value that waits for its drop in a worn slot; none where none does.
-    fn take_from_worn(&mut self) -> Option<T> {
-        let index = self.deferred_worn.take()?;
-        if index >= self.cells.len() {
-            return None;
-        }
-        let cell = nth_mut(&mut self.cells, index);
-        cell.take_aside()
-    }
-
     /// Takes out a value that waits for its drop; none where none does.
     pub fn take_aside(&mut self) -> Option<T> {
-        let Some(index) = self.deferred.take() else {
-            return self.take_from_worn();
-        };
-        self.free.give(index);
-        let cell = nth_mut(&mut self.cells, index);
-        cell.take_aside()
+        take_any(
+            &mut self.cells,
+            &mut self.free,
+            &mut self.deferred,
+            &mut self.deferred_worn,
+        )
     }
 
     // Takes out a value that waits for its drop where one waits in each slot that a fill may take.

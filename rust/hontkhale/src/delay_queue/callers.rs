@@ -1,11 +1,16 @@
 //! From where entries are extended and cancelled without a lock: each thread keeps callers of the queues that it used last.
 
+use crate::core::{CallError, Look};
 use crate::delay_queue::asynchronous::Tasks;
+use crate::delay_queue::errors::KeyError;
+use crate::delay_queue::key::{Key, Places};
 use crate::delay_queue::time::Time;
 use crate::delay_queue::waking::Bell;
-use crate::lasting::LastingHandle;
+use crate::lasting::NumberedCaller;
+use crate::memory::{room_for, AllocError};
+use crate::ticks::{self, LAST_TICK};
 use std::cell::{Cell, RefCell};
-use std::mem;
+use std::mem::{self, ManuallyDrop};
 use std::sync::atomic::{
     AtomicBool, AtomicU64, AtomicUsize,
     Ordering::{Relaxed, SeqCst},
@@ -14,7 +19,7 @@ use std::sync::{Arc, Mutex, MutexGuard, PoisonError, Weak};
 use std::thread::{self, Thread};
 
 /// How many queues a thread keeps callers of.
-const PLACES: usize = 4;
+const QUEUES: usize = 4;
 /// How many threads have callers of one queue for themselves. A shard issues 1,024 of a generation.
 const CALLER_LIMIT: usize = 1_000;
 
@@ -27,29 +32,74 @@ static NEXT_THREAD: AtomicUsize = AtomicUsize::new(0);
 static ENDS: AtomicU64 = AtomicU64::new(0);
 
 thread_local! {
-    static KEPT: RefCell<Places> = const { RefCell::new(Places { kept: [None, None, None, None], ends: 0 }) };
+    static KEPT: RefCell<ManuallyDrop<Keeps>> = const { RefCell::new(ManuallyDrop::new(Keeps::NOTHING)) };
+    static DROPS_KEPT: DropsKept = const { DropsKept };
     static ROUTE: Cell<Option<usize>> = const { Cell::new(None) };
 }
 
 /// The number of this thread, by which its inserts are routed.
 #[inline]
 pub(crate) fn route() -> usize {
-    let number = || NEXT_THREAD.fetch_add(1, SeqCst);
-    let known = ROUTE.try_with(|route| {
-        let drawn = route.get().unwrap_or_else(number);
-        route.set(Some(drawn));
-        drawn
-    });
-    known.unwrap_or(0)
+    ROUTE.with(|route| match route.get() {
+        Some(number) => number,
+        None => drawn(route),
+    })
 }
 
-/// A handle of each segment, made as it is needed.
-pub(crate) type Handles = Vec<Option<LastingHandle>>;
+#[cold]
+fn drawn(route: &Cell<Option<usize>>) -> usize {
+    let number = NEXT_THREAD.fetch_add(1, SeqCst);
+    route.set(Some(number));
+    number
+}
+
+/// Callers of each segment, made as they are needed.
+pub(crate) type Callers = Vec<SegmentCallers>;
+
+/// Callers of a segment's shards by their places, each made as it is needed.
+pub(crate) struct SegmentCallers {
+    row: Box<[Option<NumberedCaller>]>,
+    places: Places,
+}
+
+impl SegmentCallers {
+    fn nothing() -> SegmentCallers {
+        SegmentCallers {
+            row: Box::default(),
+            places: Places::new(1),
+        }
+    }
+
+    /// Where the caller of a shard is in a row, which is made for so many places where there is none.
+    pub fn at<'c>(
+        callers: &'c mut Callers,
+        key: &Key,
+        places: Places,
+    ) -> Result<&'c mut Option<NumberedCaller>, AllocError> {
+        let segment = key.segment();
+        if callers.len() <= segment {
+            callers
+                .try_reserve(segment + 1 - callers.len())
+                .map_err(|_| AllocError)?;
+            callers.resize_with(segment + 1, SegmentCallers::nothing);
+        }
+        let known = &mut callers[segment];
+        if known.row.is_empty() {
+            let mut row = room_for(places.count())?;
+            row.resize_with(places.count(), || None);
+            *known = SegmentCallers {
+                row: row.into_boxed_slice(),
+                places,
+            };
+        }
+        Ok(&mut known.row[places.place_of(key.number())])
+    }
+}
 
 /// What a queue, its handles and the threads' callers share. It knows nothing of the values.
 pub(crate) struct Front {
     /// The number that no other queue of the process has.
-    id: u64,
+    pub id: u64,
     pub time: Time,
     pub bell: Bell<Thread>,
     /// The tasks that receive.
@@ -61,10 +111,10 @@ pub(crate) struct Front {
     lanes: [Lane; LANES],
     /// The segments that are closed, a bit for each.
     closed: AtomicU64,
-    idle: Mutex<Vec<Handles>>,
+    idle: Mutex<Vec<Callers>>,
     issued: AtomicUsize,
     /// Of the threads that have none for themselves.
-    shared: Mutex<Handles>,
+    shared: Mutex<Callers>,
 }
 
 /// The most entries of a queue, and how many wait.
@@ -96,40 +146,156 @@ impl Bound {
         self.waiting.load(SeqCst)
     }
 
-    pub fn uncount(&self) {
-        self.waiting.fetch_sub(1, SeqCst);
+    pub fn uncount(&self, entries: usize) {
+        self.waiting.fetch_sub(entries, SeqCst);
     }
 }
 
-/// What a step by a thread's own handle came to, in a register: a deadline, or one of the two below.
+/// What a step by key came to, in a register: a deadline, an error, or that it isn't told. An atomic step waits for each store
+/// before it, so that a step is made with few.
 #[derive(Clone, Copy, PartialEq, Eq)]
-pub(crate) struct Quick(pub u64);
+pub(crate) struct Told(u64);
 
-impl Quick {
-    /// The entry has ended.
-    pub const ENDED: Quick = Quick(u64::MAX - 1);
+const ERRORS: [KeyError; 5] = [
+    KeyError::WrongQueue,
+    KeyError::Closed,
+    KeyError::Ended,
+    KeyError::TooFar,
+    KeyError::NoMemory,
+];
+
+impl Told {
     /// It takes the shard's lock to tell.
-    pub const UNTOLD: Quick = Quick(u64::MAX);
+    pub const NOT_YET: Told = Told(u64::MAX);
+
+    /// Of a step by a thread's own caller.
+    #[inline(always)]
+    fn by_own(made: Result<u64, CallError>) -> Told {
+        match made {
+            Ok(deadline) => Told(deadline),
+            Err(CallError::Ended { how }) if !matches!(how, Look::LookRemoved(_)) => Told::error(KeyError::Ended),
+            // It may have a newer key, or have been moved: one that was is found as removed.
+            Err(_) => Told::NOT_YET,
+        }
+    }
+
+    const fn error(error: KeyError) -> Told {
+        Told(u64::MAX - 1 - error as u64)
+    }
+
+    #[inline(always)]
+    pub fn result(self) -> Result<u64, KeyError> {
+        if self.0 <= LAST_TICK {
+            Ok(self.0)
+        } else {
+            Err(ERRORS[(u64::MAX - 1 - self.0) as usize % ERRORS.len()])
+        }
+    }
+}
+
+impl From<Result<u64, KeyError>> for Told {
+    fn from(made: Result<u64, KeyError>) -> Told {
+        made.map_or_else(Told::error, Told)
+    }
+}
+
+/// What a step makes of the caller that this thread has of a key's shard, of the queue of that number. It takes no lock.
+#[inline(always)]
+fn with_own(id: u64, key: Key, step: impl FnOnce(&mut NumberedCaller) -> Result<u64, CallError>) -> Told {
+    let made = KEPT.with(|kept| {
+        let mut keeps = kept.try_borrow_mut().ok()?;
+        let is_tidy = keeps.ends == ENDS.load(Relaxed);
+        let kept = &mut keeps.kept[key.queue() as usize % QUEUES];
+        if kept.id != id || key.queue() != id as u32 || !is_tidy {
+            return None;
+        }
+        let known = kept.callers.get_mut(key.segment())?;
+        let caller = known.row.get_mut(known.places.place_of(key.number()))?;
+        Some(Told::by_own(step(caller.as_mut()?)))
+    });
+    made.unwrap_or(Told::NOT_YET)
+}
+
+/// Lets the callers go that this thread needs no longer, and tells whether a step by its own may be tried again.
+#[cold]
+pub(crate) fn tidy_own() -> bool {
+    KEPT.with(|kept| match kept.try_borrow_mut() {
+        Ok(mut keeps) if keeps.ends != ENDS.load(Relaxed) => {
+            keeps.tidy();
+            true
+        }
+        _ => false,
+    })
+}
+
+/// An extend by this thread's own caller.
+#[inline(never)]
+pub(crate) fn extend_by_own(id: u64, key: Key, tick: u64) -> Told {
+    with_own(id, key, |caller| caller.extend(&key.inner(), tick))
+}
+
+/// A cancel by it.
+#[inline(never)]
+pub(crate) fn cancel_by_own(id: u64, key: Key) -> Told {
+    with_own(id, key, |caller| caller.cancel(&key.inner()))
+}
+
+/// A look by it.
+#[inline(never)]
+pub(crate) fn look_by_own(id: u64, key: Key) -> Told {
+    with_own(id, key, |caller| deadline_by(caller, &key.inner()))
+}
+
+/// The deadline of a live entry.
+pub(crate) fn deadline_by(caller: &mut NumberedCaller, key: &ticks::Key) -> Result<u64, CallError> {
+    match caller.look(key)? {
+        Look::StillLive(deadline) => Ok(deadline),
+        how => Err(CallError::Ended { how }),
+    }
 }
 
 /// What a thread keeps.
-struct Places {
-    kept: [Option<Kept>; PLACES],
+struct Keeps {
+    kept: [Kept; QUEUES],
     /// What the thread saw of `ENDS` last.
     ends: u64,
 }
 
+/// Drops what the thread keeps as it ends. So what is kept has no drop of its own, for which each step would ask whether it was
+/// made already.
+struct DropsKept;
+
+impl Drop for DropsKept {
+    fn drop(&mut self) {
+        let kept = KEPT.with(|kept| Some(mem::replace(&mut **kept.try_borrow_mut().ok()?, Keeps::NOTHING)));
+        drop(kept);
+    }
+}
+
 /// A thread's callers of one queue. They go back to the queue with the thread, or where another queue wants the place.
 struct Kept {
+    /// The queue's number, 0 where it is of none.
     id: u64,
-    front: Weak<Front>,
-    handles: Handles,
+    front: Option<Weak<Front>>,
+    callers: Callers,
+}
+
+impl Kept {
+    const NOTHING: Kept = Kept {
+        id: 0,
+        front: None,
+        callers: Vec::new(),
+    };
+
+    fn front(&self) -> Option<Arc<Front>> {
+        self.front.as_ref()?.upgrade()
+    }
 }
 
 impl Drop for Kept {
     fn drop(&mut self) {
-        if let Some(front) = self.front.upgrade() {
-            front.put_back(mem::take(&mut self.handles));
+        if let Some(front) = self.front() {
+            front.put_back(mem::take(&mut self.callers));
         }
     }
 }
@@ -172,14 +338,14 @@ impl Front {
     #[inline]
     pub fn count_cancel(&self) {
         self.lane().cancels.fetch_add(1, SeqCst);
-        self.count_out();
+        self.count_out(1);
     }
 
-    /// Counts an entry that waits no longer.
+    /// Counts entries that wait no longer.
     #[inline]
-    pub fn count_out(&self) {
+    pub fn count_out(&self, entries: usize) {
         if let Some(bound) = &self.bound {
-            bound.uncount();
+            bound.uncount(entries);
         }
     }
 
@@ -196,105 +362,83 @@ impl Front {
         let shared = mem::take(&mut *self.shared());
         drop((idle, shared));
         ENDS.fetch_add(1, SeqCst);
-        let _ = KEPT.try_with(|kept| kept.try_borrow_mut().map(|mut places| places.tidy()));
+        tidy_own();
     }
 
     /// Notes that a segment is closed, or opened again. The callers that threads have of a closed one go.
     pub fn note_closed(&self, segment: usize, is_closed: bool) {
         if is_closed {
             self.closed.fetch_or(1 << segment, SeqCst);
-            self.idle().iter_mut().for_each(|handles| self.forget_closed(handles));
+            self.idle().iter_mut().for_each(|callers| self.forget_closed(callers));
             self.forget_closed(&mut self.shared());
             ENDS.fetch_add(1, SeqCst);
-            let _ = KEPT.try_with(|kept| kept.try_borrow_mut().map(|mut places| places.tidy()));
+            tidy_own();
         } else {
             self.closed.fetch_and(!(1 << segment), SeqCst);
         }
     }
 
-    fn forget_closed(&self, handles: &mut Handles) {
+    fn forget_closed(&self, callers: &mut Callers) {
         let closed = self.closed.load(SeqCst);
-        for (segment, handle) in handles.iter_mut().enumerate() {
+        for (segment, known) in callers.iter_mut().enumerate() {
             if closed >> segment & 1 == 1 {
-                *handle = None;
+                *known = SegmentCallers::nothing();
             }
         }
     }
 
-    fn idle(&self) -> MutexGuard<'_, Vec<Handles>> {
+    fn idle(&self) -> MutexGuard<'_, Vec<Callers>> {
         self.idle.lock().unwrap_or_else(PoisonError::into_inner)
     }
 
-    fn shared(&self) -> MutexGuard<'_, Handles> {
+    fn shared(&self) -> MutexGuard<'_, Callers> {
         self.shared.lock().unwrap_or_else(PoisonError::into_inner)
     }
 
     /// Callers that no other thread has; none where as many threads have some as may.
-    fn take(&self) -> Option<Handles> {
+    fn take(&self) -> Option<Callers> {
         let idle = self.idle().pop();
         idle.or_else(|| {
             let more = |issued| if issued < CALLER_LIMIT { Some(issued + 1) } else { None };
             self.issued
                 .fetch_update(SeqCst, SeqCst, more)
                 .ok()
-                .map(|_| Handles::new())
+                .map(|_| Callers::new())
         })
     }
 
-    fn put_back(&self, handles: Handles) {
+    fn put_back(&self, callers: Callers) {
         let mut idle = self.idle();
         // Where memory is refused they go.
         if !self.is_ended() && idle.try_reserve(1).is_ok() {
-            idle.push(handles);
+            idle.push(callers);
         }
     }
 
-    /// What a step makes of the handle that this thread has of a segment; none where it has none. It takes no lock.
-    #[inline(always)]
-    pub fn with_own(&self, segment: usize, step: impl FnOnce(&mut LastingHandle) -> Quick) -> Quick {
-        let made = KEPT.try_with(|kept| {
-            let Ok(mut places) = kept.try_borrow_mut() else {
-                return Quick::UNTOLD;
-            };
-            if places.ends != ENDS.load(Relaxed) {
-                places.tidy();
-            }
-            match &mut places.kept[self.id as usize % PLACES] {
-                Some(place) if place.id == self.id => match place.handles.get_mut(segment) {
-                    Some(Some(handle)) => step(handle),
-                    _ => Quick::UNTOLD,
-                },
-                _ => Quick::UNTOLD,
-            }
-        });
-        made.unwrap_or(Quick::UNTOLD)
-    }
-
-    /// What a call makes of this thread's handles, or of those that several threads share, where more call than may have
-    /// handles for themselves. Nobody's code runs in the call.
+    /// What a call makes of this thread's callers, or of those that several threads share, where more call than may have
+    /// callers for themselves. Nobody's code runs in the call.
     #[cold]
-    pub fn with_handles<R>(self: &Arc<Front>, call: impl FnOnce(&mut Handles) -> R) -> R {
+    pub fn with_callers<R>(self: &Arc<Front>, call: impl FnOnce(&mut Callers) -> R) -> R {
         let mut call = Some(call);
-        let mut once = |handles: &mut Handles| call.take().map(|call| call(handles));
-        let kept = KEPT.try_with(|kept| {
-            let mut places = kept.try_borrow_mut().ok()?;
-            match &mut places.kept[self.id as usize % PLACES] {
-                Some(place) if place.id == self.id => once(&mut place.handles),
-                place => once(&mut place.insert(self.keep()?).handles),
+        let mut once = |callers: &mut Callers| call.take().map(|call| call(callers));
+        let kept = KEPT.with(|kept| {
+            let mut keeps = kept.try_borrow_mut().ok()?;
+            DROPS_KEPT.try_with(|_| ()).ok()?;
+            let place = &mut keeps.kept[self.id as usize % QUEUES];
+            if place.id != self.id {
+                *place = self.keep()?;
             }
+            once(&mut place.callers)
         });
-        match kept {
-            Ok(Some(made)) => made,
-            _ => once(&mut self.shared()).expect("it was made once alone"),
-        }
+        kept.unwrap_or_else(|| once(&mut self.shared()).expect("it was made once alone"))
     }
 
     /// Callers of this queue for a thread that has none.
     fn keep(self: &Arc<Front>) -> Option<Kept> {
         Some(Kept {
             id: self.id,
-            handles: self.take()?,
-            front: Arc::downgrade(self),
+            callers: self.take()?,
+            front: Some(Arc::downgrade(self)),
         })
     }
 
@@ -333,16 +477,20 @@ impl Front {
     }
 }
 
-impl Places {
+impl Keeps {
+    const NOTHING: Keeps = Keeps {
+        kept: [Kept::NOTHING; QUEUES],
+        ends: 0,
+    };
+
     /// Lets the callers go of queues that have ended, and of segments that were closed.
     #[cold]
     fn tidy(&mut self) {
         self.ends = ENDS.load(SeqCst);
-        for place in &mut self.kept {
-            let front = place.as_ref().and_then(|kept| kept.front.upgrade());
-            match (&mut *place, front.filter(|front| !front.is_ended())) {
-                (Some(kept), Some(front)) => front.forget_closed(&mut kept.handles),
-                (place, _) => *place = None,
+        for kept in &mut self.kept {
+            match kept.front().filter(|front| !front.is_ended()) {
+                Some(front) => front.forget_closed(&mut kept.callers),
+                None => *kept = Kept::NOTHING,
             }
         }
     }

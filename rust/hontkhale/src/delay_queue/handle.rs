@@ -1,6 +1,6 @@
 //! What reaches entries from elsewhere: a handle, which knows nothing of the values, and a guard of one entry.
 
-use crate::delay_queue::callers::Front;
+use crate::delay_queue::callers::{Front, Told};
 use crate::delay_queue::errors::KeyError;
 use crate::delay_queue::key::Key;
 use crate::delay_queue::shared::{quick_step, Shared, Step, Steps};
@@ -32,11 +32,11 @@ impl Handle {
         if self.front.is_ended() {
             return Err(KeyError::Closed);
         }
-        let made = match quick_step(&self.front, key, step) {
-            Some(made) => made,
-            None => self.queue.upgrade().ok_or(KeyError::Closed)?.slow_step(key, step),
-        };
-        Ok(self.front.time.moment(made?))
+        let mut told = quick_step(&self.front, key, step);
+        if told == Told::NOT_YET {
+            told = self.queue.upgrade().ok_or(KeyError::Closed)?.slow_step(key, step);
+        }
+        Ok(self.front.time.moment(told.result()?))
     }
 
     /// Raises the deadline of an entry to `after` from now, and returns the deadline that is then in force: that one, or a

@@ -5,6 +5,35 @@ use std::cmp::Ordering;
 use std::fmt;
 use std::hash::{Hash, Hasher};
 
+/// At which of so many places the shard of a number stands: the number's remainder, without a division, which takes longer than
+/// all else of an extend. The first product is the number's part behind the point, in parts of 2^64, once it is divided.
+#[derive(Clone, Copy)]
+pub(crate) struct Places {
+    count: u64,
+    inverse: u64,
+}
+
+impl Places {
+    /// So many, at least one.
+    pub fn new(count: usize) -> Places {
+        let count = count as u64;
+        Places {
+            count,
+            inverse: (u64::MAX / count).wrapping_add(1),
+        }
+    }
+
+    pub fn count(&self) -> usize {
+        self.count as usize
+    }
+
+    #[inline(always)]
+    pub fn place_of(&self, number: u32) -> usize {
+        let part = self.inverse.wrapping_mul(u64::from(number));
+        ((u128::from(part) * u128::from(self.count)) >> 64) as usize
+    }
+}
+
 /// The bits of a birth or of a stamp, of an index, and of a number in a key.
 const STAMP_BITS: u32 = 20;
 const INDEX_BITS: u32 = 16;
@@ -118,5 +147,28 @@ impl fmt::Debug for Key {
             .field("index", &entry.index())
             .field("born", &entry.born())
             .finish()
+    }
+}
+
+#[cfg(test)]
+mod tests {
+    use super::Places;
+
+    #[test]
+    fn the_place_of_a_number_is_its_remainder() {
+        for count in 1..=100_u32 {
+            let places = Places::new(count as usize);
+            let ends = (0..300).map(|back| u32::MAX - back);
+            let multiples = (1..300).map(|times| u32::MAX / count / times * count);
+            let around =
+                multiples.flat_map(|multiple| [multiple.saturating_sub(1), multiple, multiple.saturating_add(1)]);
+            for number in (0..1_000).chain(ends).chain(around) {
+                assert_eq!(
+                    places.place_of(number),
+                    (number % count) as usize,
+                    "{number} of {count}"
+                );
+            }
+        }
     }
 }

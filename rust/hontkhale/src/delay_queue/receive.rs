@@ -7,6 +7,7 @@ use crate::delay_queue::shared::{Room, Shared, TRIES};
 use crate::delay_queue::waking::{Todo, Wait};
 use crate::delay_queue::{DelayQueue, Expired};
 use std::fmt;
+use std::slice;
 use std::sync::atomic::Ordering::{Relaxed, SeqCst};
 use std::thread;
 use std::time::{Duration, Instant};
@@ -107,13 +108,13 @@ impl<T> Shared<T> {
     }
 
     /// The shard that has something due first, where one has.
-    fn most_due(&self, now: u64) -> Option<(usize, usize)> {
+    fn most_due(&self, now: u64) -> Option<Room> {
         let mut least = (now.saturating_add(1), None);
         for (at, segment) in self.segments() {
             for (place, row) in segment.rows.iter().enumerate() {
                 let hint = row.hint();
                 if hint < least.0 {
-                    least = (hint, Some((at, place)));
+                    least = (hint, Some(Room { left: TRIES, at, place }));
                 }
             }
         }
@@ -122,40 +123,39 @@ impl<T> Shared<T> {
 
     /// A shard that may have something due: the one from which this thread took last, a few times, so that not all hints are
     /// read each time.
-    #[inline]
-    fn due_place(&self, now: u64) -> Option<(usize, usize)> {
+    #[inline(always)]
+    fn due_place(&self, now: u64) -> Option<Room> {
         let noted = &self.front.lane().due;
-        let Room { left, at, place } = Room::of(noted.load(Relaxed));
-        let is_due = |segment: &Segment<T>| left > 0 && segment.rows[place].hint() <= now;
-        let room = if self.segment(at).is_some_and(is_due) {
-            Room {
-                left: left - 1,
-                at,
-                place,
-            }
+        let last = Room::of(noted.load(Relaxed));
+        let is_due = |segment: &Segment<T>| last.left > 0 && segment.rows[last.place].hint() <= now;
+        let room = if self.segment(last.at).is_some_and(is_due) {
+            last.tried()
         } else {
-            let (at, place) = self.most_due(now)?;
-            Room { left: TRIES, at, place }
+            self.most_due(now)?
         };
         noted.store(room.packed(), Relaxed);
-        Some((room.at, room.place))
+        Some(room)
     }
 
     /// Takes an entry out that is due, by a poll that is a whole one of a shard of at most so many entries.
+    #[inline(always)]
     pub fn take_step(&self, whole: usize) -> Step<T> {
         let now = self.front.time.tick();
-        let Some((at, place)) = self.due_place(now) else {
+        let Some(room) = self.due_place(now) else {
             return Step::Rests;
         };
         let mut out = None;
-        self.poll(at, place, now, whole, |expired| {
+        self.poll(&room, now, whole, |expired| {
             out = Some(expired);
             false
         });
-        out.map_or(Step::Works, |mut out| {
-            self.note_out(&mut out);
-            Step::Took(out)
-        })
+        match out {
+            None => Step::Works,
+            Some(mut out) => {
+                self.note_out(slice::from_mut(&mut out));
+                Step::Took(out)
+            }
+        }
     }
 
     /// An entry that is due.
@@ -174,54 +174,57 @@ impl<T> Shared<T> {
         let now = self.front.time.tick();
         let before = row.len();
         while row.len() - before < most {
-            let Some((at, place)) = self.most_due(now) else {
+            let Some(room) = self.most_due(now) else {
                 break;
             };
             let first = row.len();
             let until = first + TAKEN_AT_ONCE.min(most - (first - before));
             row.reserve(until - first);
-            self.poll(at, place, now, POLLED_WHOLE, |expired| {
+            self.poll(&room, now, POLLED_WHOLE, |expired| {
                 row.push(expired);
                 row.len() < until
             });
-            row[first..].iter_mut().for_each(|out| self.note_out(out));
+            self.note_out(&mut row[first..]);
         }
         row.len() - before
     }
 
-    /// Takes out what is due in a shard while `more` says so.
-    #[inline]
-    fn poll(&self, at: usize, place: usize, now: u64, whole: usize, mut more: impl FnMut(Expired<T>) -> bool) {
-        let segment = self.segment(at).expect("a segment of the queue");
-        let mut shard = segment.enter(place);
+    /// Takes out what is due in a shard while `more` says so. Who takes one after the other from the same shard leaves its hint
+    /// as it is, too early, until it has taken some or nothing is due there.
+    #[inline(always)]
+    fn poll(&self, room: &Room, now: u64, whole: usize, mut more: impl FnMut(Expired<T>) -> bool) {
+        let segment = self.segment(room.at).expect("a segment of the queue");
+        let mut shard = segment.enter(room.place);
         let mut latest = 0;
-        let is_through = loop {
+        loop {
             match shard.poll(now, whole) {
                 Piece::Answer(Turn::Out(out)) => {
                     latest = latest.max(now.saturating_sub(out.deadline));
-                    if !more(self.expired(at, out)) {
-                        break true;
+                    if more(self.expired(room.at, out)) {
+                        continue;
+                    }
+                    if room.left == TRIES {
+                        shard.set_hint(shard.core().next_wake());
                     }
                 }
-                Piece::Answer(Turn::Waiting { .. } | Turn::Idle) => break true,
+                Piece::Answer(Turn::Waiting { next }) => shard.set_hint(Some(next)),
+                Piece::Answer(Turn::Idle) => shard.set_hint(None),
                 // The hint is as it was, so the shard is asked again.
-                Piece::Working => break false,
+                Piece::Working => {}
             }
-        };
-        if is_through {
-            shard.set_hint();
+            break;
         }
         let is_last = shard.core().is_empty();
         drop(shard);
         if latest > self.latest.load(Relaxed) {
             self.latest.fetch_max(latest, SeqCst);
         }
-        if is_last && at > 0 {
+        if is_last && room.at > 0 {
             self.shrink();
         }
     }
 
-    #[inline]
+    #[inline(always)]
     fn expired(&self, at: usize, out: Out<T>) -> Expired<T> {
         Expired {
             key: self.key(at, &out.key),
@@ -230,12 +233,13 @@ impl<T> Shared<T> {
         }
     }
 
-    /// Notes that an entry came out, and gives it the key that its insert had. No lock of a shard is held.
-    #[inline]
-    fn note_out(&self, out: &mut Expired<T>) {
-        self.front.count_out();
+    /// Notes that entries came out, and gives each the key that its insert had. No lock of a shard is held. An entry that was
+    /// moved is counted as moved until it is noted here.
+    #[inline(always)]
+    fn note_out(&self, outs: &mut [Expired<T>]) {
+        self.front.count_out(outs.len());
         if self.has_moved() {
-            out.key = self.key_of_user(out.key);
+            outs.iter_mut().for_each(|out| out.key = self.key_of_user(out.key));
         }
     }
 }
@@ -360,7 +364,7 @@ impl<'q, T> Drain<'q, T> {
             };
             drop(shard);
             let front = &self.shared.front;
-            front.count_out();
+            front.count_out(1);
             let key = self.shared.key_of_user(self.shared.key(self.segment, &removed.key));
             return Some((key, front.time.moment(removed.deadline), removed.value));
         }

@@ -1,13 +1,14 @@
 //! A queue's rows of shards, which are made one after the other as entries come, and give their memory back once they go.
 
-use crate::core::{CoreConfig, CoreError, DelayCore, Piece};
+use crate::core::{CoreError, DelayCore, Piece};
 use crate::delay_queue::dropping::{Dropping, LetGo};
+use crate::delay_queue::key::Places;
 use crate::delay_queue::waking::NEVER;
-use crate::lasting::{with_ended, LastingConfig, LastingQueue, LastingShard};
+use crate::lasting::{fresh_queue, Anew, LastingConfig, LastingQueue, LastingShard, NumberedCaller};
 use crate::locks::MutexGuard;
 use crate::memory::room_for;
 use crate::ticks::{EntryId, Key};
-use crate::words::{numbered_queue, Keeper};
+use crate::words::{Keeper, WordsError};
 use std::sync::atomic::{
     AtomicBool, AtomicU64, AtomicUsize,
     Ordering::{Relaxed, SeqCst},
@@ -37,6 +38,7 @@ pub(crate) struct Row {
 pub(crate) struct Segment<T> {
     pub queue: LastingQueue<T>,
     pub rows: Box<[Row]>,
+    pub places: Places,
     config: LastingConfig,
     /// Whether its memory was given back.
     is_closed: AtomicBool,
@@ -81,6 +83,7 @@ impl<T> Segment<T> {
         Ok(Segment {
             queue: LastingQueue::new(config)?,
             rows: rows.into_boxed_slice(),
+            places: Places::new(config.shards),
             config,
             is_closed: AtomicBool::new(false),
             is_worn: AtomicBool::new(false),
@@ -107,7 +110,7 @@ impl<T> Segment<T> {
     /// The place of a shard's number.
     #[inline]
     pub fn place_of(&self, number: u32) -> usize {
-        (number % self.rows.len() as u32) as usize
+        self.places.place_of(number)
     }
 
     /// The shard at a place, with its lock held.
@@ -226,31 +229,24 @@ impl<T> Segment<T> {
 
     /// Puts an empty queue of that capacity in the place of each shard's, which is empty, under the shard's next number: keys
     /// from before are missing for good. It tells whether it did so in each shard: not where memory is refused, or a
-    /// number is the last.
+    /// number is the last. All queues are made before the first one is put in.
     fn put_in(&self, capacity: usize, takes: bool) -> bool {
-        let by = self.rows.len() as u32;
-        let next = |place| {
-            let shard = self.queue.lock(place).attended.core.shard().checked_add(by)?;
-            let last_stamp = self.config.last_stamp;
-            numbered_queue(CoreConfig {
-                shard,
-                capacity,
-                last_stamp,
-            })
-            .ok()
+        let next = |place| match self.queue.open_at(place, None, capacity, takes).0 {
+            Anew::Wants(config) => fresh_queue(config),
+            _ => None,
         };
         let Ok(mut made) = room_for(self.rows.len()) else {
             return false;
         };
         made.extend((0..self.rows.len()).map_while(next));
-        if made.len() < self.rows.len() {
-            return false;
-        }
-        for (place, core) in made.into_iter().enumerate() {
+        made.len() == self.rows.len() && made.into_iter().enumerate().all(|(place, core)| {
             // The one that goes is dropped once the lock is free.
-            let _old = self.enter(place).replace(core, takes);
-        }
-        true
+            let (anew, _old, _aside) = self.queue.open_at(place, Some(core), capacity, takes);
+            let mut shard = self.enter(place);
+            let next = shard.core().next_wake();
+            shard.set_hint(next);
+            anew == Anew::Done
+        })
     }
 }
 
@@ -286,6 +282,11 @@ impl<T> Locked<'_, T> {
         &mut self.shard.attended.core
     }
 
+    /// One caller more of the shard.
+    pub fn issue(&mut self) -> Result<NumberedCaller, WordsError> {
+        self.shard.issue()
+    }
+
     /// Puts an entry in where none of the values is set aside. The value comes back where there is no room.
     #[inline(always)]
     pub fn insert(&mut self, value: T, tick: u64) -> Result<Key, T> {
@@ -319,16 +320,15 @@ impl<T> Locked<'_, T> {
     }
 
     /// Notes when something is due next, after a poll.
-    pub fn set_hint(&mut self) {
-        let next = self.core().next_wake().unwrap_or(NEVER);
-        self.row.hint.store(next, SeqCst);
+    #[inline]
+    pub fn set_hint(&mut self, next: Option<u64>) {
+        self.row.hint.store(next.unwrap_or(NEVER), SeqCst);
     }
 
     /// Whether it takes an entry.
     #[inline]
     pub fn has_room(&self) -> bool {
-        let core = self.core();
-        self.shard.takes && core.len() + core.worn() < core.capacity()
+        self.shard.takes && self.core().slots.free_count > 0
     }
 
     /// Whether it takes an entry of its own again once that is removed, and drops no value then. The slot is free for it unless
@@ -343,16 +343,6 @@ impl<T> Locked<'_, T> {
     pub fn reaped(&self) -> u64 {
         self.shard.past.cancelled + self.core().tally().cancelled
     }
-
-    fn replace(&mut self, core: DelayCore<T, Keeper>, takes: bool) -> DelayCore<T, Keeper> {
-        // What has ended counts on.
-        if let Some(past) = with_ended(&self.shard.past, &self.core().tally()) {
-            self.shard.past = past;
-        }
-        self.shard.takes = takes;
-        self.row.hint.store(NEVER, SeqCst);
-        std::mem::replace(self.core_mut(), core)
-    }
 }
 
 impl<T> Drop for Locked<'_, T> {
@@ -360,11 +350,11 @@ impl<T> Drop for Locked<'_, T> {
     #[inline(always)]
     fn drop(&mut self) {
         let core = self.core();
-        let (len, worn, capacity) = (core.len(), core.worn(), core.capacity());
+        let (len, free, capacity) = (core.len(), core.slots.free_count, core.capacity());
         let left = self.shard.past.cancelled + core.inserted - core.expired - core.removed;
         self.row.left.store(left, Relaxed);
         self.row.linked.store(len, Relaxed);
-        let has_room = self.shard.takes && len + worn < capacity;
+        let has_room = self.has_room();
         if has_room != self.row.has_room() {
             self.row.has_room.store(has_room, SeqCst);
         }
@@ -372,7 +362,8 @@ impl<T> Drop for Locked<'_, T> {
             self.row.has_aside.store(true, SeqCst);
             self.segment.let_go.has_aside.store(true, SeqCst);
         }
-        if worn >= capacity - capacity / 2 && self.shard.takes {
+        // Half of the slots are worn, and no stamp is left there.
+        if len + free <= capacity / 2 && self.shard.takes {
             self.segment.is_worn.store(true, SeqCst);
         }
     }

@@ -4,8 +4,9 @@ mod due;
 mod reserve;
 mod sweep;
 
-use crate::core::{CallError, CoreError, Look, Removed};
-use crate::delay_queue::callers::{route, Bound, Front, Handles, Quick};
+use crate::core::{CallError, CoreError, Removed};
+use crate::delay_queue::callers::{cancel_by_own, deadline_by, extend_by_own, look_by_own, route, tidy_own};
+use crate::delay_queue::callers::{Bound, Callers, Front, SegmentCallers, Told};
 use crate::delay_queue::dropping::{Dropping, LetGo};
 use crate::delay_queue::errors::{InsertErrorKind, KeyError};
 use crate::delay_queue::key::Key;
@@ -13,7 +14,7 @@ use crate::delay_queue::moves::Moves;
 use crate::delay_queue::segment::{Locked, Row, Segment};
 use crate::delay_queue::shared::sweep::Sweep;
 use crate::delay_queue::waking::NEVER;
-use crate::lasting::{Kept, LastingConfig, LastingHandle};
+use crate::lasting::{Kept, LastingConfig, NumberedCaller};
 use crate::memory::room_for;
 use crate::ticks::LAST_TICK;
 use crate::ticks::{self, EntryId, CAPACITY_LIMIT};
@@ -70,7 +71,7 @@ pub(crate) struct Shared<T> {
     sweep: Mutex<Sweep>,
 }
 
-/// What is asked of a thread's handle.
+/// What is asked of a thread's caller.
 #[derive(Clone, Copy)]
 pub(crate) enum Step {
     /// To a tick at the least.
@@ -86,53 +87,39 @@ impl Step {
     }
 
     #[inline(always)]
-    fn make(self, handle: &mut LastingHandle, key: &ticks::Key) -> Result<u64, CallError> {
+    fn make(self, caller: &mut NumberedCaller, key: &ticks::Key) -> Result<u64, CallError> {
         match self {
-            Step::Extend(tick) => handle.extend(key, tick),
-            Step::Cancel => handle.cancel(key),
-            Step::Look => match handle.look(key)? {
-                Look::StillLive(deadline) => Ok(deadline),
-                how => Err(CallError::Ended { how }),
-            },
+            Step::Extend(tick) => caller.extend(key, tick),
+            Step::Cancel => caller.cancel(key),
+            Step::Look => deadline_by(caller, key),
         }
     }
 }
 
-/// A step by a thread's own handle, without a lock. None where it takes the shard's to tell.
+/// A step by a thread's own caller, without a lock.
 #[inline(always)]
-pub(crate) fn quick_step(front: &Front, key: &Key, step: Step) -> Option<Result<u64, KeyError>> {
-    if key.queue() != front.number() {
-        return Some(Err(KeyError::WrongQueue));
+pub(crate) fn quick_step(front: &Front, key: &Key, step: Step) -> Told {
+    match step {
+        Step::Extend(tick) => extend_by_own(front.id, *key, tick),
+        Step::Look => look_by_own(front.id, *key),
+        Step::Cancel => {
+            let told = cancel_by_own(front.id, *key);
+            if told.result().is_ok() {
+                front.count_cancel();
+            }
+            told
+        }
     }
-    let made = front.with_own(key.segment(), |handle| match step.make(handle, &key.inner()) {
-        Ok(deadline) => Quick(deadline),
-        Err(CallError::Ended { how }) if !matches!(how, Look::LookRemoved(_)) => Quick::ENDED,
-        // It may have a newer key, or have been moved: one that was is found as removed.
-        Err(_) => Quick::UNTOLD,
-    });
-    match made {
-        Quick::UNTOLD => None,
-        Quick::ENDED => Some(Err(KeyError::Ended)),
-        Quick(deadline) => Some(Ok(counted(front, step, deadline))),
-    }
-}
-
-#[inline(always)]
-fn counted(front: &Front, step: Step, deadline: u64) -> u64 {
-    if let Step::Cancel = step {
-        front.count_cancel();
-    }
-    deadline
 }
 
 /// What a handle asks of a queue whose values it doesn't know.
 pub(crate) trait Steps: Send + Sync {
     /// A step that takes the shard's lock.
-    fn slow_step(&self, key: &Key, step: Step) -> Result<u64, KeyError>;
+    fn slow_step(&self, key: &Key, step: Step) -> Told;
 }
 
 impl<T: Send> Steps for Shared<T> {
-    fn slow_step(&self, key: &Key, step: Step) -> Result<u64, KeyError> {
+    fn slow_step(&self, key: &Key, step: Step) -> Told {
         self.step_slowly(key, step)
     }
 }
@@ -140,16 +127,29 @@ impl<T: Send> Steps for Shared<T> {
 impl<T> Shared<T> {
     #[inline(always)]
     pub fn step(&self, key: &Key, step: Step) -> Result<u64, KeyError> {
-        match quick_step(&self.front, key, step) {
-            Some(made) => made,
-            None => self.step_slowly(key, step),
+        let mut told = quick_step(&self.front, key, step);
+        if told == Told::NOT_YET {
+            told = self.step_slowly(key, step);
         }
+        told.result()
+    }
+
+    /// A step under the shard's lock, unless the thread's own caller serves once those are let go that are needed no longer.
+    #[cold]
+    fn step_slowly(&self, key: &Key, step: Step) -> Told {
+        if tidy_own() {
+            let told = quick_step(&self.front, key, step);
+            if told != Told::NOT_YET {
+                return told;
+            }
+        }
+        self.locked_step(key, step).into()
     }
 
     /// A step under the shard's lock: the entry's stamp was changed by a reset, its shard was renewed, it was moved, or it has
     /// ended.
-    #[cold]
-    fn step_slowly(&self, key: &Key, step: Step) -> Result<u64, KeyError> {
+    fn locked_step(&self, key: &Key, step: Step) -> Result<u64, KeyError> {
+        self.own(key)?;
         if matches!(step, Step::Extend(tick) if tick > LAST_TICK) {
             return Err(KeyError::TooFar);
         }
@@ -181,50 +181,31 @@ impl<T> Shared<T> {
         }
         let made = self
             .front
-            .with_handles(|handles| step_in(handles, segment, place, step))?;
-        Ok(made.map(|deadline| counted(&self.front, step, deadline)))
-    }
-}
-
-/// A step by one of these handles, which is made or renewed where it doesn't know the shard yet.
-fn step_in<T>(handles: &mut Handles, segment: &Segment<T>, place: &Key, step: Step) -> Result<Option<u64>, KeyError> {
-    let handle = handle_of(handles, segment, place.segment())?;
-    for _ in 0..2 {
-        let mut shard = segment.enter(segment.place_of(place.number()));
-        if shard.core_mut().deadline(&place.entry()).is_err() {
-            return Ok(None);
+            .with_callers(|callers| step_in(callers, segment, place, step))?;
+        if matches!((step, made), (Step::Cancel, Some(_))) {
+            self.front.count_cancel();
         }
-        // The entry is there by its birth, and under the lock nobody changes its stamp.
-        let made = match step.make(handle, &place.inner()) {
-            Err(CallError::Stale { seen }) => step.make(handle, &ticks::Key::new(place.entry(), seen)),
-            made => made,
-        };
-        drop(shard);
-        match made {
-            Ok(deadline) => return Ok(Some(deadline)),
-            Err(CallError::Unknown) => handle.renew(&segment.queue).map_err(|_| KeyError::NoMemory)?,
-            Err(_) => return Ok(None),
-        };
+        Ok(made)
     }
-    Ok(None)
 }
 
-fn handle_of<'h, T>(
-    handles: &'h mut Handles,
-    segment: &Segment<T>,
-    at: usize,
-) -> Result<&'h mut LastingHandle, KeyError> {
-    if handles.len() <= at {
-        handles
-            .try_reserve(at + 1 - handles.len())
-            .map_err(|_| KeyError::NoMemory)?;
-        handles.resize_with(at + 1, || None);
+/// A step by one of these callers, which is made where none knows the shard yet, or only an earlier generation.
+fn step_in<T>(callers: &mut Callers, segment: &Segment<T>, place: &Key, step: Step) -> Result<Option<u64>, KeyError> {
+    let known = SegmentCallers::at(callers, place, segment.places).map_err(|_| KeyError::NoMemory)?;
+    let mut shard = segment.enter(segment.place_of(place.number()));
+    if shard.core_mut().deadline(&place.entry()).is_err() {
+        return Ok(None);
     }
-    let slot = &mut handles[at];
-    match slot {
-        Some(handle) => Ok(handle),
-        None => Ok(slot.insert(segment.queue.handle().map_err(|_| KeyError::NoMemory)?)),
-    }
+    let caller = match known {
+        Some(caller) if caller.number() == place.number() => caller,
+        known => known.insert(shard.issue().map_err(|_| KeyError::NoMemory)?),
+    };
+    // The entry is there by its birth, and under the lock nobody changes its stamp.
+    let made = match step.make(caller, &place.inner()) {
+        Err(CallError::Stale { seen }) => step.make(caller, &ticks::Key::new(place.entry(), seen)),
+        made => made,
+    };
+    Ok(made.ok())
 }
 
 impl<T> Shared<T> {
@@ -308,23 +289,15 @@ impl<T> Shared<T> {
     #[inline(always)]
     fn insert_where_last(&self, value: T, tick: u64) -> Result<Key, (InsertErrorKind, T)> {
         let noted = &self.front.lane().room;
-        let Room { left, at, place } = Room::of(noted.load(Relaxed));
+        let room = Room::of(noted.load(Relaxed));
         match self
-            .segment(at)
-            .filter(|segment| left > 0 && segment.rows[place].has_room())
+            .segment(room.at)
+            .filter(|segment| room.left > 0 && segment.rows[room.place].has_room())
         {
             None => self.insert_anywhere(value, tick),
             Some(segment) => {
-                noted.store(
-                    Room {
-                        left: left - 1,
-                        at,
-                        place,
-                    }
-                    .packed(),
-                    Relaxed,
-                );
-                let insert = self.insert_at(at, segment, place, value, tick);
+                noted.store(room.tried().packed(), Relaxed);
+                let insert = self.insert_at(room.at, segment, room.place, value, tick);
                 insert.or_else(|value| self.insert_anywhere(value, tick))
             }
         }
@@ -524,22 +497,29 @@ impl<T> Shared<T> {
     pub fn reset(&self, key: &Key, tick: Option<u64>) -> Result<Key, KeyError> {
         self.own(key)?;
         let tick = tick.ok_or(KeyError::TooFar)?;
-        let reset = match self.reset_at(key, tick) {
-            Err(CoreError::Missing) => self.at_moved(key, |place| self.reset_at(place, tick)),
-            reset => reset,
-        };
-        let renamed = match reset {
+        let renamed = match self.reset_at(key, tick) {
             Ok(renamed) => renamed,
-            Err(CoreError::Worn) => self.reset_elsewhere(key, tick)?,
-            Err(_) => return Err(KeyError::Ended),
+            Err(refused) => self.reset_moved(key, tick, refused)?,
         };
         self.front.ring_before(tick);
-        // Of one that was moved the key is the one that it always had.
-        Ok(if renamed == *key { renamed } else { *key })
+        Ok(renamed)
+    }
+
+    /// The reset of an entry that its shard refused: of one that was moved, whose key is the one that it always had.
+    #[cold]
+    fn reset_moved(&self, key: &Key, tick: u64, refused: CoreError) -> Result<Key, KeyError> {
+        let moved = match refused {
+            CoreError::Missing => self.at_moved(key, |place| self.reset_at(place, tick)),
+            refused => Err(refused),
+        };
+        match moved {
+            Ok(_) => Ok(*key),
+            Err(CoreError::Worn) => self.reset_elsewhere(key, tick),
+            Err(_) => Err(KeyError::Ended),
+        }
     }
 
     /// The reset of an entry whose slot has no stamp left: it is moved.
-    #[cold]
     fn reset_elsewhere(&self, key: &Key, tick: u64) -> Result<Key, KeyError> {
         loop {
             let grown = self.grown.load(SeqCst);
@@ -577,7 +557,7 @@ impl<T> Shared<T> {
         if self.has_moved() {
             self.key_of_user(self.key(at, &removed.key));
         }
-        self.front.count_out();
+        self.front.count_out(1);
         if is_last && at > 0 {
             self.shrink();
         }
@@ -796,7 +776,7 @@ struct Counted<'a>(Option<&'a Bound>);
 impl Drop for Counted<'_> {
     fn drop(&mut self) {
         if let Some(bound) = self.0 {
-            bound.uncount();
+            bound.uncount(1);
         }
     }
 }
@@ -815,6 +795,15 @@ impl Room {
             left: packed as u8,
             at: (packed >> 16) as u8 as usize,
             place: (packed >> 8) as u8 as usize,
+        }
+    }
+
+    /// The same once it was tried there.
+    pub fn tried(&self) -> Room {
+        Room {
+            left: self.left - 1,
+            at: self.at,
+            place: self.place,
         }
     }
 

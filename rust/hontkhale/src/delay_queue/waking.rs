@@ -4,6 +4,8 @@
 //! something in lowers a hint first, and then asks for how long the leader sleeps. The leader says so first, and then looks
 //! at the hints once more. So one of the two sees the other, and a wake is never lost. Whoever leaves the lead hands it on.
 //!
+//! A hint is never later than what is due in its shard. It may be earlier, and a receiver then looks there for nothing.
+//!
 //! What is here are the steps, each of which touches once what threads share. `tests` tries every order of them.
 
 use std::collections::VecDeque;

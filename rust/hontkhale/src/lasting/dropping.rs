@@ -3,21 +3,20 @@
 //!
 //! A value's drop is a user's code: it may call the queue, and it may panic. What is reaped or cleared is set aside in
 //! its shard, and the row takes it out and drops it behind the lock. Where a drop panics the shard is whole, and what
-//! is still set aside is dropped by a later call. Beside the row no other impl says that a value may be dropped, so the
-//! checker refuses a drop anywhere else.
+//! is still set aside is dropped by a later call. Beside the row and a stream's poll no other impl says that a value
+//! may be dropped, so the checker refuses a drop anywhere else.
 
 use crate::core::{CoreConfig, CoreError, Expired, Piece, ReapError, Swept, Turn};
 use crate::lasting::config::LastingConfig;
-use crate::lasting::errors::{LastingError, ReopenError};
+use crate::lasting::errors::{LastingError, OpenError, ReopenError};
+use crate::lasting::growing::{fresh_queue, Anew};
 use crate::lasting::keeping::{Due, Kept};
 use crate::lasting::names;
-use crate::lasting::opening::{fresh_rows, Begun};
+use crate::lasting::opening::Begun;
 use crate::lasting::poller::{told, OneTick};
 use crate::lasting::queue::LastingQueue;
-use crate::lasting::shard::LastingShard;
-use crate::locks::MutexGuard;
-use crate::parking::{poll_place, unlock, waiting_row, Parked, Row, Shards, TickSource};
-use crate::ticks::{EntryId, Key};
+use crate::parking::{poll_place, unlock, waiting_row, Row};
+use crate::ticks::{EntryId, Key, CAPACITY_LIMIT};
 use crate::words::{locked_shards, ManyTurn};
 use alloc::vec::Vec;
 use core::num::NonZeroU32;
@@ -56,8 +55,8 @@ fn tried_place(route: u64, turn: usize, shards: usize) -> usize {
 
 impl<T> LastingQueue<T> {
     /// Makes a queue of empty shards at tick 0, all of which accept entries. It takes time and memory in proportion
-    /// to the slots of all shards. Later only `handle` and its renewal, `keep_going`, `states`, and `poll_or_park`
-    /// for a waker take memory.
+    /// to the slots of all shards. Later only `handle` and its renewal, `keep_going`, `open_place`, `states`, and
+    /// `poll_or_park` for a waker take memory.
     ///
     /// # Errors
     /// - `BadConfig` if a number of `config` is out of its range: [`LastingConfig::check`] tells which.
@@ -229,11 +228,8 @@ impl<T> LastingQueue<T> {
     pub fn poll(&self, place: usize, tick: u64) -> Result<Turn<T>, LastingError> {
         let mut shard = self.entered(place)?;
         let (answer, leaver) = shard.attended.poll(tick);
-        let aside = unlock(shard, leaver);
-        // A drop that panics would lose what came out.
-        if !matches!(answer, Ok(Turn::Out(_))) {
-            self.row.drop_aside(place, aside);
-        }
+        let is_out = matches!(answer, Ok(Turn::Out(_)));
+        self.row.leave(place, shard, leaver, is_out);
         Ok(answer?)
     }
 
@@ -275,11 +271,8 @@ impl<T> LastingQueue<T> {
     pub fn poll_some(&self, place: usize, tick: u64, most: u32) -> Result<Piece<T>, LastingError> {
         let mut shard = self.entered(place)?;
         let (answer, leaver) = shard.attended.poll_some(tick, most);
-        let aside = unlock(shard, leaver);
-        // A drop that panics would lose what came out.
-        if !matches!(answer, Ok(Piece::Answer(Turn::Out(_)))) {
-            self.row.drop_aside(place, aside);
-        }
+        let is_out = matches!(answer, Ok(Piece::Answer(Turn::Out(_))));
+        self.row.leave(place, shard, leaver, is_out);
         Ok(answer?)
     }
 
@@ -357,11 +350,8 @@ impl<T> LastingQueue<T> {
         let before = row.len();
         let mut shard = self.entered(place)?;
         let (answer, leaver) = shard.attended.poll_many(tick, row);
-        let aside = unlock(shard, leaver);
-        // A drop that panics would lose what came out.
-        if row.len() == before {
-            self.row.drop_aside(place, aside);
-        }
+        let is_out = row.len() != before;
+        self.row.leave(place, shard, leaver, is_out);
         Ok(answer?)
     }
 
@@ -438,8 +428,7 @@ impl<T> LastingQueue<T> {
     pub fn sweep(&self, place: usize) -> Result<usize, LastingError> {
         let mut shard = self.entered(place)?;
         let (reaped, leaver) = shard.attended.sweep();
-        let aside = unlock(shard, leaver);
-        self.row.drop_aside(place, aside);
+        self.row.leave(place, shard, leaver, false);
         Ok(reaped)
     }
 
@@ -454,8 +443,7 @@ impl<T> LastingQueue<T> {
     pub fn clear(&self, place: usize) -> Result<usize, LastingError> {
         let mut shard = self.entered(place)?;
         let (removed, leaver) = shard.attended.clear();
-        let aside = unlock(shard, leaver);
-        self.row.drop_aside(place, aside);
+        self.row.leave(place, shard, leaver, false);
         Ok(removed)
     }
 
@@ -486,8 +474,7 @@ impl<T> LastingQueue<T> {
     pub fn sweep_some(&self, place: usize, from: usize, count: usize) -> Result<Swept, LastingError> {
         let mut shard = self.entered(place)?;
         let (swept, leaver) = shard.attended.sweep_some(from, count);
-        let aside = unlock(shard, leaver);
-        self.row.drop_aside(place, aside);
+        self.row.leave(place, shard, leaver, false);
         Ok(swept)
     }
 
@@ -504,8 +491,7 @@ impl<T> LastingQueue<T> {
         let place = self.place_of(entry.shard());
         let mut shard = self.lock(place);
         let (answer, leaver) = shard.attended.reap(entry);
-        let aside = unlock(shard, leaver);
-        self.row.drop_aside(place, aside);
+        self.row.leave(place, shard, leaver, false);
         answer
     }
 
@@ -526,20 +512,82 @@ impl<T> LastingQueue<T> {
     // Opens the shard at a place again where it is drained, and else sweeps the next few slots of a closed one.
     fn go_on(&self, place: usize) -> Result<Kept, ReopenError> {
         // requires place < self.now.shards
-        let mut rows = None;
+        let mut fresh = None;
         loop {
-            let (begun, left, aside) = self.step_at(place, rows);
+            let (begun, left, aside) = self.step_at(place, fresh);
             drop(left);
             self.row.drop_aside(place, aside);
-            let size = match begun {
+            let config = match begun {
                 Begun::Answered(answer) => return answer,
-                Begun::Opens(size) => size,
+                Begun::Opens(config) => config,
             };
-            rows = fresh_rows(size);
-            if rows.is_none() {
+            fresh = fresh_queue(config);
+            if fresh.is_none() {
                 return Err(ReopenError::NoMemory);
             }
         }
+    }
+
+    // Opens the shard at a place with so many slots.
+    fn open_with(&self, place: usize, capacity: usize, takes: bool) -> Result<(), OpenError> {
+        // requires place < self.now.shards
+        let mut fresh = None;
+        loop {
+            let (anew, left, aside) = self.open_at(place, fresh, capacity, takes);
+            drop(left);
+            self.row.drop_aside(place, aside);
+            let config = match anew {
+                Anew::Done => return Ok(()),
+                Anew::Linked(linked) => return Err(OpenError::StillLinked { linked }),
+                Anew::Spent => return Err(OpenError::NumbersSpent),
+                Anew::Wants(config) => config,
+            };
+            fresh = fresh_queue(config);
+            if fresh.is_none() {
+                return Err(OpenError::NoMemory);
+            }
+        }
+    }
+
+    /// Opens the place `place` with `capacity` slots, more or fewer than it has. Nothing may be linked there. From then
+    /// on it accepts entries if `takes` says so: a place of one slot that accepts none holds next to no memory. Its
+    /// noted tick stays, and what became of its entries counts on. Its number rises as by a renewal, so every key from
+    /// before is refused for good. The other places serve meanwhile.
+    ///
+    /// It takes the place's lock twice, each time for constant time. It takes memory for the new slots while the lock
+    /// is free, and gives the old memory back after it has released the lock. A parked task is woken then.
+    ///
+    /// # Errors
+    /// The place stays as it was. In this order:
+    /// - `Unknown` if there is no such place.
+    /// - `BadConfig` if `capacity` isn't 1 to [`CAPACITY_LIMIT`].
+    /// - `StillLinked` if an entry is linked there, even a cancelled one.
+    /// - `NumbersSpent` if no higher number is left.
+    /// - `NoMemory` if memory is refused.
+    ///
+    /// ```
+    /// use hontkhale::lasting::{LastingConfig, LastingQueue};
+    ///
+    /// # fn main() -> Result<(), Box<dyn std::error::Error>> {
+    /// let queue = LastingQueue::new(LastingConfig::of(2, 1))?;
+    /// queue.insert_or_drop(0, "first", 100)?;
+    /// queue.insert_or_drop(0, "second", 200)?;
+    /// assert!(queue.insert_or_drop(0, "third", 300).is_err());
+    ///
+    /// while let hontkhale::owner::Turn::Out(_) = queue.poll(0, 100)? {}
+    /// queue.open_place(0, 1_000, true)?;
+    /// queue.insert_or_drop(0, "third", 300)?;
+    /// # Ok(())
+    /// # }
+    /// ```
+    pub fn open_place(&self, place: usize, capacity: usize, takes: bool) -> Result<(), OpenError> {
+        if place >= self.shards() {
+            return Err(OpenError::Unknown);
+        }
+        if capacity == 0 || capacity > CAPACITY_LIMIT {
+            return Err(OpenError::BadConfig);
+        }
+        self.open_with(place, capacity, takes)
     }
 
     /// Does the one step that is due next to keep the queue going for years, and returns which it was. Whoever polls
@@ -578,44 +626,5 @@ impl<T> LastingQueue<T> {
             Due::Made(kept) => Ok(kept),
             Due::At(place) => self.go_on(place),
         }
-    }
-}
-
-/// A stream of a place asks its source before the shard's lock, and goes on after a refused tick.
-impl<T> Shards for LastingQueue<T> {
-    type State = LastingShard<T>;
-
-    type Error = LastingError;
-
-    fn places(&self) -> usize {
-        self.row.len()
-    }
-
-    fn unknown() -> LastingError {
-        LastingError::Unknown
-    }
-
-    fn ends() -> bool {
-        false
-    }
-
-    fn give_way(&self, place: usize) {
-        self.row.give_way(place);
-    }
-
-    fn entered<S: TickSource>(
-        &self,
-        place: usize,
-        source: &mut S,
-        before: &mut Option<Parked<Option<u64>>>,
-    ) -> (MutexGuard<'_, LastingShard<T>>, u64) {
-        let tick = source.now();
-        let mut shard = self.row.lock(place);
-        *before = shard.take_parked();
-        (shard, tick)
-    }
-
-    fn drop_aside(&self, place: usize, most: usize) {
-        self.row.drop_aside(place, most);
     }
 }

@@ -1,6 +1,7 @@
 //! Why a call of a lasting queue is refused.
 
 use crate::core::CoreError;
+use crate::ticks::CAPACITY_LIMIT;
 use core::fmt;
 
 /// Why a call of a lasting queue is refused.
@@ -62,6 +63,40 @@ impl fmt::Display for ReopenError {
 
 #[cfg(feature = "std")]
 impl std::error::Error for ReopenError {}
+
+/// Why a place isn't opened with slots of another number.
+#[derive(Clone, Copy, Debug, PartialEq, Eq)]
+#[non_exhaustive]
+pub enum OpenError {
+    /// The queue has no such place.
+    Unknown,
+    /// The capacity isn't 1 to [`CAPACITY_LIMIT`](crate::owner::CAPACITY_LIMIT).
+    BadConfig,
+    /// Entries are linked there, live or cancelled and not yet freed.
+    StillLinked {
+        /// How many.
+        linked: usize,
+    },
+    /// No higher number is left, or more entries were inserted than a tally counts.
+    NumbersSpent,
+    /// Memory was refused.
+    NoMemory,
+}
+
+impl fmt::Display for OpenError {
+    fn fmt(&self, f: &mut fmt::Formatter<'_>) -> fmt::Result {
+        match self {
+            OpenError::Unknown => f.write_str("there is no such place"),
+            OpenError::BadConfig => write!(f, "the capacity isn't 1 to {CAPACITY_LIMIT}"),
+            OpenError::StillLinked { linked } => write!(f, "{linked} entries are still linked"),
+            OpenError::NumbersSpent => f.write_str("the shard has no number left"),
+            OpenError::NoMemory => f.write_str("out of memory"),
+        }
+    }
+}
+
+#[cfg(feature = "std")]
+impl std::error::Error for OpenError {}
 
 /// Why no handle is made, or why one takes no new caller on.
 #[derive(Clone, Copy, Debug, PartialEq, Eq)]

@@ -4,8 +4,11 @@
 //! nothing is linked it waits for an insert, so it never ends. Whoever keeps the time rings the place, as for
 //! [`LastingQueue::poll_or_park`].
 
+use crate::lasting::errors::LastingError;
 use crate::lasting::queue::LastingQueue;
-use crate::parking::ShardStream;
+use crate::lasting::shard::LastingShard;
+use crate::locks::MutexGuard;
+use crate::parking::{Parked, Row, ShardStream, Shards, TickSource};
 use core::num::NonZeroU32;
 
 /// The entries that expire at one place of a lasting queue, at the ticks of a source, through every renewal of the
@@ -19,3 +22,34 @@ pub type LastingStream<'q, T, S> = ShardStream<'q, LastingQueue<T>, S>;
 
 /// A [`LastingStream`] whose polls make at most so many steps of their shard while they hold its lock.
 pub type LastingPacedStream<'q, T, S> = ShardStream<'q, LastingQueue<T>, S, NonZeroU32>;
+
+/// A stream of a place asks its source before the shard's lock, and goes on after a refused tick.
+impl<T> Shards for LastingQueue<T> {
+    type State = LastingShard<T>;
+
+    type Error = LastingError;
+
+    fn row(&self) -> &Row<LastingShard<T>> {
+        &self.row
+    }
+
+    fn unknown() -> LastingError {
+        LastingError::Unknown
+    }
+
+    fn ends() -> bool {
+        false
+    }
+
+    fn entered<S: TickSource>(
+        &self,
+        place: usize,
+        source: &mut S,
+        before: &mut Option<Parked<Option<u64>>>,
+    ) -> (MutexGuard<'_, LastingShard<T>>, u64) {
+        let tick = source.now();
+        let mut shard = self.row.lock(place);
+        *before = shard.take_parked();
+        (shard, tick)
+    }
+}

@@ -82,6 +82,7 @@ pub fn let_sleep<N>(taken: Option<Parked<N>>) -> bool {
 
 /// A poller that has left its shard, if one has. It isn't `Drop`: whoever has it has to wake it, once the shard's lock
 /// is free.
+#[derive(Debug)]
 pub struct Leaver<N = u64> {
     /// The poller; none where none has left.
     pub poller: Option<Parked<N>>,

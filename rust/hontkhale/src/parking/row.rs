@@ -1,18 +1,18 @@
 //! A row of shards behind locks, of either queue: the locks, who waits for them, and what is done once one is free.
 //!
 //! A front, as `SharedDelayQueue` and `LastingQueue`, has a `Row` of its own shards, and says in `impl Shard` what a
-//! call asks of one. A call by name of a front is then four lines:
+//! call asks of one. A call by name of a front is then three lines:
 //!
 //! ```ignore
 //! let mut shard = self.row.lock(rt, place);
-//! let (answer, leaver) = shard.attended.poll(tick);
-//! let aside = unlock(shard, leaver);
-//! self.row.drop_aside(rt, place, aside);
+//! let (reaped, leaver) = shard.attended.sweep();
+//! self.row.leave(rt, place, shard, leaver, false);
 //! ```
 //!
-//! `lock` compares once whether the shard stands at the place, and waits for ever where another was put there. `unlock`
-//! lets the lock go, wakes who has left, and answers how many values are set aside. A value's drop is a user's code: it
-//! may call the queue, and it may panic. So it runs while the lock is free, and where it panics the shard is whole.
+//! `lock` compares once whether the shard stands at the place, and waits for ever where another was put there. `leave`
+//! lets the lock go, wakes who has left, and drops what is set aside; `unlock` is for what drops nothing. A value's drop
+//! is a user's code: it may call the queue, and it may panic. So it runs while the lock is free, and where it panics the
+//! shard is whole.
 
 use crate::index::nth;
 use crate::locks::{Mutex, MutexGuard};
@@ -46,6 +46,7 @@ pub trait Shard {
 }
 
 /// Shards behind locks. To a contract it is how many.
+#[derive(Debug)]
 pub struct Row<S> {
     shards: Vec<Mutex<S>>,
     // Of each shard, who waits for its lock.
@@ -109,8 +110,9 @@ pub fn unlock<S: Shard>(shard: MutexGuard<'_, S>, leaver: Leaver<S::Next>) -> us
 
 // The one impl of a row that says that a value may be dropped. It does so while no lock is held.
 impl<S: Shard> Row<S> {
-    /// As `lock`, for an insert, for which each value that is set aside has a place. One that has none is dropped
-    /// before it: a drop that panics then loses no key.
+    /// The shard at a place, with its lock held, where no value waits for its drop in the slot that the next insert
+    /// fills. One that waits there is taken out, and dropped while the lock is free: a drop that panics then loses no
+    /// key. Whether the shard stands at the place is compared each time that its lock is taken.
     #[inline(always)]
     pub fn lock_with_room(&self, place: usize) -> MutexGuard<'_, S> {
         // requires place < self.now
@@ -121,6 +123,16 @@ impl<S: Shard> Row<S> {
             };
             drop(shard);
             drop(crowded);
+        }
+    }
+
+    /// Ends a call on the shard at a place: lets its lock go, wakes who has left, and then drops what is set aside
+    /// there. Where an entry came out nothing is dropped, since a drop that panics would lose it: a later call does so.
+    #[inline(always)]
+    pub fn leave(&self, place: usize, shard: MutexGuard<'_, S>, leaver: Leaver<S::Next>, is_out: bool) {
+        let aside = unlock(shard, leaver);
+        if !is_out {
+            self.drop_aside(place, aside);
         }
     }
 

@@ -27,8 +27,8 @@ pub trait Sleeps: Shard {
     fn poll_piece(&mut self, tick: u64, most: Option<u32>) -> Result<Piece<Self::Value>, CoreError>;
 }
 
-/// Parks a poller with the waker that a registration left. Refused as NoMemory where it left none; the shard stays as it
-/// was then. A future of your own over a locked shard may use it.
+/// Parks a poller with the waker that a registration left. Refused as NoMemory where it left none; the shard stays as
+/// it was then. A future of your own over a locked shard may use it.
 pub fn park_with<S: Sleeps>(shard: &mut S, next: S::Next, slot: Option<Waker>) -> Result<(), StreamFault> {
     // requires MayWaitSo S.Next.lasts (S.core shard.old) next
     let Some(waker) = slot else {
@@ -50,8 +50,8 @@ fn wait<S: Sleeps>(shard: &mut S, wake: Option<u64>, slot: &mut Option<Waker>) -
     }
 }
 
-/// One poll, while the shard's lock is held and none is parked there, for a task that left its waker. None where more is
-/// to do.
+/// One poll, while the shard's lock is held and none is parked there, for a task that left its waker. None where more
+/// is to do.
 pub fn turn<S: Sleeps>(
     shard: &mut S,
     tick: u64,

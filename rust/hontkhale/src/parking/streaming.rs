@@ -8,7 +8,7 @@ use crate::locks::MutexGuard;
 use crate::parking::fault::StreamFault;
 use crate::parking::parked::{let_sleep, Parked};
 use crate::parking::registering::{forget, register};
-use crate::parking::row::Shard;
+use crate::parking::row::{Row, Shard};
 use crate::parking::sleeping::{turn, NextOf, Polled, Sleeps, ValueOf};
 use crate::parking::source::TickSource;
 use core::num::NonZeroU32;
@@ -22,17 +22,14 @@ pub trait Shards {
     /// Why a call is refused.
     type Error;
 
-    /// How many shards it has.
-    fn places(&self) -> usize;
+    /// Its shards behind their locks.
+    fn row(&self) -> &Row<Self::State>;
 
     /// The refusal where there is no such shard.
     fn unknown() -> Self::Error;
 
     /// Whether a refused tick ends a stream for good.
     fn ends() -> bool;
-
-    /// Gives way to whoever waits for a shard's lock.
-    fn give_way(&self, place: usize);
 
     /// Takes a shard's lock, takes out who is parked there, and asks the source for the tick, before the lock or under
     /// it.
@@ -42,9 +39,6 @@ pub trait Shards {
         source: &mut S,
         before: &mut Option<Parked<NextOf<Self::State>>>,
     ) -> (MutexGuard<'_, Self::State>, u64);
-
-    /// Drops the values that are set aside in a shard, while its lock is free.
-    fn drop_aside(&self, place: usize, most: usize);
 }
 
 /// How many steps a stream makes a poll.
@@ -89,7 +83,7 @@ impl<'q, Q: Shards, S> ShardStream<'q, Q, S, Whole> {
     /// # Errors
     /// `Unknown` if there is no such shard. `source` comes back.
     pub fn new(queue: &'q Q, place: usize, source: S) -> Result<ShardStream<'q, Q, S, Whole>, (Q::Error, S)> {
-        if place >= queue.places() {
+        if place >= queue.row().len() {
             return Err((Q::unknown(), source));
         }
         Ok(ShardStream {
@@ -130,8 +124,8 @@ impl<'q, Q: Shards, S, P> ShardStream<'q, Q, S, P> {
     }
 }
 
-// How many of the values that are set aside are dropped behind a poll: none where it gave an entry, which a drop that panics
-// would lose.
+// How many of the values that are set aside are dropped behind a poll: none where it gave an entry, which a drop that
+// panics would lose.
 fn dropped_behind<T>(answer: &Polled<T>, aside: usize) -> usize {
     match answer {
         Poll::Ready(Some(Ok(_))) => 0,
@@ -153,8 +147,8 @@ fn ends_by<T>(ends: bool, answer: &Polled<T>) -> bool {
     }
 }
 
-// What a poll does under its shard's lock, for a task that left its waker. Who was parked there before goes out with the
-// answer, and so does how many values are set aside.
+// What a poll does under its shard's lock, for a task that left its waker. Who was parked there before goes out with
+// the answer, and so does how many values are set aside. It knows no drop of a value, so none is dropped here.
 fn poll_entered<Q: Shards, S: TickSource>(
     queue: &Q,
     place: usize,
@@ -169,8 +163,9 @@ fn poll_entered<Q: Shards, S: TickSource>(
     (polled, shard.aside())
 }
 
-/// Polls the shard at a place of a queue once for a task, whole or by at most `most` steps. None is given where the shard
-/// has more to do: the task is woken then.
+/// Polls the shard at a place of a queue once for a task, whole or by at most `most` steps. It is pending where the
+/// shard has more to do: the task is woken then. What is set aside is dropped once the lock is free; where an entry is
+/// given, by a later call.
 pub fn poll_place<Q: Shards, S: TickSource>(
     queue: &Q,
     place: usize,
@@ -187,10 +182,10 @@ pub fn poll_place<Q: Shards, S: TickSource>(
     forget(slot);
     let Some(answer) = polled else {
         cx.waker().wake_by_ref();
-        queue.drop_aside(place, aside);
+        queue.row().drop_aside(place, aside);
         return Poll::Pending;
     };
-    queue.drop_aside(place, dropped_behind(&answer, aside));
+    queue.row().drop_aside(place, dropped_behind(&answer, aside));
     answer
 }
 
@@ -250,7 +245,7 @@ impl<'q, Q: Shards, S: TickSource, P: Pace> ShardStream<'q, Q, S, P> {
         }
         let most = self.pace.most();
         if most.is_some() {
-            self.queue.give_way(self.place);
+            self.queue.row().give_way(self.place);
         }
         let answer = poll_place(self.queue, self.place, &mut self.source, most, cx);
         self.ended = ends_by(Q::ends(), &answer);

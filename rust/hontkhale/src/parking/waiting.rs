@@ -24,6 +24,7 @@ const LONGEST_PAUSE: u32 = 256;
 /// little longer, or a little less.
 ///
 /// It stands in cache lines of its own, so whoever looks at it takes none from who works under the lock.
+#[derive(Debug)]
 pub struct Waiting {
     threads: AtomicU64,
     _room: [u64; 15],

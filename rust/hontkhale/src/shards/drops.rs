@@ -3,12 +3,11 @@
 //!
 //! A value's drop is a user's code: it may call the queue, and it may panic. What is reaped or cleared is set aside in
 //! the shard, and the row takes it out and drops it behind the lock. Where a drop panics the shard is whole, and what
-//! is still set aside is dropped by a later call. Beside the row no other impl of a queue says that a value of it may
-//! be dropped, so the checker refuses a drop anywhere else.
+//! is still set aside is dropped by a later call. Beside the row and a stream's poll no other impl of a queue says that
+//! a value of it may be dropped, so the checker refuses a drop anywhere else.
 
 use crate::core::{CoreConfig, CoreError, Expired, Piece, ReapError, Swept, Turn};
-use crate::locks::MutexGuard;
-use crate::parking::{unlock, waiting_row, Parked, Row, Shards, TickSource};
+use crate::parking::{unlock, waiting_row, Leaver, Row};
 use crate::shards::errors::{QueueConfig, QueueError};
 use crate::shards::queue::SharedDelayQueue;
 use crate::shards::state::ShardState;
@@ -148,11 +147,8 @@ impl<T> SharedDelayQueue<T> {
     pub fn poll(&self, shard: usize, tick: u64) -> Result<Turn<T>, QueueError> {
         let mut locked = self.enter(shard)?;
         let (answer, leaver) = locked.attended.poll(tick);
-        let aside = unlock(locked, leaver);
-        // A drop that panics would lose what came out.
-        if !matches!(answer, Ok(Turn::Out(_))) {
-            self.row.drop_aside(shard, aside);
-        }
+        let is_out = matches!(answer, Ok(Turn::Out(_)));
+        self.row.leave(shard, locked, leaver, is_out);
         Ok(answer?)
     }
 
@@ -192,11 +188,8 @@ impl<T> SharedDelayQueue<T> {
     pub fn poll_some(&self, shard: usize, tick: u64, most: u32) -> Result<Piece<T>, QueueError> {
         let mut locked = self.enter(shard)?;
         let (answer, leaver) = locked.attended.poll_some(tick, most);
-        let aside = unlock(locked, leaver);
-        // A drop that panics would lose what came out.
-        if !matches!(answer, Ok(Piece::Answer(Turn::Out(_)))) {
-            self.row.drop_aside(shard, aside);
-        }
+        let is_out = matches!(answer, Ok(Piece::Answer(Turn::Out(_))));
+        self.row.leave(shard, locked, leaver, is_out);
         Ok(answer?)
     }
 
@@ -269,11 +262,8 @@ impl<T> SharedDelayQueue<T> {
         let before = row.len();
         let mut locked = self.enter(shard)?;
         let (answer, leaver) = locked.attended.poll_many(tick, row);
-        let aside = unlock(locked, leaver);
-        // A drop that panics would lose what came out.
-        if row.len() == before {
-            self.row.drop_aside(shard, aside);
-        }
+        let is_out = row.len() != before;
+        self.row.leave(shard, locked, leaver, is_out);
         Ok(answer?)
     }
 
@@ -288,8 +278,7 @@ impl<T> SharedDelayQueue<T> {
     pub fn sweep(&self, shard: usize) -> Result<usize, QueueError> {
         let mut locked = self.enter(shard)?;
         let (reaped, leaver) = locked.attended.sweep();
-        let aside = unlock(locked, leaver);
-        self.row.drop_aside(shard, aside);
+        self.row.leave(shard, locked, leaver, false);
         Ok(reaped)
     }
 
@@ -318,8 +307,7 @@ impl<T> SharedDelayQueue<T> {
     pub fn sweep_some(&self, shard: usize, from: usize, count: usize) -> Result<Swept, QueueError> {
         let mut locked = self.enter(shard)?;
         let (swept, leaver) = locked.attended.sweep_some(from, count);
-        let aside = unlock(locked, leaver);
-        self.row.drop_aside(shard, aside);
+        self.row.leave(shard, locked, leaver, false);
         Ok(swept)
     }
 
@@ -337,8 +325,7 @@ impl<T> SharedDelayQueue<T> {
         let shard = entry.shard() as usize;
         let mut locked = self.enter(shard)?;
         let (answer, leaver) = locked.attended.reap(entry);
-        let aside = unlock(locked, leaver);
-        self.row.drop_aside(shard, aside);
+        self.row.leave(shard, locked, leaver, false);
         Ok(answer)
     }
 
@@ -352,8 +339,7 @@ impl<T> SharedDelayQueue<T> {
     pub fn clear(&self, shard: usize) -> Result<usize, QueueError> {
         let mut locked = self.enter(shard)?;
         let (cleared, leaver) = locked.attended.clear();
-        let aside = unlock(locked, leaver);
-        self.row.drop_aside(shard, aside);
+        self.row.leave(shard, locked, leaver, false);
         Ok(cleared)
     }
 
@@ -381,45 +367,6 @@ impl<T> SharedDelayQueue<T> {
     #[inline(always)]
     pub fn drop_aside(&self, shard: usize, most: usize) {
         self.row.drop_aside(shard, most);
-    }
-}
-
-/// A stream of a shard asks its source under the shard's lock, and ends by a refused tick.
-impl<T> Shards for SharedDelayQueue<T> {
-    type State = ShardState<T>;
-
-    type Error = QueueError;
-
-    fn places(&self) -> usize {
-        self.row.len()
-    }
-
-    fn unknown() -> QueueError {
-        QueueError::Unknown
-    }
-
-    fn ends() -> bool {
-        true
-    }
-
-    fn give_way(&self, place: usize) {
-        self.row.give_way(place);
-    }
-
-    fn entered<S: TickSource>(
-        &self,
-        place: usize,
-        source: &mut S,
-        before: &mut Option<Parked>,
-    ) -> (MutexGuard<'_, ShardState<T>>, u64) {
-        let mut shard = self.row.lock(place);
-        *before = shard.take_parked();
-        let tick = source.now();
-        (shard, tick)
-    }
-
-    fn drop_aside(&self, place: usize, most: usize) {
-        SharedDelayQueue::drop_aside(self, place, most);
     }
 }
 
@@ -453,9 +400,7 @@ impl<T> SharedDelayQueue<T> {
         // requires F.IsAlwaysCallable f
         let mut locked = self.enter(shard)?;
         let answer = f(&mut locked);
-        let aside = locked.aside();
-        drop(locked);
-        self.row.drop_aside(shard, aside);
+        self.row.leave(shard, locked, Leaver { poller: None }, false);
         Ok(answer)
     }
 }

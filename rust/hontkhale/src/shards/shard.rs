@@ -1,7 +1,10 @@
-//! What a queue's row asks of a shard behind its lock.
+//! What a queue's row and a stream ask of a shard behind its lock, and what a stream asks of the queue.
 
 use crate::core::{CoreError, Piece};
-use crate::parking::{Parked, Shard, Sleeps};
+use crate::locks::MutexGuard;
+use crate::parking::{Parked, Row, Shard, Shards, Sleeps, TickSource};
+use crate::shards::errors::QueueError;
+use crate::shards::queue::SharedDelayQueue;
 use crate::shards::state::ShardState;
 use core::task::Waker;
 
@@ -55,5 +58,36 @@ impl<T> Sleeps for ShardState<T> {
 
     fn poll_piece(&mut self, tick: u64, most: Option<u32>) -> Result<Piece<T>, CoreError> {
         self.attended.poll_unparked(tick, most)
+    }
+}
+
+/// A stream of a shard asks its source under the shard's lock, and ends by a refused tick.
+impl<T> Shards for SharedDelayQueue<T> {
+    type State = ShardState<T>;
+
+    type Error = QueueError;
+
+    fn row(&self) -> &Row<ShardState<T>> {
+        &self.row
+    }
+
+    fn unknown() -> QueueError {
+        QueueError::Unknown
+    }
+
+    fn ends() -> bool {
+        true
+    }
+
+    fn entered<S: TickSource>(
+        &self,
+        place: usize,
+        source: &mut S,
+        before: &mut Option<Parked>,
+    ) -> (MutexGuard<'_, ShardState<T>>, u64) {
+        let mut shard = self.row.lock(place);
+        *before = shard.take_parked();
+        let tick = source.now();
+        (shard, tick)
     }
 }

@@ -8,7 +8,8 @@ use super::ticks::{deadline, key, tick, ROUND};
 use super::value::{Living, Value};
 use super::wakes::Poller;
 use hontkhale::lasting::{
-    Ended, Kept, LastingConfig, LastingError, LastingHandle, LastingQueue, LastingTally, LastingTotals, PlaceState,
+    Ended, Kept, LastingConfig, LastingError, LastingHandle, LastingQueue, LastingTally, LastingTotals, OpenError,
+    PlaceState,
 };
 use hontkhale::owner::{CoreError, EntryId, Expired, Key, Piece, Tally};
 use std::collections::BTreeMap;
@@ -96,17 +97,30 @@ impl Place {
         self.model.len() == 0 && (!self.takes || self.is_worn())
     }
 
-    fn reopens(&mut self, by: u32) {
+    // Goes on under its next number, with so many slots.
+    fn opens(&mut self, by: u32, capacity: usize, takes: bool) {
         let (tally, past) = (self.model.tally(), &mut self.past);
         past.inserted += tally.inserted;
         past.expired += tally.expired;
         past.removed += tally.removed;
         past.cancelled += tally.cancelled;
         self.rows.insert(self.model.number, self.model.row.clone());
-        self.model.renew(self.model.number + by);
-        self.takes = true;
+        self.model.opens(self.model.number + by, capacity);
+        self.takes = takes;
         self.sweep_from = 0;
         self.wakes();
+    }
+
+    // What an opening with so many slots answers, which are in range or none.
+    fn asked_to_open(&mut self, by: u32, capacity: usize, takes: bool) -> Result<(), OpenError> {
+        match self.model.len() {
+            _ if capacity == 0 => Err(OpenError::BadConfig),
+            0 => {
+                self.opens(by, capacity, takes);
+                Ok(())
+            }
+            linked => Err(OpenError::StillLinked { linked }),
+        }
     }
 
     // A step of a closed shard looks at so many slots.
@@ -393,7 +407,8 @@ impl Play {
         let kept = self.queue.keep_going().expect("memory and numbers");
         let shards = self.shards() as u32;
         if let Some(at) = self.places.iter().position(Place::is_drained) {
-            self.places[at].reopens(shards);
+            let capacity = self.places[at].model.capacity();
+            self.places[at].opens(shards, capacity, true);
             self.reopened += 1;
             assert_eq!(kept, Kept::Reopened { place: at });
             self.compares(at);
@@ -425,8 +440,15 @@ impl Play {
 
     fn call_by_place(&mut self, draw: &mut Draw, at: usize) {
         let rung = tick(draw, self.noted(at), None);
+        let shards = self.shards() as u32;
         let (queue, place) = (&self.queue, self.places.get_mut(at));
         match draw.below(12) {
+            7 => {
+                let (capacity, takes) = (draw.one_of(&[0, 1, 2, 5, 16, 300]), draw.below(4) > 0);
+                let asked = |place: &mut Place| place.asked_to_open(shards, capacity, takes);
+                let expected = place.map_or(Err(OpenError::Unknown), asked);
+                assert_eq!(queue.open_place(at, capacity, takes), expected, "open_place");
+            }
             0..=2 => assert_eq!(queue.sweep(at), of(place, |place| place.model.sweep()), "sweep"),
             3 => assert_eq!(queue.clear(at), of(place, |place| place.model.clear()), "clear"),
             5 => assert_eq!(queue.audit(), totals(&self.places), "audit"),

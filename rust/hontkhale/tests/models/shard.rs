@@ -386,12 +386,12 @@ impl Shard {
         self.tick = tick;
     }
 
-    /// Goes on under another number over fresh slots. All have ended.
-    pub fn renew(&mut self, number: u32) {
+    /// Goes on under another number over so many fresh slots. All have ended. The wheel comes to the noted tick.
+    pub fn opens(&mut self, number: u32, capacity: usize) {
         assert_eq!(self.len(), 0);
-        let fresh = Shard::new(number, self.row.capacity, self.last_stamp);
+        let fresh = Shard::new(number, capacity, self.last_stamp);
         *self = Shard {
-            tick: self.tick,
+            tick: self.noted,
             noted: self.noted,
             ..fresh
         };

@@ -285,6 +285,24 @@ fn an_insert_into_a_lasting_queue_drops_behind_its_lock() {
     });
 }
 
+// What a drop that panicked has left set aside goes with the slots of a place that opens with others. Each is dropped once,
+// and its drop may call the queue: the lock is free.
+// promise: lasting.place-opens
+#[test]
+fn a_place_that_opens_drops_behind_its_lock() {
+    within_the_limit(|| {
+        let (queue, drops) = (lasting(), Drops::default());
+        insert_lasting_cancelled(&queue, drops.value_that_panics(), 10);
+        for _ in 0..7 {
+            let by_drop = queue.clone();
+            insert_lasting_cancelled(&queue, drops.value_that(move || assert!(by_drop.tally(0).is_ok())), 10);
+        }
+        assert_eq!(panics(|| queue.sweep(0)), "a value's drop");
+        assert_eq!(queue.open_place(0, 1, true), Ok(()));
+        assert_eq!((drops.count(), queue.aside(0)), (8, Ok(0)));
+    });
+}
+
 // Always tells tick 10.
 struct Late;
 

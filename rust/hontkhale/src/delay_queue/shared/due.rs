@@ -48,7 +48,7 @@ impl<T> Shared<T> {
 
     /// The value of an entry that was taken out of its place, and is counted so.
     fn ended(&self, place: &Key, removed: Removed<T>) -> T {
-        self.front.count_out();
+        self.front.count_out(1);
         let segment = self.segment(place.segment()).expect("a segment of the queue");
         if place.segment() > 0 && segment.rows[segment.place_of(place.number())].linked() == 0 {
             self.shrink();

@@ -17,6 +17,8 @@ enum Plant {
     NoHandingOn,
     /// The leader doesn't ask whether the queue is closed before it sleeps.
     NoQuestion,
+    /// Whoever takes the last entry of a shard raises its hint once the lock is free.
+    RaisesLate,
 }
 
 /// A thread's place in its program.
@@ -31,6 +33,8 @@ enum Thread {
     /// Until a tick, or until it is woken.
     Sleeps(Wait, u64),
     Leaves(Wait),
+    /// It has taken the last entry of the shard whose hint it raises.
+    Raises(Wait),
     Wakes(usize),
     /// The two steps of an insert that is due at a tick, the ring, and the wake.
     Lowers(u64),
@@ -45,6 +49,8 @@ enum Thread {
 /// All that threads share, and their places.
 #[derive(Clone, Debug, PartialEq, Eq, Hash)]
 struct World {
+    /// When something is due in each of two shards, and what their hints say: no later tick, but maybe an earlier one.
+    dues: [u64; 2],
     hints: [u64; 2],
     armed: u64,
     is_closed: bool,
@@ -62,6 +68,7 @@ const NOW: u64 = 5;
 impl World {
     fn new(threads: &[Thread], hints: [u64; 2]) -> World {
         World {
+            dues: hints,
             hints,
             armed: 0,
             is_closed: false,
@@ -104,10 +111,29 @@ impl World {
         self.hints[0].min(self.hints[1])
     }
 
-    /// Takes what is due, as one step under a shard's lock.
-    fn take(&mut self) -> bool {
-        let due = self.hints.iter_mut().find(|hint| **hint <= NOW);
-        due.map(|hint| *hint = NEVER).is_some()
+    fn first_due(&self) -> u64 {
+        self.dues[0].min(self.dues[1])
+    }
+
+    /// Takes what is due, by steps under the shards' locks. Of the first shard whoever takes leaves the hint as it is, and of
+    /// the second it is raised at once. Where a hint is too early it is raised by whoever finds nothing there.
+    fn take(&mut self, plant: Plant) -> bool {
+        for shard in 0..2 {
+            if self.hints[shard] > NOW {
+                continue;
+            }
+            let is_due = self.dues[shard] <= NOW;
+            if is_due {
+                self.dues[shard] = NEVER;
+            }
+            if !is_due || shard == 1 && plant != Plant::RaisesLate {
+                self.hints[shard] = self.dues[shard];
+            }
+            if is_due {
+                return true;
+            }
+        }
+        false
     }
 
     fn may_step(&self, thread: usize) -> bool {
@@ -135,6 +161,10 @@ impl World {
                 self.woken[thread] = false;
                 Thread::Waits(wait)
             }
+            Thread::Raises(wait) => {
+                self.hints[1] = NEVER;
+                Thread::Leaves(wait)
+            }
             Thread::Leaves(wait) => match wait.leave(&bell) {
                 Some(other) if plant != Plant::NoHandingOn => Thread::Wakes(other),
                 _ => Thread::Done,
@@ -149,6 +179,7 @@ impl World {
     fn wake(&mut self, bell: &Bell<usize>, thread: Thread, plant: Plant) -> Thread {
         match thread {
             Thread::Lowers(tick) => {
+                self.dues[1] = self.dues[1].min(tick);
                 self.hints[1] = self.hints[1].min(tick);
                 if plant == Plant::AsksFirst {
                     Thread::Done
@@ -188,8 +219,12 @@ impl World {
         }
         let least = self.least();
         match wait.step(bell, || least) {
-            Todo::Take if self.take() => Thread::Leaves(wait),
-            Todo::Step | Todo::Take => Thread::Waits(wait),
+            Todo::Take => match self.take(plant) {
+                true if plant == Plant::RaisesLate => Thread::Raises(wait),
+                true => Thread::Leaves(wait),
+                false => Thread::Waits(wait),
+            },
+            Todo::Step => Thread::Waits(wait),
             Todo::Sleep(until) => Thread::Sleeps(wait, until),
             Todo::Leave => Thread::Leaves(wait),
         }
@@ -204,7 +239,7 @@ impl World {
         let mut sleepers = self.threads.iter().filter_map(sleeps_until).peekable();
         match sleepers.peek() {
             None => true,
-            Some(_) => !self.is_closed && sleepers.min().is_some_and(|until| until <= self.least()) && self.leads(),
+            Some(_) => !self.is_closed && sleepers.min().is_some_and(|until| until <= self.first_due()) && self.leads(),
         }
     }
 
@@ -280,6 +315,7 @@ fn each_wake_that_is_lost_by_a_planted_fault_is_found() {
         Plant::AsksFirst,
         Plant::NoHandingOn,
         Plant::NoQuestion,
+        Plant::RaisesLate,
     ] {
         let finds = |(threads, hints): (Vec<Thread>, _)| all_orders(&threads, hints, plant).is_err();
         assert!(programs(plant).into_iter().any(finds));

@@ -1,11 +1,26 @@
 use Rattle.std.proofs.Common.{◌≡◌, ◌<◌, true, ap, refl}
-use Rattle.dq_core.specs.Slots.{is_held, row_at}
-use Rattle.dq_core.proofs.SlotRows.{raised_is, read_is, held_inside, room_kept}
+use Rattle.dq_core.specs.Slots.{is_held, row_at, raised_row}
+use Rattle.dq_core.specs.Cells.{rows_of, cell_at, raised_cell}
+use Rattle.dq_core.proofs.SlotRows.{room_kept}
+use Rattle.dq_core.proofs.CellRows.{read_cell, rows_changed, inside_cells, raised_cells, raised_aside, slots_of}
 use Rattle.dq_core.proofs.slots.Slots.raise.Goals as goal
 
 pub invariant_of-self : goal.invariant_of-self
 invariant_of-self g c =
-    let h : is_held (row_at c.self.inside.cells.items c.args.index) ≡ true = rw (ap (λ s. s.rows) c.self.view_is) c.requires.held in
-    let left : (row_at c.self.inside.cells.items c.args.index).stamp < c.self.inside.last = rw (ap (λ s. s.rows) c.self.view_is, ap (λ s. s.last_stamp) c.self.view_is) c.requires.left in
-    let r = read_is c.self.inside.cells.items c.args.index c.index_mut-cell.result.now (held_inside c.self.inside.cells.items c.args.index h) c.index_mut-cell.ensures.value in
-    rw (c.raise.ensures, ← r) (raised_is c.self.invariant.0 c.args.index h left, room_kept c.self.inside.cells.items c.args.index _ _ _ c.self.invariant.1 refl, room_kept c.self.inside.cells.items c.args.index _ _ _ c.self.invariant.2 refl)
+    let cells = c.self.inside.cells.items in
+    let i = c.args.index in
+    let s = c.self.invariant.0 in
+    let a = c.self.invariant.3 in
+    let h : is_held (row_at (rows_of cells) i) ≡ true = rw (ap (λ s. s.rows) c.self.view_is) c.requires.held in
+    let left : (row_at (rows_of cells) i).stamp < c.self.inside.last = rw (ap (λ s. s.rows) c.self.view_is, ap (λ s. s.last_stamp) c.self.view_is) c.requires.left in
+    let r = read_cell cells i c.index_mut-cell.result.now (inside_cells s a i h) c.index_mut-cell.ensures.value in
+    rw (c.raise.ensures, ← r) (raised_cells s a i h left, room_kept cells i _ _ _ c.self.invariant.1 refl, room_kept cells i _ _ _ c.self.invariant.2 refl, raised_aside s a i h)
+
+pub returns : goal.returns
+returns g c =
+    let cells = c.self.inside.cells.items in
+    let i = c.args.index in
+    let h : is_held (row_at (rows_of cells) i) ≡ true = rw (ap (λ s. s.rows) c.self.view_is) c.requires.held in
+    let r = read_cell cells i c.index_mut-cell.result.now (inside_cells c.self.invariant.0 c.self.invariant.3 i h) c.index_mut-cell.ensures.value in
+    rw (← c.self.view_is, c.raise.ensures, ← r)
+    (ap (λ rs. slots_of c.self.inside.last rs) (rows_changed cells i (λ r. raised_row r) (raised_cell (cell_at cells i)) refl))

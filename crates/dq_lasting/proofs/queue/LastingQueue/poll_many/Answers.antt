@@ -9,4 +9,4 @@ returns-clause-answers g c =
     let entered = c.in_ok-shard.ensures.entered in
     let told = c.poll_many-answer.ensures in
     let does = rw c.in_ok-answer.was at told.polls in
-    (entered.0, at_place c.args.self.now.shards c.args.place (λ old r new. LastingPollsMany old c.args.tick (vec_capacity c.args.row.now) c.args.row.now.items c.poll_many-answer.new.row.items r new) (Ok c.in_ok-answer.field-0) _ _ _ _ entered.1 (c.behind-shard.view_is ∙ c.deref_mut.ensures.value) c.unlock-aside.ensures refl (does, (told.attends.0, refl, refl, told.attends.3, refl)))
+    (entered.0, at_place c.args.self.now.shards c.args.place (λ old r new. LastingPollsMany old c.args.tick (vec_capacity c.args.row.now) c.args.row.now.items c.poll_many-answer.new.row.items r new) (Ok c.in_ok-answer.field-0) _ _ _ _ entered.1 (c.behind-shard.view_is ∙ c.deref_mut.ensures.value) c.leave.ensures refl (does, (told.attends.0, refl, refl, told.attends.3, refl)))

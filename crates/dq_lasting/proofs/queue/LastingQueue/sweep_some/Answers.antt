@@ -7,4 +7,4 @@ pub returns : goal.returns
 returns g c =
     let entered = c.in_ok-shard.ensures.entered in
     let told = c.sweep_some-leaver.ensures in
-    (entered.0, at_place c.args.self.now.shards c.args.place (λ old r new. LastingSweepsSome old c.args.from c.args.count r new) c.sweep_some-leaver.result.0 _ _ _ _ entered.1 (c.behind-shard.view_is ∙ c.deref_mut.ensures.value) c.unlock-aside.ensures refl (told.sweeps, told.next, (told.attends.0, refl, refl, told.attends.3, refl)))
+    (entered.0, at_place c.args.self.now.shards c.args.place (λ old r new. LastingSweepsSome old c.args.from c.args.count r new) c.sweep_some-leaver.result.0 _ _ _ _ entered.1 (c.behind-shard.view_is ∙ c.deref_mut.ensures.value) c.leave.ensures refl (told.sweeps, told.next, (told.attends.0, refl, refl, told.attends.3, refl)))

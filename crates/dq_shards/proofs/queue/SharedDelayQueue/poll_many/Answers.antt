@@ -9,4 +9,4 @@ returns-clause-answers g c =
     let entered = c.in_ok-locked.ensures.entered in
     let told = c.poll_many-answer.ensures in
     let does = rw c.in_ok-answer.was at told.polls in
-    (entered.0, on_numbered c.args.shard (λ old r new. ShardPollsMany old c.args.tick (vec_capacity c.args.row.now) c.args.row.now.items c.poll_many-answer.new.row.items r new) (Ok c.in_ok-answer.field-0) _ _ _ _ entered.1 c.in_ok-locked.ensures.number (c.behind-locked.view_is ∙ c.deref_mut.ensures.value) c.unlock-aside.ensures refl (does, (told.attends.0, told.attends.1, told.attends.3, told.attends.2)))
+    (entered.0, on_numbered c.args.shard (λ old r new. ShardPollsMany old c.args.tick (vec_capacity c.args.row.now) c.args.row.now.items c.poll_many-answer.new.row.items r new) (Ok c.in_ok-answer.field-0) _ _ _ _ entered.1 c.in_ok-locked.ensures.number (c.behind-locked.view_is ∙ c.deref_mut.ensures.value) c.leave.ensures refl (does, (told.attends.0, told.attends.1, told.attends.3, told.attends.2)))

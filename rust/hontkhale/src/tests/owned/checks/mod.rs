@@ -7,5 +7,6 @@ mod open_slots;
 mod peeks;
 mod race;
 mod renewals;
+mod set_aside;
 
 use crate::tests::checks::{queues, same};

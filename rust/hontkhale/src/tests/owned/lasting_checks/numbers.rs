@@ -1,10 +1,10 @@
 //! The last numbers of a shard: it is opened again exactly where a key can carry its next number.
 
 use super::same;
-use crate::core::{CoreConfig, CoreError, FreshRows};
+use crate::core::{CoreConfig, CoreError};
 use crate::lasting::{Kept, LastingShard, ReopenError};
 use crate::tests::kit::Fail;
-use crate::words::{numbered_queue, Keeper};
+use crate::words::numbered_queue;
 
 type Shard = LastingShard<u64>;
 
@@ -27,11 +27,12 @@ fn closed(number: u32) -> Result<Shard, CoreError> {
 // What a shard is once it was to be opened again: its number, and whether it takes entries. Refused, it is as it was.
 fn reopens(number: u32, by: u32, answer: Result<u32, ReopenError>) -> Result<(), CoreError> {
     let mut shard = closed(number)?;
-    let keeper = Keeper::new(SLOTS).expect("memory for two words");
-    let Ok(rows) = FreshRows::new(keeper, LAST_STAMP) else {
-        panic!("the rows are refused");
-    };
-    let (begun, leaver, _left) = shard.step(Some(rows), 0, by);
+    let fresh = numbered_queue(CoreConfig {
+        shard: number.wrapping_add(by),
+        capacity: SLOTS,
+        last_stamp: LAST_STAMP,
+    })?;
+    let (begun, leaver, _left) = shard.step(Some(fresh), 0, by);
     leaver.wake();
     let answered = answer.map(|_| Kept::Reopened { place: 0 });
     same(number, format!("{begun:?}"), format!("Answered({answered:?})"));
