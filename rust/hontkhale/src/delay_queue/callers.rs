@@ -528,7 +528,11 @@ mod tests {
             let segment = queue.shared.segment(before.trailing_zeros() as usize).expect("a segment");
             // No shard of it is new while one is locked.
             let locked = segment.enter(segment.rows.len() - 1);
-            scope.spawn(|| (0..500).map(|_| insert()).count());
+            scope.spawn(|| {
+                for _ in 0..500 {
+                    insert();
+                }
+            });
             let is_noted = (0..1_000).any(|_| {
                 thread::sleep(Duration::from_millis(1));
                 noted() != before
