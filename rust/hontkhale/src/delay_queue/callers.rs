@@ -525,7 +525,10 @@ mod tests {
         let before = noted();
         assert!(before > 0);
         let is_noted = thread::scope(|scope| {
-            let segment = queue.shared.segment(before.trailing_zeros() as usize).expect("a segment");
+            let segment = queue
+                .shared
+                .segment(before.trailing_zeros() as usize)
+                .expect("a segment");
             // No shard of it is new while one is locked.
             let locked = segment.enter(segment.rows.len() - 1);
             scope.spawn(|| {
