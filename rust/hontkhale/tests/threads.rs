@@ -6,7 +6,8 @@
 use hontkhale::lasting::{LastingConfig, LastingHandle, LastingQueue};
 use hontkhale::owner::{shared_queue, CallError, Caller, DelayCore, Key, Look, Turn, LAST_TICK};
 use hontkhale::shards::{Handle, QueueConfig, SharedDelayQueue};
-use std::sync::atomic::{AtomicBool, Ordering::SeqCst};
+use std::hint;
+use std::sync::atomic::{AtomicBool, AtomicU64, Ordering::SeqCst};
 use std::sync::{mpsc, Arc, Barrier, Mutex};
 use std::thread;
 
@@ -84,6 +85,79 @@ fn four_threads_extend_while_one_polls() {
         assert_eq!(ended[entry], Some(latest));
     }
     assert_eq!(queue.returned(), Ok(0));
+}
+
+/// Until the owner issues a first caller some of its steps on the words are plain ones, and from then on each is atomic. The
+/// caller finds what was done before, and extends each entry at about the moment at which the owner ends it.
+fn race_the_first_caller() {
+    const MANY: u64 = 20_000;
+    const LATE: u64 = 2 * MANY;
+    let mut queue = shared_queue(MANY as usize).unwrap();
+    let old: Vec<Key> = (0..MANY).map(|entry| queue.insert_or_drop(entry, 0).unwrap()).collect();
+    assert_eq!(due!(queue, 0).count() as u64, MANY);
+    let keys: Vec<Key> = (0..MANY)
+        .map(|entry| queue.insert_or_drop(entry, entry).unwrap())
+        .collect();
+    let (begun, at) = (AtomicBool::new(false), AtomicU64::new(u64::MAX));
+    let mut ended = vec![None; keys.len()];
+    let promised = thread::scope(|scope| {
+        let mut caller = queue.issue().unwrap();
+        let (keys, old, begun, at) = (&keys, &old, &begun, &at);
+        let extends = scope.spawn(move || {
+            assert!(old
+                .iter()
+                .all(|key| caller.look(key) == Err(CallError::Stale { seen: 2 })));
+            assert!(keys
+                .iter()
+                .all(|key| matches!(caller.look(key), Ok(Look::StillLive(_)))));
+            begun.store(true, SeqCst);
+            let (mut promised, mut last) = (vec![None; keys.len()], u64::MAX);
+            loop {
+                let entry = at.load(SeqCst);
+                if entry == MANY {
+                    return promised;
+                }
+                if entry == last {
+                    hint::spin_loop();
+                    continue;
+                }
+                (0..entry / 16 % 32).for_each(|_| hint::spin_loop());
+                match caller.extend(&keys[entry as usize], LATE) {
+                    Ok(deadline) => promised[entry as usize] = Some(deadline),
+                    Err(refused) => assert!(matches!(refused, CallError::Ended { .. })),
+                }
+                last = entry;
+            }
+        });
+        while !begun.load(SeqCst) {
+            thread::yield_now();
+        }
+        for entry in 0..MANY {
+            at.store(entry, SeqCst);
+            (0..entry % 16).for_each(|_| hint::spin_loop());
+            for expired in due!(queue, entry) {
+                ended[expired.value as usize] = Some(expired.deadline);
+            }
+        }
+        at.store(MANY, SeqCst);
+        extends.join().unwrap()
+    });
+    for expired in due!(queue, LATE) {
+        assert_eq!(ended[expired.value as usize].replace(expired.deadline), None);
+    }
+    for (entry, (ended, promised)) in ended.into_iter().zip(promised).enumerate() {
+        assert_eq!(
+            ended,
+            promised.or(Some(entry as u64)),
+            "an extend that was accepted is lost"
+        );
+    }
+}
+
+#[test]
+fn the_first_caller_finds_all_that_was_done_and_loses_no_extend() {
+    // an owner whose steps stay plain is seen in two of three races, on a machine with other work
+    (0..5).for_each(|_| race_the_first_caller());
 }
 
 #[test]

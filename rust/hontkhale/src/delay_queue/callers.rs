@@ -518,19 +518,21 @@ mod tests {
     #[test]
     fn a_segment_is_noted_as_open_before_a_shard_of_it_is_new() {
         let queue = DelayQueue::builder().shards(2).build();
-        let keys: Vec<_> = (0..500).map(|_| queue.insert(0, FAR).expect("room")).collect();
+        let insert = || queue.insert(0, FAR).expect("room");
+        let keys: Vec<_> = (0..500).map(|_| insert()).collect();
         keys.iter().rev().for_each(|key| assert!(queue.remove(key).is_ok()));
         let noted = || queue.shared.front.closed.load(SeqCst);
         let before = noted();
         assert!(before > 0);
         let is_noted = thread::scope(|scope| {
-            let segment = queue
-                .shared
-                .segment(before.trailing_zeros() as usize)
-                .expect("a segment");
+            let segment = queue.shared.segment(before.trailing_zeros() as usize).expect("a segment");
             // No shard of it is new while one is locked.
             let locked = segment.enter(segment.rows.len() - 1);
-            scope.spawn(|| assert!((0..500).all(|_| queue.insert(0, FAR).is_ok())));
+            scope.spawn(|| {
+                for _ in 0..500 {
+                    insert();
+                }
+            });
             let is_noted = (0..1_000).any(|_| {
                 thread::sleep(Duration::from_millis(1));
                 noted() != before

@@ -6,10 +6,9 @@
 use crate::memory::AllocError;
 use crate::words::parts::ONE_CANCEL;
 use crate::words::table::Table;
-use alloc::sync::Arc;
 
 pub(crate) struct Seated {
-    table: Arc<Table>,
+    table: Table,
     rows: usize,
 }
 
@@ -17,7 +16,7 @@ impl Seated {
     // The keeper's seat at a new table.
     pub(crate) fn at_new_table(rows: usize) -> Result<Seated, AllocError> {
         // requires rows ≤ CAPACITY_LIMIT
-        let table = Arc::new(Table::of_words(rows + 1)?);
+        let table = Table::of_words(rows + 1)?;
         Ok(Seated { table, rows })
     }
 }
@@ -58,7 +57,7 @@ impl Seated {
         // requires (0 < stamp_of old) × (mark_of old ≡ 0)
         // requires (stamp_of new ≡ stamp_of old) × (field_of new ≡ field_of old)
         // requires mark_of new ≡ 2
-        self.table.compare_exchange(index, old, new)
+        self.table.compare_exchange_once(index, old, new)
     }
 
     pub(crate) fn renew(&mut self, index: usize, old: u64, new: u64) -> u64 {
@@ -82,7 +81,7 @@ impl Seated {
     pub(crate) fn issue(&mut self) -> Result<Seated, AllocError> {
         // requires self.old.view.keeps ≡ true
         // requires self.old.view.issued < HANDLE_LIMIT
-        let table = Arc::clone(&self.table);
+        let table = self.table.shared();
         Ok(Seated { table, rows: self.rows })
     }
 

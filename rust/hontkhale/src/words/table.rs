@@ -1,14 +1,25 @@
-//! A table of words that a keeper and its callers share. Each call is one atomic step.
+//! A table of words that a keeper and its callers share.
+//!
+//! Once the keeper has issued a caller, each call is one atomic step, and all steps are sequentially consistent. Until
+//! then nobody else has the words, and the keeper's stores and settling exchanges are plain: `Relaxed`, which takes no
+//! fence. No step can tell the difference. The keeper makes its steps by `&mut`, so they come one after the other,
+//! whichever threads it goes through. A caller goes to another thread by something that synchronizes, as a spawn or a
+//! lock does, and it is made after all plain steps: so each of its steps finds what they left, or something later.
+//! A caller that was given back still counts.
 
 use crate::index::nth;
 use crate::memory::{room_for, AllocError};
+use alloc::sync::Arc;
 use alloc::vec::Vec;
 use core::sync::atomic::AtomicU64;
-use core::sync::atomic::Ordering::SeqCst;
+use core::sync::atomic::Ordering::{Relaxed, SeqCst};
 
+/// A seat's hold of the words.
 #[derive(Debug)]
 pub(crate) struct Table {
-    words: Vec<AtomicU64>,
+    words: Arc<Vec<AtomicU64>>,
+    /// Whether another seat holds them, or did. It stands here and not beside the words, where it would be an atomic load.
+    is_shared: bool,
 }
 
 impl Table {
@@ -16,7 +27,19 @@ impl Table {
     pub(crate) fn of_words(count: usize) -> Result<Table, AllocError> {
         let mut words = room_for(count)?;
         words.resize_with(count, || AtomicU64::new(0));
-        Ok(Table { words })
+        Ok(Table {
+            words: Arc::new(words),
+            is_shared: false,
+        })
+    }
+
+    /// The same words for another seat. From now on every step is atomic.
+    pub(crate) fn shared(&mut self) -> Table {
+        self.is_shared = true;
+        Table {
+            words: Arc::clone(&self.words),
+            is_shared: true,
+        }
     }
 
     #[inline(always)]
@@ -26,7 +49,13 @@ impl Table {
 
     #[inline(always)]
     pub(crate) fn store(&self, index: usize, new: u64) {
-        nth(&self.words, index).store(new, SeqCst);
+        let word = nth(&self.words, index);
+        if self.is_shared {
+            word.store(new, SeqCst);
+        } else {
+            seldom();
+            word.store(new, Relaxed);
+        }
     }
 
     /// Writes `new` where `old` stands, and answers what it found.
@@ -35,6 +64,28 @@ impl Table {
         match nth(&self.words, index).compare_exchange(old, new, SeqCst, SeqCst) {
             Ok(found) | Err(found) => found,
         }
+    }
+
+    /// The same, for a word that is mostly found as it is expected.
+    #[inline(always)]
+    pub(crate) fn compare_exchange_once(&self, index: usize, old: u64, new: u64) -> u64 {
+        let word = nth(&self.words, index);
+        if self.is_shared {
+            return match word.compare_exchange(old, new, SeqCst, SeqCst) {
+                Ok(_) => old,
+                Err(found) => {
+                    seldom();
+                    found
+                }
+            };
+        }
+        seldom();
+        let found = word.load(Relaxed);
+        if found != old {
+            return found;
+        }
+        word.store(new, Relaxed);
+        old
     }
 
     #[inline(always)]
@@ -47,3 +98,8 @@ impl Table {
         nth(&self.words, index).fetch_add(more, SeqCst)
     }
 }
+
+/// Tells the compiler that what follows is seldom, so that the other way needs no jump.
+#[cold]
+#[inline(always)]
+fn seldom() {}
