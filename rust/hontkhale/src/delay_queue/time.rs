@@ -141,20 +141,17 @@ impl Parts {
     #[inline]
     fn since(self, other: Parts) -> Duration {
         let borrows = self.nanos < other.nanos;
-        let seconds = self
-            .seconds
-            .wrapping_sub(other.seconds)
-            .wrapping_sub(i64::from(borrows));
+        // Of moments that are more than half of all time apart it doesn't fit in 64 bits with its sign.
+        let seconds = i128::from(self.seconds) - i128::from(other.seconds) - i128::from(borrows);
         let nanos = self.nanos.wrapping_sub(other.nanos);
         let nanos = if borrows {
             nanos.wrapping_add(1_000_000_000)
         } else {
             nanos
         };
-        if seconds < 0 {
-            Duration::ZERO
-        } else {
-            Duration::new(seconds as u64, nanos % 1_000_000_000)
+        match u64::try_from(seconds) {
+            Ok(seconds) => Duration::new(seconds, nanos % 1_000_000_000),
+            Err(_) => Duration::ZERO,
         }
     }
 
@@ -300,6 +297,22 @@ mod tests {
             let (one, other) = (moment(drawn >> 20), moment(drawn.rotate_left(20) >> (drawn % 40)));
             let length = one.saturating_duration_since(other);
             assert_eq!(Parts::of(one).since(Parts::of(other)), length);
+        }
+    }
+
+    #[test]
+    fn the_parts_tell_so_from_the_first_moment_to_the_last() {
+        let now = Instant::now();
+        let length = |bit: u32| Duration::from_secs(1 << bit);
+        let earlier = |moment: Instant, bit| moment.checked_sub(length(bit)).unwrap_or(moment);
+        let later = |moment: Instant, bit| moment.checked_add(length(bit)).unwrap_or(moment);
+        let first = (0..64).rev().fold(earlier(now, 62), earlier);
+        let last = (0..64).rev().fold(later(now, 62), later);
+        for one in [first, now, last] {
+            for other in [first, now, last] {
+                let length = one.saturating_duration_since(other);
+                assert_eq!(Parts::of(one).since(Parts::of(other)), length);
+            }
         }
     }
 
