@@ -218,6 +218,32 @@ fn words_of_a_dropped_queue_go_with_a_threads_next_call() {
     assert!(freed >= 8 * 100_000, "{freed} bytes");
 }
 
+/// A thread that ends without a further call lets the words of segments go that were closed since its last.
+#[test]
+fn words_of_closed_segments_go_with_a_thread_that_ends() {
+    let _alone = alone();
+    let queue = DelayQueue::builder().shards(2).build();
+    let keys: Vec<Key> = (0..100_000_u64)
+        .map(|number| queue.insert(number, FAR).expect("room"))
+        .collect();
+    let barrier = Barrier::new(2);
+    let freed = thread::scope(|scope| {
+        let extends = scope.spawn(|| {
+            assert!(keys.iter().all(|key| queue.extend(key, FAR).is_ok()));
+            barrier.wait();
+            barrier.wait();
+        });
+        barrier.wait();
+        assert!(keys.iter().all(|key| queue.remove(key).is_ok()));
+        let kept = used();
+        barrier.wait();
+        extends.join().expect("its extends are accepted");
+        kept - used()
+    });
+    // A word is of eight bytes.
+    assert!(freed >= 8 * 90_000, "{freed} bytes");
+}
+
 /// Each allocation of an insert is refused in turn, until none is left to refuse.
 #[test]
 fn a_refused_insert_gives_its_value_back_and_changes_nothing() {

@@ -183,9 +183,16 @@ impl Told {
         Told(u64::MAX - 1 - error as u64)
     }
 
+    /// Whether it came to a deadline.
+    #[inline(always)]
+    pub fn is_deadline(self) -> bool {
+        self.0 <= LAST_TICK
+    }
+
+    /// Of a step that was told.
     #[inline(always)]
     pub fn result(self) -> Result<u64, KeyError> {
-        if self.0 <= LAST_TICK {
+        if self.is_deadline() {
             Ok(self.0)
         } else {
             Err(ERRORS[(u64::MAX - 1 - self.0) as usize % ERRORS.len()])
@@ -407,8 +414,10 @@ impl Front {
         })
     }
 
-    fn put_back(&self, callers: Callers) {
+    fn put_back(&self, mut callers: Callers) {
         let mut idle = self.idle();
+        // A segment that is closed from here on finds them among the idle ones.
+        self.forget_closed(&mut callers);
         // Where memory is refused they go.
         if !self.is_ended() && idle.try_reserve(1).is_ok() {
             idle.push(callers);
@@ -493,5 +502,47 @@ impl Keeps {
                 None => *kept = Kept::NOTHING,
             }
         }
+    }
+}
+
+#[cfg(test)]
+mod tests {
+    use super::SeqCst;
+    use crate::DelayQueue;
+    use std::thread;
+    use std::time::Duration;
+
+    const FAR: Duration = Duration::from_secs(1_000);
+
+    /// A thread that lets the callers of closed segments go just then would lose new ones, of which there are 1,024 a shard.
+    #[test]
+    fn a_segment_is_noted_as_open_before_a_shard_of_it_is_new() {
+        let queue = DelayQueue::builder().shards(2).build();
+        let insert = || queue.insert(0, FAR).expect("room");
+        let keys: Vec<_> = (0..500).map(|_| insert()).collect();
+        keys.iter().rev().for_each(|key| assert!(queue.remove(key).is_ok()));
+        let noted = || queue.shared.front.closed.load(SeqCst);
+        let before = noted();
+        assert!(before > 0);
+        let is_noted = thread::scope(|scope| {
+            let segment = queue
+                .shared
+                .segment(before.trailing_zeros() as usize)
+                .expect("a segment");
+            // No shard of it is new while one is locked.
+            let locked = segment.enter(segment.rows.len() - 1);
+            scope.spawn(|| {
+                for _ in 0..500 {
+                    insert();
+                }
+            });
+            let is_noted = (0..1_000).any(|_| {
+                thread::sleep(Duration::from_millis(1));
+                noted() != before
+            });
+            drop(locked);
+            is_noted
+        });
+        assert!(is_noted);
     }
 }

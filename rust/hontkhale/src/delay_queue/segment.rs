@@ -239,14 +239,15 @@ impl<T> Segment<T> {
             return false;
         };
         made.extend((0..self.rows.len()).map_while(next));
-        made.len() == self.rows.len() && made.into_iter().enumerate().all(|(place, core)| {
-            // The one that goes is dropped once the lock is free.
-            let (anew, _old, _aside) = self.queue.open_at(place, Some(core), capacity, takes);
-            let mut shard = self.enter(place);
-            let next = shard.core().next_wake();
-            shard.set_hint(next);
-            anew == Anew::Done
-        })
+        made.len() == self.rows.len()
+            && made.into_iter().enumerate().all(|(place, core)| {
+                // The one that goes is dropped once the lock is free.
+                let (anew, _old, _aside) = self.queue.open_at(place, Some(core), capacity, takes);
+                let mut shard = self.enter(place);
+                let next = shard.core().next_wake();
+                shard.set_hint(next);
+                anew == Anew::Done
+            })
     }
 }
 

@@ -104,7 +104,7 @@ pub(crate) fn quick_step(front: &Front, key: &Key, step: Step) -> Told {
         Step::Look => look_by_own(front.id, *key),
         Step::Cancel => {
             let told = cancel_by_own(front.id, *key);
-            if told.result().is_ok() {
+            if told.is_deadline() {
                 front.count_cancel();
             }
             told
@@ -392,8 +392,14 @@ impl<T> Shared<T> {
     fn open_again(&self, at: usize, segment: &Segment<T>) -> Result<(), InsertErrorKind> {
         match segment.claim() {
             None => thread::yield_now(),
-            Some(claim) if segment.open(&claim) => self.front.note_closed(at, false),
-            Some(_) => return Err(InsertErrorKind::NoMemory),
+            Some(claim) => {
+                // It is noted first: from here on no thread takes a caller of a new shard for one of a closed segment.
+                self.front.note_closed(at, false);
+                if !segment.open(&claim) {
+                    self.front.note_closed(at, true);
+                    return Err(InsertErrorKind::NoMemory);
+                }
+            }
         }
         Ok(())
     }

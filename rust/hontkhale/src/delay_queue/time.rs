@@ -2,6 +2,7 @@
 
 use crate::ticks::LAST_TICK;
 use std::fmt;
+use std::hash::{Hash, Hasher};
 use std::sync::atomic::{AtomicU64, Ordering::SeqCst};
 use std::sync::{Arc, Mutex, MutexGuard, PoisonError};
 use std::time::{Duration, Instant};
@@ -91,7 +92,84 @@ impl fmt::Debug for ManualClock {
 #[derive(Debug)]
 pub(crate) struct Time {
     start: Instant,
+    /// Those of the start, where moments have parts.
+    parts: Option<Parts>,
     clock: Source,
+}
+
+/// The seconds and the nanoseconds of a moment, as std tells them a hasher. The difference of two `Instant`s is a call that
+/// isn't inlined, and that takes as long as half of an extend. That a hasher is told these parts isn't promised, so each queue
+/// looks whether it is so ([`Parts::tell_lengths`]).
+#[derive(Clone, Copy, Debug, Default)]
+struct Parts {
+    seconds: i64,
+    nanos: u32,
+}
+
+impl Hasher for Parts {
+    #[inline]
+    fn write_i64(&mut self, seconds: i64) {
+        self.seconds = seconds;
+    }
+
+    #[inline]
+    fn write_u64(&mut self, seconds: u64) {
+        self.seconds = seconds as i64;
+    }
+
+    #[inline]
+    fn write_u32(&mut self, nanos: u32) {
+        self.nanos = nanos;
+    }
+
+    fn write(&mut self, _: &[u8]) {}
+
+    fn finish(&self) -> u64 {
+        0
+    }
+}
+
+impl Parts {
+    #[inline]
+    fn of(moment: Instant) -> Parts {
+        let mut parts = Parts::default();
+        moment.hash(&mut parts);
+        parts
+    }
+
+    /// How long after another moment this is; nothing where it is before.
+    #[inline]
+    fn since(self, other: Parts) -> Duration {
+        let borrows = self.nanos < other.nanos;
+        let seconds = self
+            .seconds
+            .wrapping_sub(other.seconds)
+            .wrapping_sub(i64::from(borrows));
+        let nanos = self.nanos.wrapping_sub(other.nanos);
+        let nanos = if borrows {
+            nanos.wrapping_add(1_000_000_000)
+        } else {
+            nanos
+        };
+        if seconds < 0 {
+            Duration::ZERO
+        } else {
+            Duration::new(seconds as u64, nanos % 1_000_000_000)
+        }
+    }
+
+    /// Whether the parts of moments around one tell how far they are from it.
+    fn tell_lengths(start: Instant) -> bool {
+        let last = Duration::from_millis(LAST_TICK);
+        let lengths =
+            [1, 999, 1_000, 999_999_999, 1_000_000_000, 1_000_000_001, u64::MAX / 4].map(Duration::from_nanos);
+        let tells = |moment: Instant, length| {
+            let (parts, first) = (Parts::of(moment), Parts::of(start));
+            parts.since(first) == length && first.since(parts) == Duration::ZERO
+        };
+        let later = |length| start.checked_add(length).is_some_and(|moment| tells(moment, length));
+        lengths.into_iter().chain([last]).all(later)
+    }
 }
 
 /// What a queue's time is read from.
@@ -118,8 +196,10 @@ impl Time {
     /// The time from a moment on that isn't to come, or from now.
     pub fn new(clock: Source, start: Option<Instant>) -> Time {
         let now = clock.now();
+        let start = start.map_or(now, |start| start.min(now));
         Time {
-            start: start.map_or(now, |start| start.min(now)),
+            start,
+            parts: Parts::tell_lengths(start).then(|| Parts::of(start)),
             clock,
         }
     }
@@ -138,7 +218,7 @@ impl Time {
     /// The first tick that isn't before a moment, none beyond the last. It reads no clock.
     #[inline]
     pub fn tick_at(&self, when: Instant) -> Option<u64> {
-        rounded_up(when.saturating_duration_since(self.start))
+        rounded_up(self.length_to(when))
     }
 
     /// The same of the moment that comes after a duration, or the present tick where it comes at once.
@@ -153,7 +233,16 @@ impl Time {
 
     #[inline]
     fn passed(&self) -> Duration {
-        self.now().saturating_duration_since(self.start)
+        self.length_to(self.now())
+    }
+
+    /// How long after the start a moment is, nothing where it is before.
+    #[inline]
+    fn length_to(&self, when: Instant) -> Duration {
+        match self.parts {
+            Some(start) => Parts::of(when).since(start),
+            None => when.saturating_duration_since(self.start),
+        }
     }
 
     /// The moment at which a tick begins.
@@ -197,8 +286,22 @@ fn rounded_up(length: Duration) -> Option<u64> {
 
 #[cfg(test)]
 mod tests {
-    use super::{rounded_up, LAST_TICK};
-    use std::time::Duration;
+    use super::{rounded_up, Parts, LAST_TICK};
+    use std::time::{Duration, Instant};
+
+    #[test]
+    fn the_parts_of_moments_tell_how_far_they_are_from_each_other() {
+        let start = Instant::now();
+        assert!(Parts::tell_lengths(start));
+        let moment = |nanos: u64| start + Duration::from_nanos(nanos);
+        let mut drawn = 1_u64;
+        for _ in 0..10_000 {
+            drawn = drawn.wrapping_mul(6_364_136_223_846_793_005).wrapping_add(1);
+            let (one, other) = (moment(drawn >> 20), moment(drawn.rotate_left(20) >> (drawn % 40)));
+            let length = one.saturating_duration_since(other);
+            assert_eq!(Parts::of(one).since(Parts::of(other)), length);
+        }
+    }
 
     #[test]
     fn a_deadline_is_rounded_up_and_refused_beyond_the_last_tick() {

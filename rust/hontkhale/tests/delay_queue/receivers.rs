@@ -116,14 +116,18 @@ fn a_clock_that_is_advanced_wakes_leader_and_followers() {
         let queue = DelayQueue::builder().clock(&clock).build();
         queue.insert((), Duration::from_secs(3_600)).expect("room");
         let (sends, receives) = channel();
+        let (begins, begun) = channel();
         let receivers: Vec<_> = (0..3)
-            .map(|_| (queue.clone(), sends.clone()))
-            .map(|(queue, sends)| {
+            .map(|_| (queue.clone(), sends.clone(), begins.clone()))
+            .map(|(queue, sends, begins)| {
                 thread::spawn(move || {
+                    let _ = begins.send(());
                     let _ = sends.send(queue.recv_timeout(Duration::from_secs(7_200)).is_some());
                 })
             })
             .collect();
+        // A thread that begins late waits beyond what the clock comes to.
+        (0..3).for_each(|_| begun.recv().unwrap());
         thread::sleep(ms(50));
         clock.advance(Duration::from_secs(3_600));
         assert!(receives.recv().unwrap());

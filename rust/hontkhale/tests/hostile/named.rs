@@ -171,7 +171,12 @@ impl Thread<'_> {
     fn poll_at(&mut self, shard: usize, tick: u64) -> bool {
         let queue = &self.race.queue;
         match queue.poll_by(&mut self.callers[shard], tick).expect("a tick in reach") {
-            Turn::Out(Expired { key, deadline, noted, value }) => {
+            Turn::Out(Expired {
+                key,
+                deadline,
+                noted,
+                value,
+            }) => {
                 assert!(deadline <= noted, "it isn't due");
                 assert_eq!(key.entry().shard() as usize, shard);
                 self.told.came_out.push((key, value, deadline));
@@ -210,17 +215,27 @@ fn agree(all: &[Told]) {
         *latest = deadline.max(*latest);
     }
     for &(key, value, deadline) in all.iter().flat_map(|told| told.came_out.iter().chain(&told.removed)) {
-        assert!(deadline >= promised[&key], "{value} ended at {deadline}, before {}", promised[&key]);
+        assert!(
+            deadline >= promised[&key],
+            "{value} ended at {deadline}, before {}",
+            promised[&key]
+        );
     }
     let mut ended = HashSet::new();
     let cancelled: HashSet<u64> = all.iter().flat_map(|told| &told.cancelled).copied().collect();
-    let taken = all.iter().flat_map(|told| told.came_out.iter().chain(&told.removed)).map(|it| it.1);
+    let taken = all
+        .iter()
+        .flat_map(|told| told.came_out.iter().chain(&told.removed))
+        .map(|it| it.1);
     for value in taken.chain(all.iter().flat_map(|told| &told.cancelled).copied()) {
         assert!(ended.insert(value), "{value} ended twice");
     }
     let inserted: HashSet<u64> = all.iter().flat_map(|told| &told.inserted).copied().collect();
     assert_eq!(ended, inserted, "each value that was put in ended");
-    assert!(all.iter().flat_map(|told| &told.crowded).all(|value| cancelled.contains(value)));
+    assert!(all
+        .iter()
+        .flat_map(|told| &told.crowded)
+        .all(|value| cancelled.contains(value)));
 }
 
 // promise: shards.named-race

@@ -226,7 +226,7 @@ const ROWS: &[Row] = &[
     },
     Row {
         name: "the opening of a shard",
-        allocations: 7,
+        allocations: 8,
         aborting: &[1],
         makes: opening_of_a_shard,
     },
