@@ -6,9 +6,12 @@
 use crate::memory::AllocError;
 use crate::words::parts::ONE_CANCEL;
 use crate::words::table::Table;
+use alloc::sync::Arc;
 
 pub(crate) struct Seated {
-    table: Table,
+    table: Arc<Table>,
+    // Whether another seat has the table, or had.
+    is_shared: bool,
     rows: usize,
 }
 
@@ -16,8 +19,12 @@ impl Seated {
     // The keeper's seat at a new table.
     pub(crate) fn at_new_table(rows: usize) -> Result<Seated, AllocError> {
         // requires rows ≤ CAPACITY_LIMIT
-        let table = Table::of_words(rows + 1)?;
-        Ok(Seated { table, rows })
+        let table = Arc::new(Table::of_words(rows + 1)?);
+        Ok(Seated {
+            table,
+            is_shared: false,
+            rows,
+        })
     }
 }
 
@@ -48,7 +55,7 @@ impl Seated {
         // requires IsFree (slice_index self.old.view.seen index)
         // requires stamp_of new ≡ stamp_of (slice_index self.old.view.seen index) + 1
         // requires mark_of new ≡ 0
-        self.table.store(index, new);
+        self.table.store(self.is_shared, index, new);
     }
 
     pub(crate) fn settle(&mut self, index: usize, old: u64, new: u64) -> u64 {
@@ -57,7 +64,7 @@ impl Seated {
         // requires (0 < stamp_of old) × (mark_of old ≡ 0)
         // requires (stamp_of new ≡ stamp_of old) × (field_of new ≡ field_of old)
         // requires mark_of new ≡ 2
-        self.table.compare_exchange_once(index, old, new)
+        self.table.compare_exchange_once(self.is_shared, index, old, new)
     }
 
     pub(crate) fn renew(&mut self, index: usize, old: u64, new: u64) -> u64 {
@@ -81,8 +88,13 @@ impl Seated {
     pub(crate) fn issue(&mut self) -> Result<Seated, AllocError> {
         // requires self.old.view.keeps ≡ true
         // requires self.old.view.issued < HANDLE_LIMIT
-        let table = self.table.shared();
-        Ok(Seated { table, rows: self.rows })
+        self.is_shared = true;
+        let table = Arc::clone(&self.table);
+        Ok(Seated {
+            table,
+            is_shared: true,
+            rows: self.rows,
+        })
     }
 
     // The keeper's load of the return word.

@@ -9,17 +9,13 @@
 
 use crate::index::nth;
 use crate::memory::{room_for, AllocError};
-use alloc::sync::Arc;
 use alloc::vec::Vec;
 use core::sync::atomic::AtomicU64;
 use core::sync::atomic::Ordering::{Relaxed, SeqCst};
 
-/// A seat's hold of the words.
 #[derive(Debug)]
 pub(crate) struct Table {
-    words: Arc<Vec<AtomicU64>>,
-    /// Whether another seat holds them, or did. It stands here and not beside the words, where it would be an atomic load.
-    is_shared: bool,
+    words: Vec<AtomicU64>,
 }
 
 impl Table {
@@ -27,19 +23,7 @@ impl Table {
     pub(crate) fn of_words(count: usize) -> Result<Table, AllocError> {
         let mut words = room_for(count)?;
         words.resize_with(count, || AtomicU64::new(0));
-        Ok(Table {
-            words: Arc::new(words),
-            is_shared: false,
-        })
-    }
-
-    /// The same words for another seat. From now on every step is atomic.
-    pub(crate) fn shared(&mut self) -> Table {
-        self.is_shared = true;
-        Table {
-            words: Arc::clone(&self.words),
-            is_shared: true,
-        }
+        Ok(Table { words })
     }
 
     #[inline(always)]
@@ -47,10 +31,11 @@ impl Table {
         nth(&self.words, index).load(SeqCst)
     }
 
+    /// A plain step unless others have the words.
     #[inline(always)]
-    pub(crate) fn store(&self, index: usize, new: u64) {
+    pub(crate) fn store(&self, is_shared: bool, index: usize, new: u64) {
         let word = nth(&self.words, index);
-        if self.is_shared {
+        if is_shared {
             word.store(new, SeqCst);
         } else {
             seldom();
@@ -66,11 +51,11 @@ impl Table {
         }
     }
 
-    /// The same, for a word that is mostly found as it is expected.
+    /// The same, for a word that is mostly found as it is expected. A plain step unless others have the words.
     #[inline(always)]
-    pub(crate) fn compare_exchange_once(&self, index: usize, old: u64, new: u64) -> u64 {
+    pub(crate) fn compare_exchange_once(&self, is_shared: bool, index: usize, old: u64, new: u64) -> u64 {
         let word = nth(&self.words, index);
-        if self.is_shared {
+        if is_shared {
             return match word.compare_exchange(old, new, SeqCst, SeqCst) {
                 Ok(_) => old,
                 Err(found) => {
