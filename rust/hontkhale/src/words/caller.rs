@@ -76,7 +76,6 @@ impl Caller {
     /// - `Unknown` if no slot has the key.
     /// - `Stale` if the slot has a later stamp: the entry was reset, or the slot has another entry.
     /// - `Ended` if the entry came out, was removed or was cancelled. It tells which.
-    #[inline]
     pub fn extend(&mut self, key: &Key, when: u64) -> Result<u64, CallError> {
         if when > LAST_TICK {
             return Err(CallError::TooFar { limit: LAST_TICK });
