@@ -3,6 +3,7 @@
 
 mod beside;
 mod executors;
+mod giving_way;
 mod handles;
 mod paced;
 mod parked;
