@@ -296,7 +296,7 @@ def broken_effect(it):
     it.jobs("enqueue", "100")
     time.sleep(3)
     assert it.sql("SELECT DISTINCT state, attempt FROM jobs") == [["waiting", "0"]], "no job is at fault"
-    it.sql("ALTER TABLE gone RENAME TO effects; TRUNCATE effects")
+    it.sql("TRUNCATE gone; ALTER TABLE gone RENAME TO effects")
     exactly_once(it, 100)
     it.sql("UPDATE jobs SET state = 'dead' WHERE id % 2 = 0")
     assert it.jobs("retry", "all", "--attempts", "1") == "50 dead jobs wait again\n"
