@@ -1,6 +1,6 @@
 //! A shard goes on anew, with as many slots or with another number of them, by two short steps. By the first nothing is
-//! seen to be linked, and it tells by which numbers its queue is to be made; that is made while the lock is free; by the
-//! second it takes the place of the old one, in constant time. What is left over is dropped behind the lock.
+//! seen to be linked, and it tells the numbers of its next queue. That queue is made while the lock is free. By the second
+//! step it takes the place of the old one, in constant time. What is left over is dropped behind the lock.
 ghost use Rattle.std.specs.Prelude.{◌≡◌, ◌+◌, ◌<◌, true, IfSome, None, length};
 ghost use Rattle.std.specs.List.{count_by};
 ghost use Rattle.dq_core.specs.Renewals.{OldAreMissing};
@@ -35,8 +35,8 @@ pub(crate) enum Anew {
 // The queue of a shard.
 pub(crate) type Queue<T, A> = DelayCore<T, Keeper<A>, A>;
 
-// What became of it, who is woken by it, and what is dropped once the lock is free: the queue that it was, or one that it
-// has no use for.
+// What became of it, who is woken by it, and what is dropped once the lock is free: the queue that it was, or one that
+// it has no use for.
 type Went<T, A> = (Anew, Leaver<Option<u64>>, Option<Queue<T, A>>);
 
 // A queue that was never used; none where memory is refused.
@@ -99,8 +99,8 @@ impl<T, A: Allocator> LastingShard<T, A> {
         }
     }
 
-    // Where nothing is linked it goes on as this queue, under the number that is higher by so much. Where there is none, or
-    // it hasn't the numbers of the next one of so many slots, it tells those.
+    // Where nothing is linked it goes on as this queue, under the number that is higher by so much. Where there is none,
+    // or it hasn't the numbers of the next one of so many slots, it tells those.
     pub(crate) fn go_on_anew(
         &mut self,
         fresh: Option<Queue<T, A>>,
@@ -149,7 +149,8 @@ impl<T, A: Allocator> LastingShard<T, A> {
 }
 
 impl<T, A: Allocator> LastingQueue<T, A> {
-    // A step of an opening of the shard at a place. What is to be dropped, and how many values are set aside, is told too.
+    // A step of an opening of the shard at a place. What is to be dropped, and how many values are set aside, is told
+    // too.
     pub(crate) fn open_at<R: Wait>(
         &self,
         rt: &R,
