@@ -258,6 +258,13 @@ def adapter_soak():
     return grid(heads, ([f"{int(it):,}" for it in figures] for figures in rows_of("adapter-soak")), 0)
 
 
+def late():
+    """By how much entries of the shared queue were late beside tasks and threads that sleep, worst first."""
+    found = sorted(([name, *map(int, figures)] for name, *figures in rows_of("late")), key=lambda it: -it[3])
+    return grid(["What waited", "How often", "late by, p50, µs", "p99, µs", "most, µs"],
+                ([name, *(f"{it:,}" for it in figures)] for name, *figures in found), 1)
+
+
 def adapter_times():
     """What a touch of an idle timeout takes by the adapter's handle, and by its peer in a `Mutex`, worst first."""
     found = [(threads, once, int(entries), float(peer), float(here)) for threads, once, entries, peer, here in rows_of("adapter-times")]
