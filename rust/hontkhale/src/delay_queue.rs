@@ -63,21 +63,21 @@ use waking::NEVER;
 /// A clone is the same queue. Every call takes `&self`, and any thread may make it at any time.
 ///
 /// # Deadlines
-/// A deadline is rounded up to whole milliseconds from the queue's making, or from a [moment](Builder::ticks_from) that is told,
-/// and nothing comes out before it. A deadline that is
-/// over is due at once. Of several entries that are due the order is that of their deadlines, as far as they stand in one shard.
-/// A deadline may be up to 139 years after the queue's making.
+/// A deadline is rounded up to whole milliseconds from the queue's making, or from a [moment](Builder::ticks_from) that is
+/// told, and nothing comes out before it. A deadline that is over is due at once. Of several entries that are due the order
+/// is that of their deadlines, as far as they stand in one shard. A deadline may be up to 139 years after the queue's making.
 ///
 /// # Cost
-/// [`extend`](DelayQueue::extend) and [`cancel`](DelayQueue::cancel) take no lock and constant time. [`insert`](DelayQueue::insert),
-/// [`reset`](DelayQueue::reset) and [`remove`](DelayQueue::remove) take the lock of one shard for constant time. An insert may
-/// do a bounded part of what keeps the queue going besides, and takes memory where the queue grows.
+/// [`extend`](DelayQueue::extend) and [`cancel`](DelayQueue::cancel) take no lock and constant time.
+/// [`insert`](DelayQueue::insert), [`reset`](DelayQueue::reset) and [`remove`](DelayQueue::remove) take the lock of one shard
+/// for constant time. An insert may do a bounded part of what keeps the queue going besides, and takes memory where the queue
+/// grows.
 ///
 /// # What a value's drop may do
-/// The queue drops the values of entries that were cancelled, and those that are left as its last clone is dropped. It holds no
-/// lock meanwhile, so a drop may call the queue. What these calls let go in their turn is dropped after it, so that the stack
-/// holds one drop at a time. A drop that panics passes through the call that made it; no entry but the
-/// dropped one is lost, though a value that was handed to [`insert`](DelayQueue::insert) is dropped with the call.
+/// The queue drops the values of entries that were cancelled, and those that are left as its last clone is dropped. It holds
+/// no lock meanwhile, so a drop may call the queue. What these calls let go in their turn is dropped after it, so that the
+/// stack holds one drop at a time. A drop that panics passes through the call that made it; no entry but the dropped one is
+/// lost, though a value that was handed to [`insert`](DelayQueue::insert) is dropped with the call.
 ///
 /// # A suspended machine, and `fork`
 /// The clock is [`Instant`], which stands while Linux is suspended (`CLOCK_MONOTONIC`, and not `CLOCK_BOOTTIME`): what is due
@@ -97,8 +97,8 @@ pub struct DelayQueue<T> {
 pub struct Expired<T> {
     /// The key that its insert returned.
     pub key: Key,
-    /// Its deadline, rounded up to the queue's milliseconds. Where that was over when it was given, it is a moment between then
-    /// and the giving.
+    /// Its deadline, rounded up to the queue's milliseconds. Where that was over when it was given, it is a moment between
+    /// then and the giving.
     pub deadline: Instant,
     /// Its value.
     pub value: T,
@@ -118,8 +118,14 @@ impl<T> DelayQueue<T> {
 
     /// Puts a value in, to come out after `after`, and returns its key. A receiver that waits for a later one is woken.
     ///
+    /// It reads the clock, and takes the lock of one shard for constant time.
+    ///
     /// # Errors
-    /// TooFar, Closed, Full, and NoMemory; the value comes back.
+    /// The value comes back. In this order:
+    /// - `TooFar` if the deadline is more than 139 years after the queue was made.
+    /// - `Closed` if the queue was closed.
+    /// - `Full` if as many entries wait as the queue may have.
+    /// - `NoMemory` if the queue has to grow and memory is refused.
     ///
     /// ```
     /// use hontkhale::DelayQueue;
@@ -138,10 +144,15 @@ impl<T> DelayQueue<T> {
             .map_err(|(kind, value)| InsertError::new(kind, value))
     }
 
-    /// Puts a value in, to come out at `when`, or at once where that is over. It reads no clock.
+    /// Puts a value in, to come out at `when`, or at once if that is over, and returns its key. A receiver that waits for a
+    /// later one is woken. It reads no clock, and takes the lock of one shard for constant time.
     ///
     /// # Errors
-    /// As [`insert`](DelayQueue::insert) returns them.
+    /// The value comes back. In this order:
+    /// - `TooFar` if the deadline is more than 139 years after the queue was made.
+    /// - `Closed` if the queue was closed.
+    /// - `Full` if as many entries wait as the queue may have.
+    /// - `NoMemory` if the queue has to grow and memory is refused.
     #[inline]
     pub fn insert_at(&self, value: T, when: Instant) -> Result<Key, InsertError<T>> {
         let tick = self.shared.front.time.tick_at(when);
@@ -150,10 +161,15 @@ impl<T> DelayQueue<T> {
             .map_err(|(kind, value)| InsertError::new(kind, value))
     }
 
-    /// Puts a value in that is taken out and dropped where the returned guard is dropped before it came out.
+    /// Puts a value in, to come out after `after`, and returns a guard. If the guard is dropped before the value came out,
+    /// the value is taken out and dropped. It reads the clock, and takes the lock of one shard for constant time.
     ///
     /// # Errors
-    /// As [`insert`](DelayQueue::insert) returns them.
+    /// The value comes back. In this order:
+    /// - `TooFar` if the deadline is more than 139 years after the queue was made.
+    /// - `Closed` if the queue was closed.
+    /// - `Full` if as many entries wait as the queue may have.
+    /// - `NoMemory` if the queue has to grow and memory is refused.
     ///
     /// ```
     /// use hontkhale::DelayQueue;
@@ -173,28 +189,44 @@ impl<T> DelayQueue<T> {
 
     /// Gives an entry the deadline `after` from now, sooner or later than the one that it has. It returns the entry's key,
     /// which is equal to the old one; the old one serves as well, but an [`extend`](DelayQueue::extend) by it takes a lock.
+    /// It reads the clock, and takes the lock of the entry's shard for constant time.
     ///
     /// # Errors
-    /// WrongQueue, TooFar, Ended, and NoMemory.
+    /// Nothing changes then. In this order:
+    /// - `WrongQueue` if the key is another queue's.
+    /// - `TooFar` if the deadline is more than 139 years after the queue was made.
+    /// - `Ended` if the entry came out, was removed, or was cancelled.
+    /// - `NoMemory` if the entry's slot is worn, no other shard has room, and memory is refused.
     #[inline]
     pub fn reset(&self, key: &Key, after: Duration) -> Result<Key, KeyError> {
         self.shared.reset(key, self.shared.front.time.tick_in(after))
     }
 
-    /// Gives an entry the deadline `when`, sooner or later than the one that it has.
+    /// Gives an entry the deadline `when`, sooner or later than the one that it has. It returns the entry's key, which is
+    /// equal to the old one; the old one serves as well, but an [`extend`](DelayQueue::extend) by it takes a lock. It reads
+    /// no clock, and takes the lock of the entry's shard for constant time.
     ///
     /// # Errors
-    /// As [`reset`](DelayQueue::reset) returns them.
+    /// Nothing changes then. In this order:
+    /// - `WrongQueue` if the key is another queue's.
+    /// - `TooFar` if the deadline is more than 139 years after the queue was made.
+    /// - `Ended` if the entry came out, was removed, or was cancelled.
+    /// - `NoMemory` if the entry's slot is worn, no other shard has room, and memory is refused.
     #[inline]
     pub fn reset_at(&self, key: &Key, when: Instant) -> Result<Key, KeyError> {
         self.shared.reset(key, self.shared.front.time.tick_at(when))
     }
 
     /// Raises the deadline of an entry to `after` from now, and returns the deadline that is then in force: that one, or a
-    /// later one that it had.
+    /// later one that it had. It reads the clock. It takes constant time and no lock, but for a thread's first calls and a
+    /// key from before a reset.
     ///
     /// # Errors
-    /// WrongQueue, TooFar, Ended, and NoMemory.
+    /// In this order:
+    /// - `WrongQueue` if the key is another queue's.
+    /// - `TooFar` if the deadline is more than 139 years after the queue was made.
+    /// - `Ended` if the entry came out, was removed, or was cancelled.
+    /// - `NoMemory` if the call has to take memory, as a thread's first call for a shard does, and memory is refused.
     ///
     /// ```
     /// use hontkhale::DelayQueue;
@@ -212,10 +244,16 @@ impl<T> DelayQueue<T> {
         self.extend_to(key, self.shared.front.time.tick_in(after))
     }
 
-    /// Raises the deadline of an entry to `when`, and returns the deadline that is then in force.
+    /// Raises the deadline of an entry to `when`, and returns the deadline that is then in force: that one, or a later one
+    /// that it had. It reads no clock. It takes constant time and no lock, but for a thread's first calls and a key from
+    /// before a reset.
     ///
     /// # Errors
-    /// As [`extend`](DelayQueue::extend) returns them.
+    /// In this order:
+    /// - `WrongQueue` if the key is another queue's.
+    /// - `TooFar` if the deadline is more than 139 years after the queue was made.
+    /// - `Ended` if the entry came out, was removed, or was cancelled.
+    /// - `NoMemory` if the call has to take memory, as a thread's first call for a shard does, and memory is refused.
     #[inline]
     pub fn extend_at(&self, key: &Key, when: Instant) -> Result<Instant, KeyError> {
         self.extend_to(key, self.shared.front.time.tick_at(when))
@@ -232,33 +270,42 @@ impl<T> DelayQueue<T> {
         Ok(self.shared.front.time.moment(deadline))
     }
 
-    /// Cancels an entry, so that it won't come out, and returns the deadline that it gave up. Its value is dropped later: by a
-    /// receiver in a quiet moment or when the entry would have been due, by an insert that finds no room, or with the queue.
-    /// [`remove`](DelayQueue::remove) returns the value at once, and takes a lock.
+    /// Cancels an entry, so that it won't come out, and returns the deadline that it gave up. Its value is dropped later: by
+    /// a receiver in a quiet moment or when the entry would have been due, by an insert that finds no room, or with the
+    /// queue. [`remove`](DelayQueue::remove) returns the value at once, and takes a lock.
     ///
     /// # Errors
-    /// WrongQueue, Ended, and NoMemory.
+    /// In this order:
+    /// - `WrongQueue` if the key is another queue's.
+    /// - `Ended` if the entry came out, was removed, or was cancelled.
+    /// - `NoMemory` if the call has to take memory, as a thread's first call for a shard does, and memory is refused.
     pub fn cancel(&self, key: &Key) -> Result<Instant, KeyError> {
         self.step(key, Step::Cancel)
     }
 
-    /// Takes an entry out, and returns its value.
+    /// Takes an entry out, and returns its value. It takes the lock of the entry's shard for constant time.
     ///
     /// # Errors
-    /// WrongQueue, and Ended.
+    /// In this order:
+    /// - `WrongQueue` if the key is another queue's.
+    /// - `Ended` if the entry came out, was removed, or was cancelled.
     pub fn remove(&self, key: &Key) -> Result<T, KeyError> {
         self.shared.remove(key)
     }
 
-    /// Takes an entry out if its deadline is over by now, and returns its value. It returns none where the entry isn't due, which
-    /// then stays as it is. So a reader ends what is over before a receiver comes to it: of those who want the entry one gets it.
-    /// An [`extend`](DelayQueue::extend) that was accepted counts: the entry isn't taken out before the deadline that it returned.
+    /// Takes an entry out if its deadline is over by now, and returns its value. It returns none where the entry isn't due,
+    /// which then stays as it is. So a reader ends what is over before a receiver comes to it: of those who want the entry
+    /// one gets it. An [`extend`](DelayQueue::extend) that was accepted counts: the entry isn't taken out before the deadline
+    /// that it returned.
     ///
-    /// Where the entry isn't due it takes a lock only as [`deadline`](DelayQueue::deadline) does: by a thread's first calls, or by
-    /// a key from before a reset.
+    /// Where the entry isn't due it takes a lock only as [`deadline`](DelayQueue::deadline) does: by a thread's first calls,
+    /// or by a key from before a reset.
     ///
     /// # Errors
-    /// WrongQueue, Ended, and NoMemory: that only where no shard has a free slot and the entry's has had its last stamp.
+    /// In this order:
+    /// - `WrongQueue` if the key is another queue's.
+    /// - `Ended` if the entry came out, was removed, or was cancelled.
+    /// - `NoMemory` if no shard has a free slot, the entry's own has had its last stamp, and memory is refused.
     ///
     /// ```
     /// use hontkhale::delay_queue::{KeyError, ManualClock};
@@ -278,10 +325,14 @@ impl<T> DelayQueue<T> {
         self.shared.remove_if_due(key)
     }
 
-    /// The deadline of an entry.
+    /// The deadline of an entry. It takes constant time and no lock, but for a thread's first calls and a key from before a
+    /// reset.
     ///
     /// # Errors
-    /// WrongQueue, Ended, and NoMemory.
+    /// In this order:
+    /// - `WrongQueue` if the key is another queue's.
+    /// - `Ended` if the entry came out, was removed, or was cancelled.
+    /// - `NoMemory` if the call has to take memory, as a thread's first call for a shard does, and memory is refused.
     pub fn deadline(&self, key: &Key) -> Result<Instant, KeyError> {
         self.step(key, Step::Look)
     }
@@ -313,7 +364,8 @@ impl<T> DelayQueue<T> {
         self.shared.receive_within(timeout)
     }
 
-    /// Takes an entry out that is due now.
+    /// Takes an entry out that is due now, and returns none if no entry is. It takes the locks of those shards alone in which
+    /// something may be due.
     pub fn try_recv(&self) -> Option<Expired<T>> {
         self.shared.try_receive()
     }
@@ -350,7 +402,8 @@ impl<T> DelayQueue<T> {
         TryIter::new(self)
     }
 
-    /// What receives in a task: see [`AsyncReceiver`]. Under tokio the crate hontkhale-tokio makes a `Stream` of it, with a timer.
+    /// What receives in a task: see [`AsyncReceiver`]. Under tokio the crate hontkhale-tokio makes a `Stream` of it, with a
+    /// timer.
     pub fn receiver(&self) -> AsyncReceiver<T> {
         AsyncReceiver::new(self)
     }
@@ -366,8 +419,8 @@ impl<T> DelayQueue<T> {
     }
 
     /// A moment that isn't after any deadline, none where no entry is there. It is the first deadline, or an earlier one that
-    /// was extended or cancelled since; where all deadlines are more than two years away it is an earlier moment too. It takes
-    /// the lock of the shards that may have it, and may look at each of their entries.
+    /// was extended or cancelled since; where all deadlines are more than two years away it is an earlier moment too. It
+    /// takes the lock of the shards that may have it, and may look at each of their entries.
     pub fn next_deadline(&self) -> Option<Instant> {
         self.shared
             .first_filed_before(NEVER)
@@ -393,11 +446,12 @@ impl<T> DelayQueue<T> {
         self.shared.stats()
     }
 
-    /// Takes memory for so many entries in all, those that wait among them, and keeps it for good. While fewer wait, no insert
-    /// takes memory or is refused as NoMemory, and none waits until the queue has grown, but for three cases. Entries that were
-    /// cancelled hold their slots until their values are dropped. A shard of which half the slots are worn, by a million
-    /// inserts or resets each, takes its memory anew and has no room meanwhile. And an insert that looks for room while an entry
-    /// of such a shard is moved may miss the room. A larger number counts from then on, and a smaller one changes nothing.
+    /// Takes memory for so many entries in all, those that wait among them, and keeps it for good. While fewer wait, no
+    /// insert takes memory or is refused as NoMemory, and none waits until the queue has grown, but for three cases. Entries
+    /// that were cancelled hold their slots until their values are dropped. A shard of which half the slots are worn, by a
+    /// million inserts or resets each, takes its memory anew and has no room meanwhile. And an insert that looks for room
+    /// while an entry of such a shard is moved may miss the room. A larger number counts from then on, and a smaller one
+    /// changes nothing.
     ///
     /// # Errors
     /// - Full beyond the queue's bound, or beyond the 3 million entries a shard that a queue may grow to.

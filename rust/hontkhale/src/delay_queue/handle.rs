@@ -43,15 +43,26 @@ impl Handle {
     /// later one that it had. It takes no lock and constant time; after a reset of the entry it may take one.
     ///
     /// # Errors
-    /// Closed, WrongQueue, TooFar, Ended, and NoMemory.
+    /// In this order:
+    /// - `Closed` if the queue was dropped.
+    /// - `WrongQueue` if the key is another queue's.
+    /// - `TooFar` if the deadline is more than 139 years after the queue was made.
+    /// - `Ended` if the entry came out, was removed, or was cancelled.
+    /// - `NoMemory` if the call has to take memory, as a thread's first call for a shard does, and memory is refused.
     pub fn extend(&self, key: &Key, after: Duration) -> Result<Instant, KeyError> {
         self.step(key, Step::to(self.front.time.tick_in(after)))
     }
 
-    /// Raises the deadline of an entry to `when`, and returns the deadline that is then in force.
+    /// Raises the deadline of an entry to `when`, and returns the deadline that is then in force: that one, or a later one
+    /// that it had. It reads no clock. It takes no lock and constant time; after a reset of the entry it may take one.
     ///
     /// # Errors
-    /// As [`extend`](Handle::extend) returns them.
+    /// In this order:
+    /// - `Closed` if the queue was dropped.
+    /// - `WrongQueue` if the key is another queue's.
+    /// - `TooFar` if the deadline is more than 139 years after the queue was made.
+    /// - `Ended` if the entry came out, was removed, or was cancelled.
+    /// - `NoMemory` if the call has to take memory, as a thread's first call for a shard does, and memory is refused.
     pub fn extend_at(&self, key: &Key, when: Instant) -> Result<Instant, KeyError> {
         self.step(key, Step::to(self.front.time.tick_at(when)))
     }
@@ -60,7 +71,11 @@ impl Handle {
     /// the queue.
     ///
     /// # Errors
-    /// Closed, WrongQueue, Ended, and NoMemory.
+    /// In this order:
+    /// - `Closed` if the queue was dropped.
+    /// - `WrongQueue` if the key is another queue's.
+    /// - `Ended` if the entry came out, was removed, or was cancelled.
+    /// - `NoMemory` if the call has to take memory, as a thread's first call for a shard does, and memory is refused.
     pub fn cancel(&self, key: &Key) -> Result<Instant, KeyError> {
         self.step(key, Step::Cancel)
     }
@@ -68,7 +83,11 @@ impl Handle {
     /// The deadline of an entry.
     ///
     /// # Errors
-    /// Closed, WrongQueue, Ended, and NoMemory.
+    /// In this order:
+    /// - `Closed` if the queue was dropped.
+    /// - `WrongQueue` if the key is another queue's.
+    /// - `Ended` if the entry came out, was removed, or was cancelled.
+    /// - `NoMemory` if the call has to take memory, as a thread's first call for a shard does, and memory is refused.
     pub fn deadline(&self, key: &Key) -> Result<Instant, KeyError> {
         self.step(key, Step::Look)
     }
@@ -119,7 +138,10 @@ impl<T> Timeout<T> {
     /// Raises the deadline to `after` from now, and returns the deadline that is then in force.
     ///
     /// # Errors
-    /// TooFar, Ended where the value came out already, and NoMemory.
+    /// In this order:
+    /// - `TooFar` if the deadline is more than 139 years after the queue was made.
+    /// - `Ended` if the value came out already.
+    /// - `NoMemory` if the call has to take memory, as a thread's first call for a shard does, and memory is refused.
     pub fn extend(&self, after: Duration) -> Result<Instant, KeyError> {
         match &self.queue {
             Some(queue) => queue.extend(&self.key, after),
