@@ -1,4 +1,3 @@
-mod calls;
 mod cases;
 mod keys;
 mod makings;
@@ -7,7 +6,6 @@ mod named;
 mod play;
 mod rows;
 mod shards;
-mod swapped;
 mod twins;
 
 use crate::same;

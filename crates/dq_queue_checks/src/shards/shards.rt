@@ -1,15 +1,11 @@
 //! The shards that a queue is made of, and those that are lent.
 
-use super::play::Letters;
 use super::same;
 use dq_core::CoreError;
 use dq_shards::{QueueConfig, QueueError, ShardState, SharedDelayQueue};
 use std::alloc::Global;
-use std::cell::Cell;
 use std::mem;
-use std::process::Abort;
-use std::sync::{Mutex, Wait};
-use std::test::Fail;
+use std::sync::Mutex;
 
 const BAD_CONFIG: Option<QueueError> = Some(QueueError::Core(CoreError::BadConfig));
 
@@ -54,34 +50,4 @@ fn shards_are_whole_cache_lines(rt: HostRuntime) {
         mem::size_of::<Mutex<ShardState<Box<u64>>>>(),
     );
     same(&rt, "lines", (empty % 64, boxed % 64), (0, 0));
-}
-
-// A shard, what `lend` answers, and how often the closure was called by then.
-const LENDS: &[(usize, Result<(), QueueError>, usize)] = &[
-    (2, Ok(()), 1),
-    (3, Err(QueueError::Unknown), 1),
-    (usize::MAX, Err(QueueError::Unknown), 1),
-    (0, Ok(()), 2),
-];
-
-fn lends<R: Abort + Wait>(rt: &R, queue: &Letters) {
-    let called = Cell::new(0usize);
-    for (shard, answer, calls) in LENDS {
-        let lent = queue.lend(
-            rt,
-            *shard,
-            |state| called.set(called.get().saturating_add(state.capacity())),
-        );
-        same(rt, *shard, (lent, called.get()), (*answer, *calls));
-    }
-}
-
-// promise: shards.callers-issued
-#[test]
-fn lend_out_of_range_calls_nothing(rt: HostRuntime) -> Result<(), Fail> {
-    lends(
-        &rt,
-        &SharedDelayQueue::new(rt.alloc(), QueueConfig::of(3, 1))?,
-    );
-    Ok(())
 }
