@@ -1,7 +1,7 @@
-//! A handle of a lasting queue is renewed by that queue alone, however alike another one is.
+//! A handle of a lasting queue is renewed by that queue alone, however alike another one is, and takes one caller a shard.
 
-use hontkhale::lasting::{HandleError, HandleRenewError, Kept, LastingConfig, LastingQueue};
-use hontkhale::owner::{CallError, Look};
+use hontkhale::lasting::{HandleError, HandleRenewError, Kept, LastingConfig, LastingQueue, OpenError};
+use hontkhale::owner::{CallError, Look, CAPACITY_LIMIT, HANDLE_LIMIT, LAST_TICK};
 
 type Queue = LastingQueue<&'static str>;
 
@@ -95,4 +95,47 @@ fn a_handle_tells_its_cancels() {
     }
     assert_eq!(handle.cancels(), 7);
     assert_eq!(handle.give_back(), 7);
+}
+
+// A renewal takes one caller of each shard that was renewed. So each handle of a generation has one of the next, and then
+// there is no handle more.
+// promise: lasting.handle-renewal
+#[test]
+fn a_renewal_takes_one_caller_of_a_shard() {
+    let queue = queue();
+    let mut handles: Vec<_> = (0..HANDLE_LIMIT).map(|_| queue.handle().expect("a handle")).collect();
+    for place in 0..2 {
+        assert_eq!(queue.open_place(place, 1, true), Ok(()));
+    }
+    for handle in &mut handles {
+        assert_eq!(handle.renew(&queue), Ok(2));
+    }
+    let beyond = HandleError::TooManyHandles { limit: HANDLE_LIMIT };
+    assert_eq!(queue.handle().err(), Some(beyond));
+}
+
+// By a key of another generation no deadline beyond the last tick is told to be unknown.
+// promise: lasting.caller-refuses
+#[test]
+fn an_extend_by_an_old_key_is_too_far_before_it_is_unknown() {
+    let queue = queue();
+    for place in 0..2 {
+        let key = queue.insert(place as u64, "old", 5).expect("a free slot");
+        assert_eq!(queue.clear(place), Ok(1));
+        assert_eq!(queue.open_place(place, 1, true), Ok(()));
+        let mut handle = queue.handle().expect("a handle");
+        assert_eq!(handle.extend(&key, LAST_TICK), Err(CallError::Unknown));
+        let too_far = CallError::TooFar { limit: LAST_TICK };
+        assert_eq!(handle.extend(&key, LAST_TICK + 1), Err(too_far));
+    }
+}
+
+// promise: lasting.place-opens
+#[test]
+fn a_shard_is_opened_with_as_many_slots_as_there_may_be() {
+    let queue = queue();
+    assert_eq!(queue.open_place(1, CAPACITY_LIMIT, true), Ok(()));
+    assert_eq!(queue.state(1).expect("a place").capacity, CAPACITY_LIMIT);
+    let beyond = queue.open_place(1, CAPACITY_LIMIT + 1, true);
+    assert_eq!(beyond, Err(OpenError::BadConfig));
 }

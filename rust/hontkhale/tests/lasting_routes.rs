@@ -33,12 +33,17 @@ fn spread(shards: usize, closed: impl Fn(usize) -> bool) -> Vec<u64> {
 
 fn is_spread(shards: usize, closed: impl Fn(usize) -> bool) {
     let open = (0..shards).filter(|place| !closed(*place)).count() as u64;
-    let counts = spread(shards, closed);
+    let counts = spread(shards, &closed);
     let greatest = *counts.iter().max().expect("a place");
+    let least = (0..shards)
+        .filter(|place| !closed(*place))
+        .map(|place| counts[place])
+        .min();
     assert!(greatest * open <= 2 * ROUTES, "{counts:?}");
+    assert!(2 * least.expect("an open place") * open >= ROUTES, "{counts:?}");
 }
 
-// No place gets more than twice the mean of those that take entries, whichever of eight are closed.
+// No place gets more than twice the mean of those that take entries, nor less than half of it, whichever of eight are closed.
 // promise: lasting.set-closed
 #[test]
 fn the_routes_of_closed_shards_are_spread() {

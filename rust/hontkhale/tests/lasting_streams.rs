@@ -102,3 +102,34 @@ fn a_paced_stream_leaves_the_other_places() {
         });
     }
 }
+
+#[test]
+fn what_is_only_told_leaves_who_is_parked() {
+    let (queue, mut cx) = (queue(), Context::from_waker(Waker::noop()));
+    for place in 0..PLACES {
+        assert!(queue.poll_or_park(place, 0, &mut cx).is_pending());
+    }
+    let parked = || (0..PLACES).map(|place| queue.parked(place)).collect::<Vec<_>>();
+    let before = parked();
+    assert!(before.iter().all(|it| matches!(it, Ok(ParkedPoller::UntilTick(_)))));
+    assert_eq!(queue.states().expect("memory").len(), PLACES);
+    assert_eq!(queue.audit().inserted, 3 * PLACES as u128);
+    queue.handle().expect("a handle").give_back();
+    for place in 0..PLACES {
+        assert!(queue.state(place).is_ok() && queue.tally(place).is_ok() && queue.aside(place).is_ok());
+        assert!(queue.next_wake(place).is_ok() && queue.peek(place).is_ok());
+    }
+    assert_eq!(parked(), before);
+}
+
+#[test]
+fn a_poll_of_no_steps_makes_none() {
+    let (queue, mut cx) = (queue(), Context::from_waker(Waker::noop()));
+    for place in 0..PLACES {
+        for _ in 0..100 {
+            assert!(queue.poll_some_or_park(place, 10, 0, &mut cx).is_pending());
+        }
+        let given = queue.poll_or_park(place, 10, &mut cx);
+        assert!(matches!(given, Poll::Ready(Ok(expired)) if expired.value == 10));
+    }
+}

@@ -4,11 +4,13 @@
 #![allow(clippy::incompatible_msrv, clippy::ok_expect)]
 
 use hontkhale::owner::{CallError, CoreError, Key, Look, Piece, ReapError, Turn, HANDLE_LIMIT, LAST_TICK};
-use hontkhale::shards::{Handle, QueueConfig, QueueError, SharedDelayQueue};
+use hontkhale::shards::by::{NamedQueue, Rooms};
+use hontkhale::shards::{Handle, HandlesOut, QueueConfig, QueueError, ShardState, SharedDelayQueue};
+use hontkhale::streams::{ExpiredStream, MillisecondTicks};
 use std::panic::{catch_unwind, AssertUnwindSafe};
 use std::sync::atomic::{AtomicUsize, Ordering::SeqCst};
 use std::sync::{mpsc, Arc};
-use std::task::{Wake, Waker};
+use std::task::{Context, Wake, Waker};
 use std::thread;
 use std::time::Duration;
 
@@ -232,6 +234,104 @@ fn a_panic_under_a_lock_keeps_the_wake() {
         (panicked.is_err(), wakes.0.load(SeqCst), queue.parked(0)),
         (true, 1, Ok(None))
     );
+}
+
+/// A call on a shard in hand by which nobody may wait on for its one entry, which may be cancelled.
+type InHand = (&'static str, bool, fn(&mut ShardState<String>, &Key));
+
+const IN_HAND: &[InHand] = &[
+    ("insert", false, |shard, _| {
+        assert!(shard.insert(String::new(), 20).is_ok())
+    }),
+    ("reset", false, |shard, key| {
+        assert!(shard.reset(&key.entry(), 20).is_ok())
+    }),
+    ("remove", false, |shard, key| {
+        assert!(shard.remove(&key.entry()).is_ok())
+    }),
+    ("poll", false, |shard, _| assert!(shard.poll(40).is_ok())),
+    ("poll_some", false, |shard, _| assert!(shard.poll_some(40, 99).is_ok())),
+    ("poll_many", false, |shard, _| {
+        assert!(shard.poll_many(40, &mut Vec::with_capacity(1)).is_ok())
+    }),
+    ("clear", false, |shard, _| assert_eq!(shard.clear(), 1)),
+    ("ring", false, |shard, _| assert!(shard.ring(40))),
+    ("sweep", true, |shard, _| assert_eq!(shard.sweep(), 1)),
+    ("sweep_some", true, |shard, _| {
+        assert_eq!(shard.sweep_some(0, 1).reaped, 1)
+    }),
+    ("reap", true, |shard, key| assert!(shard.reap(&key.entry()).is_ok())),
+];
+
+#[test]
+fn a_call_on_a_shard_in_hand_wakes_who_leaves() {
+    for (name, is_cancelled, call) in IN_HAND {
+        let (queue, wakes) = (queue(1, 4), Arc::new(Wakes::default()));
+        let key = queue.insert_or_drop(0, String::new(), 40).unwrap();
+        if *is_cancelled {
+            assert_eq!(queue.handle().unwrap().cancel(&key), Ok(40));
+        }
+        let mut shard = queue.enter(0).unwrap();
+        shard.park(40, Waker::from(wakes.clone()));
+        call(&mut shard, &key);
+        assert_eq!((shard.parked(), wakes.0.load(SeqCst)), (None, 1), "{name}");
+    }
+}
+
+#[test]
+fn a_waker_is_dropped_where_another_is_parked() {
+    let (queue, wakes) = (queue(1, 4), Arc::new(Wakes::default()));
+    queue.insert_or_drop(0, String::new(), 40).unwrap();
+    for _ in 0..3 {
+        queue.enter(0).unwrap().park(40, Waker::from(wakes.clone()));
+    }
+    assert_eq!((Arc::strong_count(&wakes), wakes.0.load(SeqCst)), (2, 0));
+}
+
+#[test]
+fn a_stream_that_gives_an_entry_keeps_no_waker() {
+    let (queue, wakes) = (queue(1, 4), Arc::new(Wakes::default()));
+    queue.insert_or_drop(0, String::new(), 0).unwrap();
+    let mut stream = ExpiredStream::new(&queue, 0, MillisecondTicks::new()).ok().unwrap();
+    let waker = Waker::from(wakes.clone());
+    assert!(stream.poll_next(&mut Context::from_waker(&waker)).is_ready());
+    drop(waker);
+    assert_eq!(Arc::strong_count(&wakes), 1);
+}
+
+#[test]
+fn an_audit_is_refused_for_each_shard_with_a_caller_out() {
+    for shard in 0..3 {
+        let queue = queue(3, 1);
+        let caller = queue.enter(shard).unwrap().issue().unwrap();
+        assert_eq!(queue.audit(), Err(HandlesOut { out: 1 }));
+        caller.give_back();
+        assert!(queue.audit().is_ok());
+    }
+}
+
+struct Named;
+
+impl Rooms for Named {}
+
+#[test]
+fn a_queue_of_named_shards_has_the_numbers_of_its_config() {
+    let config = QueueConfig {
+        shards: 2,
+        capacity: 1,
+        last_stamp: 1,
+    };
+    let queue: NamedQueue<u64, Named> = NamedQueue::new(config).unwrap();
+    let unknown = (2..4).map(|shard| queue.enter(shard).err());
+    assert!(unknown.eq([Some(QueueError::Unknown); 2]));
+    for shard in 0..2 {
+        let mut caller = queue.enter(shard).unwrap().issue().unwrap();
+        let key = queue.insert_by(&mut caller, 7, 5).0.unwrap();
+        assert_eq!(key.entry().shard() as usize, shard);
+        assert_eq!(queue.remove_by(&mut caller, &key.entry()).unwrap().value, 7);
+        let worn = CoreError::Full { linked: 0, worn: 1 };
+        assert_eq!(queue.insert_by(&mut caller, 8, 5).0, Err((worn, 8)));
+    }
 }
 
 #[test]

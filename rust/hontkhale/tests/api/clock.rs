@@ -26,6 +26,27 @@ fn whole_milliseconds_that_never_go_back() {
     }
 }
 
+// Each tick that is told lies between those of the moments before and after, over some milliseconds.
+fn tells_its_milliseconds(ticks: &mut MillisecondTicks, start: Instant, latest: Instant) {
+    let milliseconds = |since: Instant| since.elapsed().as_millis() as u64;
+    let begun = Instant::now();
+    while begun.elapsed() < Duration::from_millis(5) {
+        let least = milliseconds(latest);
+        let told = ticks.now();
+        assert!((least..=milliseconds(start)).contains(&told));
+    }
+}
+
+// promise: stream.tick-clock
+#[test]
+fn milliseconds_since_the_start() {
+    let start = ago(Duration::from_micros(1_750_900));
+    tells_its_milliseconds(&mut MillisecondTicks::since(start), start, start);
+    let start = Instant::now();
+    let mut ticks = MillisecondTicks::new();
+    tells_its_milliseconds(&mut ticks, start, Instant::now());
+}
+
 // Who asks later is told no earlier tick.
 // promise: stream.tick-clock
 #[test]

@@ -2,7 +2,7 @@
 
 use super::refusing::{refusing, used};
 use hontkhale::cache::TtlCache;
-use hontkhale::lasting::{HandleError, Kept, LastingConfig, LastingQueue, ReopenError};
+use hontkhale::lasting::{HandleError, HandleRenewError, Kept, LastingConfig, LastingQueue, OpenError, ReopenError};
 use hontkhale::owner::{
     numbered_queue, CoreConfig, CoreError, DelayCore, Keeper, PlainQueue, Turn, WordsError, LAST_STAMP,
 };
@@ -37,6 +37,8 @@ no_memory! {
     WordsError: WordsError::NoMemory,
     QueueError: QueueError::Core(CoreError::NoMemory),
     HandleError: HandleError::NoMemory,
+    HandleRenewError: HandleRenewError { why: HandleError::NoMemory, .. },
+    OpenError: OpenError::NoMemory,
     ReopenError: ReopenError::NoMemory,
     ReplayFault: ReplayFault::NoMemory,
 }
@@ -85,6 +87,25 @@ fn opening_of_a_shard(grants: u64) -> (Answer, u64) {
         .expect("a key");
     assert_eq!(key.entry().shard(), if answer.0.is_ok() { 2 } else { 1 });
     answer
+}
+
+// A shard goes on with another number of slots; where memory is refused it keeps those that it has.
+fn opening_with_more_slots(grants: u64) -> (Answer, u64) {
+    let queue = Lasting::new(LastingConfig::of(2, 4)).expect("a queue");
+    let answer = asks(grants, || queue.open_place(0, 6, true));
+    let capacity = queue.state(0).expect("a shard").capacity;
+    assert_eq!(capacity, if answer.0.is_ok() { 6 } else { 4 });
+    answer
+}
+
+// A handle takes the callers of both shards on, and gives the old ones back with their words.
+fn renewal_of_a_handle(grants: u64) -> (Answer, u64) {
+    let queue = Lasting::new(LastingConfig::of(2, 4)).expect("a queue");
+    let mut handle = queue.handle().expect("a handle");
+    for place in 0..2 {
+        queue.open_place(place, 4, true).expect("memory");
+    }
+    asks(grants, || handle.renew(&queue).map(|taken| assert_eq!(taken, 2)))
 }
 
 // A put is refused with its key and its value, and no key is kept more.
@@ -229,6 +250,18 @@ const ROWS: &[Row] = &[
         allocations: 8,
         aborting: &[1],
         makes: opening_of_a_shard,
+    },
+    Row {
+        name: "the opening of a shard with more slots",
+        allocations: 8,
+        aborting: &[1],
+        makes: opening_with_more_slots,
+    },
+    Row {
+        name: "the renewal of a handle",
+        allocations: 0,
+        aborting: &[],
+        makes: renewal_of_a_handle,
     },
     Row {
         name: "a cache",

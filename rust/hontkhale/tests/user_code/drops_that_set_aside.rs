@@ -228,6 +228,22 @@ fn drops_that_sweep_in_a_clear() {
     });
 }
 
+// The first of a drop's calls that leaves its value to the thread that drops doesn't end the dropping.
+#[test]
+fn drops_that_sweep_twice_in_a_sweep() {
+    for queue_of in QUEUES {
+        within_the_limit(move || {
+            let (queue, depth) = (queue_of(4), Arc::<Depth>::default());
+            let by_drop = queue.clone();
+            let sweeps = Node::that(&depth, move || (1..3).for_each(|slot| by_drop.sweep_one(slot)));
+            let keys = [sweeps, Node::quiet(&depth), Node::quiet(&depth)].map(|value| queue.insert(value, 10));
+            queue.cancel_all(&keys);
+            queue.sweep_one(0);
+            assert_eq!((depth.seen(), queue.aside()), ((3, 1), 0));
+        });
+    }
+}
+
 // A thread finds another one at it, and leaves its value to that one.
 #[test]
 fn another_threads_values_are_left_to_the_thread_that_drops() {

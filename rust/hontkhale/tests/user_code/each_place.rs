@@ -2,8 +2,8 @@
 //! each place, the last one too.
 
 use super::kit::{panics, within_the_limit, Drops, Value};
-use hontkhale::lasting::{LastingConfig, LastingQueue, LastingStream};
-use hontkhale::owner::{Key, Piece, Turn};
+use hontkhale::lasting::{LastingConfig, LastingQueue, LastingStream, OpenError};
+use hontkhale::owner::{Expired, Key, Piece, Turn};
 use hontkhale::shards::{QueueConfig, SharedDelayQueue};
 use hontkhale::streams::{ExpiredStream, TickSource};
 use std::num::NonZeroU32;
@@ -36,6 +36,49 @@ macro_rules! cancelled {
 
 fn steps() -> NonZeroU32 {
     NonZeroU32::new(100).expect("some")
+}
+
+// Always tells tick 10.
+struct Ten;
+
+impl TickSource for Ten {
+    fn now(&mut self) -> u64 {
+        10
+    }
+}
+
+// Whether a stream of a place gives an entry.
+macro_rules! polls {
+    ($stream:ident, $queue:expr, $place:expr, $paced:ident) => {{
+        let Ok(stream) = $stream::new($queue, $place, Ten) else {
+            panic!("a stream")
+        };
+        let mut stream = $paced!(stream);
+        let polled = stream.poll_next(&mut Context::from_waker(Waker::noop()));
+        matches!(polled, Poll::Ready(Some(Ok(_))))
+    }};
+}
+
+macro_rules! whole {
+    ($stream:ident) => {
+        $stream
+    };
+}
+
+macro_rules! paced {
+    ($stream:ident) => {
+        $stream.paced(steps())
+    };
+}
+
+// A row with room in which another queue's entry stands.
+fn row_of_one() -> Vec<Expired<Value>> {
+    let mut row = Vec::with_capacity(4);
+    let other = shared();
+    other.insert_or_drop(0, Drops::default().value(), 5).expect("room");
+    other.poll_many(0, 5, &mut row).expect("a shard");
+    assert_eq!(row.len(), 1);
+    row
 }
 
 // Each call lets two cancelled entries of a place go. Then the drop of one of three panics in a sweep of it.
@@ -72,10 +115,13 @@ fn each_shard_drops_what_it_lets_go() {
             |queue: &Shared, place, _| assert!(matches!(queue.poll_some(place, 10, 100), Ok(Piece::Answer(_)))),
             |queue: &Shared, place, _| assert!(matches!(queue.poll_through(place, 10, steps()), Ok(Turn::Idle))),
             |queue: &Shared, place, _| assert!(queue.poll_many(place, 10, &mut Vec::with_capacity(4)).is_ok()),
+            |queue: &Shared, place, _| assert!(queue.poll_many(place, 10, &mut row_of_one()).is_ok()),
             |queue: &Shared, place, _| assert_eq!(queue.sweep(place), Ok(2)),
             |queue: &Shared, place, _| assert_eq!(queue.sweep_some(place, 0, 8).map(|swept| swept.reaped), Ok(2)),
             |queue: &Shared, place, _| assert_eq!(queue.clear(place), Ok(0)),
             |queue: &Shared, _, keys: [Key; 2]| keys.iter().for_each(|key| assert!(queue.reap(&key.entry()).is_ok())),
+            |queue: &Shared, place, _| assert!(!polls!(ExpiredStream, queue, place, whole)),
+            |queue: &Shared, place, _| assert!(!polls!(ExpiredStream, queue, place, paced)),
         );
     });
 }
@@ -91,6 +137,7 @@ fn each_place_drops_what_it_lets_go() {
             |queue: &Lasting, place, _| assert!(matches!(queue.poll_some(place, 10, 100), Ok(Piece::Answer(_)))),
             |queue: &Lasting, place, _| assert!(matches!(queue.poll_through(place, 10, steps()), Ok(Turn::Idle))),
             |queue: &Lasting, place, _| assert!(queue.poll_many(place, 10, &mut Vec::with_capacity(4)).is_ok()),
+            |queue: &Lasting, place, _| assert!(queue.poll_many(place, 10, &mut row_of_one()).is_ok()),
             |queue: &Lasting, place, _| assert_eq!(queue.sweep(place), Ok(2)),
             |queue: &Lasting, place, _| assert_eq!(queue.sweep_some(place, 0, 8).map(|swept| swept.reaped), Ok(2)),
             |queue: &Lasting, place, _| assert_eq!(queue.clear(place), Ok(0)),
@@ -99,17 +146,10 @@ fn each_place_drops_what_it_lets_go() {
                 queue.close(place).expect("a place");
                 queue.keep_going().expect("memory");
             },
+            |queue: &Lasting, place, _| assert!(!polls!(LastingStream, queue, place, whole)),
+            |queue: &Lasting, place, _| assert!(!polls!(LastingStream, queue, place, paced)),
         );
     });
-}
-
-// Always tells tick 10.
-struct Ten;
-
-impl TickSource for Ten {
-    fn now(&mut self) -> u64 {
-        10
-    }
 }
 
 // Each call gives an entry, and reaps a value before whose drop panics: it would lose the entry.
@@ -123,32 +163,11 @@ macro_rules! gives {
                 assert!($call(&queue, place), "place {place}: {}", stringify!($call));
                 let seen = (drops.count(), $aside(&queue, place));
                 assert_eq!(seen, (1, 1), "place {place}: {}", stringify!($call));
-                assert_eq!(panics(|| queue.sweep(place)), "a value's drop");
+                (0..PLACES + 2).filter(|other| *other != place).for_each(|other| queue.drop_aside(other, 1));
+                queue.drop_aside(place, 0);
+                assert_eq!(panics(|| queue.drop_aside(place, 1)), "a value's drop");
             })*
         }
-    };
-}
-
-macro_rules! polls {
-    ($stream:ident, $queue:expr, $place:expr, $paced:ident) => {{
-        let Ok(stream) = $stream::new($queue, $place, Ten) else {
-            panic!("a stream")
-        };
-        let mut stream = $paced!(stream);
-        let polled = stream.poll_next(&mut Context::from_waker(Waker::noop()));
-        matches!(polled, Poll::Ready(Some(Ok(_))))
-    }};
-}
-
-macro_rules! whole {
-    ($stream:ident) => {
-        $stream
-    };
-}
-
-macro_rules! paced {
-    ($stream:ident) => {
-        $stream.paced(steps())
     };
 }
 
@@ -209,4 +228,74 @@ fn a_piece_of_a_poll_drops_what_it_reaps() {
             .aside())
     });
     within_the_limit(|| works!(lasting, |queue: &Lasting, place| queue.aside(place).expect("a place")));
+}
+
+// A place is full but for one slot, in which a value waits whose drop panics: an insert anywhere else drops it not, and one
+// there drops it before its own entry is in.
+macro_rules! makes_room {
+    ($made:ident, $aside:expr, $linked:expr) => {
+        for place in 0..PLACES {
+            let (queue, drops) = ($made(), Drops::default());
+            cancelled!(queue, place, drops.value_that_panics());
+            queue.insert_or_drop(place as u64, drops.value(), 10).expect("room");
+            assert!(matches!(queue.poll(place, 10), Ok(Turn::Out(_))));
+            for _ in 0..7 {
+                queue.insert_or_drop(place as u64, drops.value(), 20).expect("room");
+            }
+            for other in (0..PLACES as u64).filter(|other| *other != place as u64) {
+                assert!(queue.insert_or_drop(other, drops.value(), 20).is_ok());
+            }
+            assert_eq!(($aside(&queue, place), $linked(&queue, place)), (1, 7), "place {place}");
+            let refused = panics(|| queue.insert_or_drop(place as u64, drops.value(), 20));
+            assert_eq!(refused, "a value's drop");
+            assert_eq!(($aside(&queue, place), $linked(&queue, place)), (0, 7), "place {place}");
+        }
+    };
+}
+
+// promise: shards.name-drops
+#[test]
+fn an_insert_makes_room_in_its_own_shard() {
+    within_the_limit(|| {
+        makes_room!(
+            shared,
+            |queue: &Shared, place| queue.enter(place).expect("a shard").aside(),
+            |queue: &Shared, place| queue.tally(place).expect("a shard").linked
+        );
+    });
+}
+
+// promise: lasting.name-drops
+#[test]
+fn an_insert_makes_room_at_its_own_place() {
+    within_the_limit(|| {
+        makes_room!(
+            lasting,
+            |queue: &Lasting, place| queue.aside(place).expect("a place"),
+            |queue: &Lasting, place| queue.state(place).expect("a place").linked
+        );
+    });
+}
+
+#[test]
+fn an_insert_or_drop_that_is_refused_drops_its_value() {
+    let drops = Drops::default();
+    assert!(shared().insert_or_drop(0, drops.value(), u64::MAX).is_err());
+    assert!(lasting().insert_or_drop(0, drops.value(), u64::MAX).is_err());
+    assert_eq!(drops.count(), 2);
+}
+
+#[test]
+fn an_opening_drops_what_is_set_aside_where_it_is_refused() {
+    for place in 0..PLACES {
+        let (queue, drops) = (lasting(), Drops::default());
+        cancelled!(queue, place, drops.value());
+        for when in [10, 20] {
+            queue.insert_or_drop(place as u64, drops.value(), when).expect("room");
+        }
+        assert!(matches!(queue.poll(place, 10), Ok(Turn::Out(_))));
+        let refused = Err(OpenError::StillLinked { linked: 1 });
+        assert_eq!(queue.open_place(place, 4, true), refused);
+        assert_eq!((drops.count(), queue.aside(place)), (2, Ok(0)));
+    }
 }

@@ -4,6 +4,7 @@ use super::kit::{
     insert, insert_lasting, is_whole, is_whole_lasting, lasting, park, park_lasting, queue, within_the_limit, Drops,
     Lasting, Queue, Task,
 };
+use hontkhale::lasting::{Kept, LastingConfig};
 use hontkhale::owner::{EntryId, Key};
 use std::num::NonZeroU32;
 use std::sync::Arc;
@@ -144,6 +145,60 @@ fn a_dropped_waker_calls_where_it_is_taken_out_of_a_lasting_queue() {
 #[test]
 fn a_wake_polls_in_close() {
     polls_lasting(|queue, _| queue.close(0));
+}
+
+// Place 0 of a queue whose slots have one stamp each is made so; then a task parks there, which polls where it is woken. A
+// call that keeps the queue going wakes it.
+fn polls_where_kept<T>(made: fn(&Lasting), call: impl FnOnce(&Lasting) -> T + Send + 'static) {
+    within_the_limit(move || {
+        let config = LastingConfig {
+            shards: 2,
+            capacity: 2,
+            last_stamp: 1,
+        };
+        let queue = Arc::new(Lasting::new(config).expect("a queue"));
+        made(&queue);
+        let by_wake = queue.clone();
+        let task = Task::that(move || drop(by_wake.poll(0, 0).expect("a turn")));
+        park_lasting(&queue, &task.waker());
+        call(&queue);
+        assert_eq!(task.wakes(), 1);
+    });
+}
+
+fn closes(queue: &Lasting) {
+    queue.close(0).expect("a shard");
+}
+
+// promise: lasting.leaves-name
+#[test]
+fn a_wake_polls_in_each_step_of_keep_going() {
+    fn worn_by_half(queue: &Lasting) {
+        let key = insert_lasting(queue, Drops::default().value(), 10);
+        assert!(queue.remove(&key.entry()).is_ok());
+        insert_lasting(queue, Drops::default().value(), 10);
+    }
+    fn closed_with_an_entry(queue: &Lasting) {
+        insert_lasting(queue, Drops::default().value(), 10);
+        closes(queue);
+    }
+    polls_where_kept(worn_by_half, |queue| {
+        assert_eq!(queue.keep_going(), Ok(Kept::Closed { place: 0 }));
+    });
+    polls_where_kept(closed_with_an_entry, |queue| {
+        let mut handle = queue.handle().expect("a handle");
+        assert_eq!(handle.cancel(&Key::new(EntryId::new(0, 0, 1), 1)), Ok(10));
+        assert_eq!(queue.keep_going(), Ok(Kept::Drains { place: 0, linked: 0 }));
+    });
+    polls_where_kept(closes, |queue| {
+        assert_eq!(queue.keep_going(), Ok(Kept::Reopened { place: 0 }));
+    });
+}
+
+// promise: lasting.leaves-name
+#[test]
+fn a_wake_polls_in_an_opening_with_more_slots() {
+    polls_where_kept(|_| (), |queue| assert_eq!(queue.open_place(0, 4, true), Ok(())));
 }
 
 // A poller is parked in the place of another, whose last waker calls the queue where it is dropped.
