@@ -1,9 +1,10 @@
-//! The crate's `LastingQueue`, called by name.
+//! The crate's `LastingQueue`, called by name: by ticks, and by moments of which ticks are made by hand.
 
 use hontkhale::lasting::{LastingConfig, LastingHandle, LastingQueue};
 use hontkhale::owner::{Key, Turn};
 
 use crate::plan::BURST;
+use crate::product::Standing;
 use crate::queue::Sharded;
 use crate::shards::{Begun, Gone};
 
@@ -79,5 +80,82 @@ impl Sharded for Lasting {
             Turn::Out(out) => Some((out.value, out.deadline)),
             _ => None,
         }
+    }
+}
+
+/// The same for a server that has moments.
+pub struct ByMoments<'c> {
+    queue: Lasting,
+    clock: &'c Standing,
+}
+
+impl<'c> ByMoments<'c> {
+    pub fn new(clock: &'c Standing, shards: usize, capacity: usize) -> ByMoments<'c> {
+        ByMoments { queue: Lasting::new(shards, capacity), clock }
+    }
+
+    /// A tick by way of its moment.
+    #[inline(always)]
+    fn tick(&self, tick: u64) -> u64 {
+        self.clock.by_hand(self.clock.at(tick))
+    }
+}
+
+impl Sharded for ByMoments<'_> {
+    type Key = Key;
+    type Toucher = LastingHandle;
+
+    fn shards(&self) -> usize {
+        self.queue.shards()
+    }
+
+    fn toucher(&self) -> LastingHandle {
+        self.queue.toucher()
+    }
+
+    fn insert(&self, begun: &Begun) -> Key {
+        self.queue.insert(&Begun { deadline: self.tick(begun.deadline), ..*begun })
+    }
+
+    fn insert_burst(&self, _shard: usize, burst: &[Begun], keys: &mut Vec<Key>) {
+        keys.extend(burst.iter().map(|begun| self.insert(begun)));
+    }
+
+    fn extend(&self, handle: &mut LastingHandle, key: Key, deadline: u64) -> u64 {
+        self.queue.extend(handle, key, self.tick(deadline))
+    }
+
+    fn cancel(&self, handle: &mut LastingHandle, key: Key) {
+        self.queue.cancel(handle, key);
+    }
+
+    fn reset(&self, key: Key, deadline: u64) -> Key {
+        self.queue.reset(key, self.tick(deadline))
+    }
+
+    fn remove(&self, key: Key) -> u64 {
+        self.queue.remove(key)
+    }
+
+    /// Each poll reads the clock, as a receive of the other queue does.
+    fn poll_all(&self, shard: usize, _tick: u64, gone: &mut Gone) {
+        while let Turn::Out(out) = self.queue.queue.poll(shard, self.clock.tick_now()).expect("the tick is in range") {
+            gone.count(out.value);
+        }
+    }
+
+    fn poll_bursts(&self, shard: usize, _tick: u64, gone: &mut Gone) {
+        let mut row = Vec::with_capacity(BURST);
+        loop {
+            self.queue.queue.poll_many(shard, self.clock.tick_now(), &mut row).expect("the tick is in range");
+            if row.is_empty() {
+                return;
+            }
+            row.drain(..).for_each(|out| gone.count(out.value));
+        }
+    }
+
+    fn poll_alone(&mut self, shard: usize, tick: u64) -> Option<(u64, u64)> {
+        self.queue.poll_alone(shard, tick)
     }
 }

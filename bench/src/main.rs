@@ -14,6 +14,8 @@ mod erased_shards;
 mod fair;
 mod floor;
 mod free;
+#[cfg(feature = "rust")]
+mod goals;
 mod hashed;
 mod heap;
 mod indexed;
@@ -50,7 +52,7 @@ use hashed::HashedWheel;
 use heap::{Extending, HeapQueue};
 use indexed::IndexedHeap;
 #[cfg(feature = "rust")]
-use lasting::Lasting;
+use lasting::{ByMoments, Lasting};
 use lives::Life;
 use longest::Touched;
 use plan::shard_room;
@@ -73,7 +75,8 @@ entries: 1 to 65536, of each shard; threads: 1, and 1 to 64 for callers and over
        peers beside ENTRIES ROUNDS, where it was built with our crates: a poll in pieces beside another thread's inserts
        peers fair ENTRIES ROUNDS, likewise: what these inserts wait, for some ways to be fair
        peers keeps ENTRIES ROUNDS, likewise: how long the calls take that keep a lasting queue going
-       peers queue ENTRIES THREADS ROUNDS, likewise: a table of `DelayQueue` beside what it is made of and beside its peers";
+       peers queue ENTRIES THREADS ROUNDS, likewise: a table of `DelayQueue` beside what it is made of and beside its peers
+       peers goals ENTRIES THREADS ROUNDS, likewise: what the goals of `DelayQueue` compare; peers memory ENTRIES: what an entry takes";
 
 /// What is timed: a row of one queue, the calls of a row one by one, or a row of shards, of bare calls or of whole lives, and their number.
 #[derive(Clone, Copy, Debug, PartialEq, Eq)]
@@ -166,8 +169,12 @@ fn peers_of(timed: Timed) -> Vec<&'static str> {
 fn mine_of(timed: Timed) -> &'static [&'static str] {
     let is_unchecked = cfg!(feature = "proved-bounds");
     match timed {
-        Timed::Shards(..) | Timed::Lives(..) if is_unchecked => &["queue", "queue-at", "lasting-shards", "rust-shards"],
-        Timed::Shards(..) | Timed::Lives(..) => &["queue", "queue-at", "lasting-shards", "rust-checked-shards"],
+        Timed::Shards(..) | Timed::Lives(..) if is_unchecked => {
+            &["queue", "queue-at", "queue-reserved", "lasting-shards", "lasting-at", "rust-shards"]
+        }
+        Timed::Shards(..) | Timed::Lives(..) => {
+            &["queue", "queue-at", "queue-reserved", "lasting-shards", "lasting-at", "rust-checked-shards"]
+        }
         _ if is_unchecked => &["rust"],
         Timed::One(Row::Callers) => &["rust-checked", "adapter-handle", "queue"],
         _ => &["rust-checked", "adapter", "adapter-handle", "queue"],
@@ -316,7 +323,7 @@ fn rounds_of_one<'a>(asked: &'a Asked, peer: &str, clocks: &'a Clocks<'a>) -> Ro
         #[cfg(feature = "rust")]
         "adapter-handle" => shared(asked, Adapter::new(clock, entries, Touching::Handle), clock),
         #[cfg(feature = "rust")]
-        "queue" => shared(asked, Product::new(clocks.standing, 4, 1, By::Duration), clocks.standing),
+        "queue" => shared(asked, Product::new(clocks.standing, 4, 1, By::Duration, 0), clocks.standing),
         _ => shared(asked, Floor::new(entries), &NoClock),
     }
 }
@@ -324,8 +331,10 @@ fn rounds_of_one<'a>(asked: &'a Asked, peer: &str, clocks: &'a Clocks<'a>) -> Ro
 fn rounds_of_shards<'a>(asked: &'a Asked, peer: &str, clocks: &'a Clocks<'a>) -> Rounds<'a> {
     let (room, clock) = (shard_room(asked.entries), clocks.paused);
     #[cfg(feature = "rust")]
-    let product =
-        |by| sharded(asked, move |shards| Product::new(clocks.standing, shards, asked.threads, by), clocks.standing);
+    let product = |by, of_reserved: usize| {
+        let queue = move |shards| Product::new(clocks.standing, shards, asked.threads, by, of_reserved * shards);
+        sharded(asked, queue, clocks.standing)
+    };
     match peer {
         "delay-queue-locked" => locked_shards(asked, || TokioQueue::new(clock, room), clock),
         "heap-best-locked" => locked_shards(asked, || BestHeap::new(room), &NoClock),
@@ -336,9 +345,13 @@ fn rounds_of_shards<'a>(asked: &'a Asked, peer: &str, clocks: &'a Clocks<'a>) ->
         #[cfg(feature = "rust")]
         "lasting-shards" => sharded(asked, |shards| Lasting::new(shards, room), &NoClock),
         #[cfg(feature = "rust")]
-        "queue" => product(By::Duration),
+        "lasting-at" => sharded(asked, |shards| ByMoments::new(clocks.standing, shards, room), clocks.standing),
         #[cfg(feature = "rust")]
-        "queue-at" => product(By::Moment),
+        "queue" => product(By::Duration, 0),
+        #[cfg(feature = "rust")]
+        "queue-at" => product(By::Moment, 0),
+        #[cfg(feature = "rust")]
+        "queue-reserved" => product(By::Moment, room),
         _ => locked_shards(asked, || HeapQueue::new(Extending::Note, room), &NoClock),
     }
 }
@@ -423,12 +436,21 @@ fn main() -> ExitCode {
     #[cfg(feature = "rust")]
     if let [name, numbers @ ..] = &args[..] {
         let numbers: Vec<usize> = numbers.iter().filter_map(|number| number.parse().ok()).collect();
-        if let ("queue", &[entries, threads @ 1..=64, rounds]) = (name.as_str(), &numbers[..]) {
-            table::print(entries, threads, rounds.max(1));
-            return ExitCode::SUCCESS;
+        match (name.as_str(), &numbers[..]) {
+            ("queue", &[entries, threads @ 1..=64, rounds]) => table::print(entries, threads, rounds.max(1)),
+            ("goals", &[entries @ 1..=65_536, threads @ 1..=64, rounds]) => {
+                goals::print(entries, threads, rounds.max(1))
+            }
+            ("memory", &[entries]) => goals::print_memory(entries.max(1)),
+            _ => return time_asked(&args),
         }
+        return ExitCode::SUCCESS;
     }
-    match Asked::read(&args) {
+    time_asked(&args)
+}
+
+fn time_asked(args: &[String]) -> ExitCode {
+    match Asked::read(args) {
         Some(asked) => {
             time(&asked);
             ExitCode::SUCCESS
@@ -536,7 +558,7 @@ mod tests {
             }
             for by in [By::Duration, By::Moment] {
                 let clock = Standing::new();
-                keeps_deadlines(Product::new(&clock, 2, 1, by), &clock);
+                keeps_deadlines(Product::new(&clock, 2, 1, by, 0), &clock);
             }
         }
     }

@@ -2,6 +2,7 @@
 
 use std::hint::black_box;
 use std::sync::atomic::{AtomicU64, Ordering};
+use std::sync::Mutex;
 use std::time::{Duration, Instant};
 
 use hontkhale::delay_queue::{Expired, Key, KeyError, ManualClock};
@@ -26,8 +27,24 @@ impl Standing {
         Standing { clock, start, tick: AtomicU64::new(0) }
     }
 
-    fn at(&self, tick: u64) -> Instant {
+    /// The moment at which a tick begins.
+    #[inline(always)]
+    pub fn at(&self, tick: u64) -> Instant {
         self.start + Duration::from_millis(tick)
+    }
+
+    /// The present tick, beside a reading of the system's clock.
+    #[inline(always)]
+    pub fn tick_now(&self) -> u64 {
+        black_box(Instant::now());
+        self.clock.now().saturating_duration_since(self.start).as_millis() as u64
+    }
+
+    /// The tick of a moment by hand, as a server's that keeps ticks: rounded up.
+    #[inline(always)]
+    pub fn by_hand(&self, when: Instant) -> u64 {
+        let length = when.saturating_duration_since(self.start);
+        length.as_secs() * 1_000 + u64::from((length.subsec_nanos() + 999_999) / 1_000_000)
     }
 }
 
@@ -58,12 +75,30 @@ pub struct Product<'c> {
     shards: usize,
     /// Whether one thread alone calls it.
     is_of_one: bool,
+    /// Of the poll in bursts at a tick: how many entries no thread has said that it takes.
+    unclaimed: Mutex<(u64, usize)>,
 }
 
 impl<'c> Product<'c> {
-    pub fn new(clock: &'c Standing, shards: usize, threads: usize, by: By) -> Product<'c> {
+    /// A queue that keeps room for so many entries from the start, or grows.
+    pub fn new(clock: &'c Standing, shards: usize, threads: usize, by: By, room: usize) -> Product<'c> {
         let queue = DelayQueue::builder().clock(&clock.clock).shards(shards).build();
-        Product { queue, clock, by, shards, is_of_one: threads == 1 }
+        queue.reserve(room).expect("memory");
+        Product { queue, clock, by, shards, is_of_one: threads == 1, unclaimed: Mutex::default() }
+    }
+
+    /// How many entries this thread takes next: no more than are left by the others, for which it would wait.
+    fn claim(&self, tick: u64) -> usize {
+        if self.is_of_one {
+            return self.queue.len().min(BURST);
+        }
+        let mut unclaimed = self.unclaimed.lock().expect("no call panics under the lock");
+        if unclaimed.0 != tick {
+            *unclaimed = (tick, self.queue.len());
+        }
+        let claimed = unclaimed.1.min(BURST);
+        unclaimed.1 -= claimed;
+        claimed
     }
 
     #[inline(always)]
@@ -85,7 +120,11 @@ impl<'c> Product<'c> {
     fn raise(&self, key: Key, deadline: u64) -> u64 {
         let in_force = match self.by {
             By::Duration => self.queue.extend(&key, self.after(deadline)),
-            By::Moment => self.queue.extend_at(&key, self.clock.at(deadline)),
+            By::Moment => {
+                let when = self.clock.at(deadline);
+                let in_force = self.queue.extend_at(&key, when).expect("the entry is live");
+                return if in_force == when { deadline } else { self.tick_of(in_force) };
+            }
         };
         self.in_force(in_force, deadline)
     }
@@ -210,16 +249,19 @@ impl Sharded for Product<'_> {
         }
     }
 
-    /// All that is left is due, and whoever receives waits where nothing is: so only one thread takes many at once.
-    fn poll_bursts(&self, shard: usize, tick: u64, gone: &mut Gone) {
-        if !self.is_of_one {
-            return self.poll_all(shard, tick, gone);
-        }
+    /// All that is left is due. Whoever receives waits where nothing is.
+    fn poll_bursts(&self, _shard: usize, tick: u64, gone: &mut Gone) {
         let mut row = Vec::with_capacity(BURST);
-        while !self.queue.is_empty() {
+        loop {
+            let mut claimed = self.claim(tick);
+            if claimed == 0 {
+                return;
+            }
             black_box(Instant::now());
-            self.queue.recv_many(&mut row, BURST);
-            row.drain(..).for_each(|out| gone.count(out.value));
+            while claimed > 0 {
+                claimed -= self.queue.recv_many(&mut row, claimed);
+                row.drain(..).for_each(|out| gone.count(out.value));
+            }
         }
     }
 

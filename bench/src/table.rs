@@ -81,7 +81,7 @@ fn heaps(shards: usize, entries: usize) -> Shards<BestHeap> {
 }
 
 fn hand_over(clock: &Standing, entries: usize, threads: usize, rounds: usize) -> f64 {
-    let queue = Product::new(clock, threads.max(2), threads + 1, By::Duration);
+    let queue = Product::new(clock, threads.max(2), threads + 1, By::Duration, 0);
     median((0..rounds).map(|_| handed(&queue, clock, entries, threads)).collect())
 }
 
@@ -110,7 +110,7 @@ fn handed<S: Sharded>(queue: &S, clock: &dyn Clock, entries: usize, threads: usi
 }
 
 /// Nanoseconds from an insert that is due to the receiver, which slept until a later one.
-fn wakes() -> f64 {
+pub fn wakes() -> f64 {
     let queue = DelayQueue::new();
     let (tell, told) = channel();
     let receiver = queue.clone();
@@ -133,7 +133,7 @@ fn wakes() -> f64 {
 }
 
 /// The same by a bare `unpark`.
-fn unparks() -> f64 {
+pub fn unparks() -> f64 {
     let (tell, told) = channel();
     let sleeps = thread::spawn(move || {
         for _ in 0..WAKES {

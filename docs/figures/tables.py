@@ -83,6 +83,27 @@ def product_speed():
     return named_speed(PLAN["product_peers"])
 
 
+def product_goals():
+    """What the crate's `DelayQueue` is to reach, and the ratios of the stored run, by the number of threads: of two sizes each."""
+    taken = {(goal, side, entries, threads): float(median) for goal, side, entries, threads, median, _ in rows_of("goals")}
+    sizes, many = SIZES[1:], ("1", "2", "4")
+
+    def ratios(goal, ours, beside, threads):
+        cells = [(taken.get((goal, ours, it, threads)), taken.get((goal, beside, it, threads))) for it in sizes]
+        return " / ".join(f"{mine / other:.2f}" for mine, other in cells if mine and other)
+
+    def told(it, ours, beside):
+        side = PLAN["goal_sides"][ours]
+        return f"{it['words']}{f', {side}' if side and ours != 'unpark' else ''}, beside {PLAN['goal_sides'][beside]}"
+
+    rows = [[told(it, ours, beside), f"{it['most']} times", *(ratios(it["goal"], ours, beside, threads) for threads in many)]
+            for it in PLAN["goals"] for beside in it["beside"] for ours in it["ours"]]
+    memory = {side: value for (goal, side, *_), value in taken.items() if goal == "memory"}
+    rows.append(["a million live entries, beside the value", "64 bytes", f"{memory['entry']:.0f} bytes", "", ""])
+    rows.append(["the same once they came out", "10%", f"{memory['stays']:.1f}%", "", ""])
+    return grid(["", "at most", *(f"{it} thread{'s' if it != '1' else ''}" for it in many)], rows)
+
+
 def headline():
     """What a reader links by default, beside locked queues: the longest calls, then each call's median and best run."""
     def both(name, threads, peers):

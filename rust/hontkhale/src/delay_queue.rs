@@ -241,7 +241,7 @@ impl<T> DelayQueue<T> {
     /// ```
     #[inline]
     pub fn extend(&self, key: &Key, after: Duration) -> Result<Instant, KeyError> {
-        self.extend_to(key, self.shared.front.time.tick_in(after))
+        self.step(key, Step::Extend(self.shared.front.time.tick_in(after)))
     }
 
     /// Raises the deadline of an entry to `when`, and returns the deadline that is then in force: that one, or a later one
@@ -256,12 +256,9 @@ impl<T> DelayQueue<T> {
     /// - `NoMemory` if the call has to take memory, as a thread's first call for a shard does, and memory is refused.
     #[inline]
     pub fn extend_at(&self, key: &Key, when: Instant) -> Result<Instant, KeyError> {
-        self.extend_to(key, self.shared.front.time.tick_at(when))
-    }
-
-    #[inline(always)]
-    fn extend_to(&self, key: &Key, tick: Option<u64>) -> Result<Instant, KeyError> {
-        self.step(key, Step::to(tick))
+        let rounded = self.shared.front.time.rounded(when);
+        let deadline = self.shared.step(key, Step::Extend(rounded.0))?;
+        Ok(self.shared.front.time.moment_beside(deadline, rounded))
     }
 
     #[inline(always)]

@@ -212,7 +212,7 @@ fn with_own(id: u64, key: Key, step: impl FnOnce(&mut NumberedCaller) -> Result<
     let made = KEPT.with(|kept| {
         let mut keeps = kept.try_borrow_mut().ok()?;
         let is_tidy = keeps.ends == ENDS.load(Relaxed);
-        let kept = &mut keeps.kept[key.queue() as usize % QUEUES];
+        let kept = &mut keeps.kept[id as usize % QUEUES];
         if kept.id != id || key.queue() != id as u32 || !is_tidy {
             return None;
         }

@@ -28,7 +28,8 @@ impl Handle {
         }
     }
 
-    fn step(&self, key: &Key, step: Step) -> Result<Instant, KeyError> {
+    #[inline]
+    fn tick_of(&self, key: &Key, step: Step) -> Result<u64, KeyError> {
         if self.front.is_ended() {
             return Err(KeyError::Closed);
         }
@@ -36,7 +37,11 @@ impl Handle {
         if told == Told::NOT_YET {
             told = self.queue.upgrade().ok_or(KeyError::Closed)?.slow_step(key, step);
         }
-        Ok(self.front.time.moment(told.result()?))
+        told.result()
+    }
+
+    fn step(&self, key: &Key, step: Step) -> Result<Instant, KeyError> {
+        Ok(self.front.time.moment(self.tick_of(key, step)?))
     }
 
     /// Raises the deadline of an entry to `after` from now, and returns the deadline that is then in force: that one, or a
@@ -50,7 +55,7 @@ impl Handle {
     /// - `Ended` if the entry came out, was removed, or was cancelled.
     /// - `NoMemory` if the call has to take memory, as a thread's first call for a shard does, and memory is refused.
     pub fn extend(&self, key: &Key, after: Duration) -> Result<Instant, KeyError> {
-        self.step(key, Step::to(self.front.time.tick_in(after)))
+        self.step(key, Step::Extend(self.front.time.tick_in(after)))
     }
 
     /// Raises the deadline of an entry to `when`, and returns the deadline that is then in force: that one, or a later one
@@ -64,7 +69,9 @@ impl Handle {
     /// - `Ended` if the entry came out, was removed, or was cancelled.
     /// - `NoMemory` if the call has to take memory, as a thread's first call for a shard does, and memory is refused.
     pub fn extend_at(&self, key: &Key, when: Instant) -> Result<Instant, KeyError> {
-        self.step(key, Step::to(self.front.time.tick_at(when)))
+        let rounded = self.front.time.rounded(when);
+        let deadline = self.tick_of(key, Step::Extend(rounded.0))?;
+        Ok(self.front.time.moment_beside(deadline, rounded))
     }
 
     /// Cancels an entry, so that it won't come out, and returns the deadline that it gave up. Its value is dropped later, by

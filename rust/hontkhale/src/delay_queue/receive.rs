@@ -196,11 +196,13 @@ impl<T> Shared<T> {
         let segment = self.segment(room.at).expect("a segment of the queue");
         let mut shard = segment.enter(room.place);
         let mut latest = 0;
+        let mut known = (0, self.front.time.moment(0));
         loop {
             match shard.poll(now, whole) {
                 Piece::Answer(Turn::Out(out)) => {
                     latest = latest.max(now.saturating_sub(out.deadline));
-                    if more(self.expired(room.at, out)) {
+                    known = (out.deadline, self.front.time.moment_after(out.deadline, known));
+                    if more(self.expired(room.at, out, known.1)) {
                         continue;
                     }
                     if room.left == TRIES {
@@ -225,10 +227,10 @@ impl<T> Shared<T> {
     }
 
     #[inline(always)]
-    fn expired(&self, at: usize, out: Out<T>) -> Expired<T> {
+    fn expired(&self, at: usize, out: Out<T>, deadline: Instant) -> Expired<T> {
         Expired {
             key: self.key(at, &out.key),
-            deadline: self.front.time.moment(out.deadline),
+            deadline,
             value: out.value,
         }
     }

@@ -123,17 +123,62 @@ impl<T> Segment<T> {
         }
     }
 
-    /// The same once no value is set aside there: what was is dropped before, while the lock is free.
+    /// Puts an entry in once no value is set aside at the place: what was is dropped before, while the lock is free. The value
+    /// comes back where there is no room. Only what an insert changes is noted.
     #[inline(always)]
-    pub fn enter_clean(&self, place: usize) -> Locked<'_, T> {
+    pub fn insert(&self, place: usize, value: T, tick: u64) -> Result<Key, T> {
+        let row = &self.rows[place];
         loop {
-            let shard = self.enter(place);
-            if shard.core().aside() == 0 {
-                return shard;
+            let mut shard = self.queue.lock(place);
+            if shard.aside() > 0 {
+                drop(shard);
+                self.drop_aside(place);
+                continue;
             }
-            drop(shard);
-            self.drop_aside(place);
+            if !shard.takes {
+                return Err(value);
+            }
+            let core = &mut shard.attended.core;
+            let key = core.insert_deferring(value, tick).0.map_err(|(_, value)| value)?;
+            row.lower_hint(tick);
+            row.left.store(row.left() + 1, Relaxed);
+            row.linked.store(core.len(), Relaxed);
+            if core.slots.free_count == 0 {
+                row.has_room.store(false, SeqCst);
+            }
+            return Ok(key);
         }
+    }
+
+    /// Takes a live entry out, and gives its value, and whether it was the last of its shard.
+    #[inline(always)]
+    pub fn remove(&self, place: usize, entry: &EntryId) -> Result<(T, bool), CoreError> {
+        let row = &self.rows[place];
+        let mut shard = self.queue.lock(place);
+        let value = shard.attended.core.remove(entry)?.value;
+        let core = &shard.attended.core;
+        let (len, free) = (core.len(), core.slots.free_count);
+        row.left.store(row.left() - 1, Relaxed);
+        row.linked.store(len, Relaxed);
+        if free == 1 || len + free <= core.capacity() / 2 {
+            // Its slot is the first that is free, or many are worn.
+            drop(Locked {
+                shard,
+                segment: self,
+                row,
+            });
+        }
+        Ok((value, len == 0))
+    }
+
+    /// Gives an entry another deadline. Of what is noted that changes the hint alone.
+    #[inline(always)]
+    pub fn reset(&self, place: usize, entry: &EntryId, tick: u64) -> Result<Key, CoreError> {
+        let row = &self.rows[place];
+        let mut shard = self.queue.lock(place);
+        let key = shard.attended.core.reset(entry, tick)?;
+        row.lower_hint(tick);
+        Ok(key)
     }
 
     /// Drops the values that are set aside at a place, while its lock is free. Within a drop they are let go.
@@ -257,11 +302,20 @@ impl Row {
         self.hint.load(SeqCst)
     }
 
+    /// Notes that something is due at a tick. Whoever calls it holds the shard's lock.
+    #[inline]
+    fn lower_hint(&self, tick: u64) {
+        if tick < self.hint() {
+            self.hint.store(tick, SeqCst);
+        }
+    }
+
     #[inline]
     pub fn has_room(&self) -> bool {
         self.has_room.load(Relaxed)
     }
 
+    #[inline]
     pub fn left(&self) -> u64 {
         self.left.load(Relaxed)
     }
@@ -296,16 +350,8 @@ impl<T> Locked<'_, T> {
         }
         let (answer, _none) = self.core_mut().insert_deferring(value, tick);
         let key = answer.map_err(|(_, value)| value)?;
-        self.lower_hint(tick);
+        self.row.lower_hint(tick);
         Ok(key)
-    }
-
-    /// Notes that something is due at a tick.
-    #[inline]
-    pub fn lower_hint(&mut self, tick: u64) {
-        if tick < self.row.hint() {
-            self.row.hint.store(tick, SeqCst);
-        }
     }
 
     /// What a poll comes to at a tick: as a whole where the shard has at most so many entries, or else by 256 steps.

@@ -74,18 +74,13 @@ pub(crate) struct Shared<T> {
 /// What is asked of a thread's caller.
 #[derive(Clone, Copy)]
 pub(crate) enum Step {
-    /// To a tick at the least.
+    /// To a tick at the least. Beyond the last one it is refused once the key is found to be of the queue, live or not.
     Extend(u64),
     Cancel,
     Look,
 }
 
 impl Step {
-    /// An extend to a tick. Beyond the last one it is refused once the key is found to be of the queue, live or not.
-    pub fn to(tick: Option<u64>) -> Step {
-        Step::Extend(tick.unwrap_or(u64::MAX))
-    }
-
     #[inline(always)]
     fn make(self, caller: &mut NumberedCaller, key: &ticks::Key) -> Result<u64, CallError> {
         match self {
@@ -268,10 +263,10 @@ impl<T> Shared<T> {
     /// Puts an entry in that is due at a tick. It is inlined so that the key comes in registers: whoever reads it as a whole from
     /// where its halves were just stored waits for them.
     #[inline(always)]
-    pub fn insert(&self, value: T, tick: Option<u64>) -> Result<Key, (InsertErrorKind, T)> {
-        let Some(tick) = tick else {
+    pub fn insert(&self, value: T, tick: u64) -> Result<Key, (InsertErrorKind, T)> {
+        if tick > LAST_TICK {
             return Err((InsertErrorKind::TooFar, value));
-        };
+        }
         if self.front.bell.is_closed() {
             return Err((InsertErrorKind::Closed, value));
         }
@@ -289,14 +284,15 @@ impl<T> Shared<T> {
     #[inline(always)]
     fn insert_where_last(&self, value: T, tick: u64) -> Result<Key, (InsertErrorKind, T)> {
         let noted = &self.front.lane().room;
-        let room = Room::of(noted.load(Relaxed));
+        let packed = noted.load(Relaxed);
+        let room = Room::of(packed);
         match self
             .segment(room.at)
             .filter(|segment| room.left > 0 && segment.rows[room.place].has_room())
         {
             None => self.insert_anywhere(value, tick),
             Some(segment) => {
-                noted.store(room.tried().packed(), Relaxed);
+                noted.store(packed - 1, Relaxed);
                 let insert = self.insert_at(room.at, segment, room.place, value, tick);
                 insert.or_else(|value| self.insert_anywhere(value, tick))
             }
@@ -333,7 +329,7 @@ impl<T> Shared<T> {
     fn insert_at(&self, at: usize, segment: &Segment<T>, place: usize, value: T, tick: u64) -> Result<Key, T> {
         // Values may be dropped here. Where a drop panics the entry isn't in yet, and no key of it is lost.
         self.renew_where_due(segment, at);
-        let key = segment.enter_clean(place).insert(value, tick)?;
+        let key = segment.insert(place, value, tick)?;
         Ok(self.key(at, &key))
     }
 
@@ -492,17 +488,18 @@ impl<T> Shared<T> {
 
     #[inline(always)]
     fn reset_at(&self, place: &Key, tick: u64) -> Result<Key, CoreError> {
-        let mut shard = self.enter(place)?;
-        let renamed = shard.core_mut().reset(&place.entry(), tick)?;
-        shard.lower_hint(tick);
+        let segment = self.segment(place.segment()).ok_or(CoreError::Missing)?;
+        let renamed = segment.reset(segment.place_of(place.number()), &place.entry(), tick)?;
         Ok(self.key(place.segment(), &renamed))
     }
 
     /// Gives an entry the deadline `tick`, and gives its key of the present stamp. It is inlined as the insert is.
     #[inline(always)]
-    pub fn reset(&self, key: &Key, tick: Option<u64>) -> Result<Key, KeyError> {
+    pub fn reset(&self, key: &Key, tick: u64) -> Result<Key, KeyError> {
         self.own(key)?;
-        let tick = tick.ok_or(KeyError::TooFar)?;
+        if tick > LAST_TICK {
+            return Err(KeyError::TooFar);
+        }
         let renamed = match self.reset_at(key, tick) {
             Ok(renamed) => renamed,
             Err(refused) => self.reset_moved(key, tick, refused)?,
@@ -544,30 +541,44 @@ impl<T> Shared<T> {
         }
     }
 
-    /// The segment of the entry, what was taken out, and whether it was the last of its shard.
+    /// The value of a live entry at a place, and whether it was the last of its shard.
     #[inline(always)]
-    fn remove_at(&self, place: &Key) -> Result<(usize, Removed<T>, bool), CoreError> {
-        let mut shard = self.enter(place)?;
-        let removed = shard.core_mut().remove(&place.entry())?;
-        Ok((place.segment(), removed, shard.core().is_empty()))
+    fn remove_at(&self, place: &Key) -> Result<(T, bool), CoreError> {
+        let segment = self.segment(place.segment()).ok_or(CoreError::Missing)?;
+        segment.remove(segment.place_of(place.number()), &place.entry())
     }
 
     /// Takes a live entry out, and gives its value.
+    #[inline]
     pub fn remove(&self, key: &Key) -> Result<T, KeyError> {
         self.own(key)?;
-        let removed = match self.remove_at(key) {
-            Err(CoreError::Missing) => self.at_moved(key, |place| self.remove_at(place)),
-            removed => removed,
-        };
-        let (at, removed, is_last) = removed.map_err(|_| KeyError::Ended)?;
+        match self.remove_at(key) {
+            Ok((value, is_last)) => {
+                self.note_removed(key, is_last);
+                Ok(value)
+            }
+            Err(CoreError::Missing) => self.remove_moved(key),
+            Err(_) => Err(KeyError::Ended),
+        }
+    }
+
+    #[cold]
+    fn remove_moved(&self, key: &Key) -> Result<T, KeyError> {
+        let removed = self.at_moved(key, |place| Ok((*place, self.remove_at(place)?)));
+        let (place, (value, is_last)) = removed.map_err(|_| KeyError::Ended)?;
+        self.note_removed(&place, is_last);
+        Ok(value)
+    }
+
+    #[inline(always)]
+    fn note_removed(&self, place: &Key, is_last: bool) {
         if self.has_moved() {
-            self.key_of_user(self.key(at, &removed.key));
+            self.key_of_user(*place);
         }
         self.front.count_out(1);
-        if is_last && at > 0 {
+        if is_last && place.segment() > 0 {
             self.shrink();
         }
-        Ok(removed.value)
     }
 
     /// Whether an entry is at another place than its key says.

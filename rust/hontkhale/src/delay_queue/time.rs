@@ -135,20 +135,32 @@ impl Time {
         rounded_down(self.passed())
     }
 
-    /// The first tick that isn't before a moment, none beyond the last. It reads no clock.
-    #[inline]
-    pub fn tick_at(&self, when: Instant) -> Option<u64> {
-        rounded_up(when.saturating_duration_since(self.start))
+    /// The first tick that isn't before a moment, or one beyond the last. It reads no clock.
+    #[inline(always)]
+    pub fn tick_at(&self, when: Instant) -> u64 {
+        rounded_up(when.saturating_duration_since(self.start)).0
     }
 
-    /// The same of the moment that comes after a duration, or the present tick where it comes at once.
+    /// The same, and the moment at which that tick begins. Nothing is divided for that one.
+    #[inline(always)]
+    pub fn rounded(&self, when: Instant) -> (u64, Instant) {
+        match when.checked_duration_since(self.start) {
+            None => (0, self.start),
+            Some(length) => {
+                let (tick, early) = rounded_up(length);
+                (tick, when + Duration::new(0, early))
+            }
+        }
+    }
+
+    /// The first tick that isn't before the moment that comes after a duration, or the present tick where it comes at once.
     #[inline]
-    pub fn tick_in(&self, after: Duration) -> Option<u64> {
+    pub fn tick_in(&self, after: Duration) -> u64 {
         let passed = self.passed();
         if after.is_zero() {
-            return Some(rounded_down(passed));
+            return rounded_down(passed);
         }
-        rounded_up(passed.checked_add(after)?)
+        rounded_up(passed.saturating_add(after)).0
     }
 
     #[inline]
@@ -160,6 +172,25 @@ impl Time {
     #[inline]
     pub fn moment(&self, tick: u64) -> Instant {
         self.start + Duration::from_millis(tick)
+    }
+
+    /// The same of a tick that mostly comes less than a second after one whose moment is known: then nothing is divided.
+    #[inline(always)]
+    pub fn moment_after(&self, tick: u64, (known, moment): (u64, Instant)) -> Instant {
+        match tick.checked_sub(known) {
+            Some(millis @ 0..=999) => moment + Duration::new(0, millis as u32 * 1_000_000),
+            _ => self.moment(tick),
+        }
+    }
+
+    /// The same of a tick that mostly is one whose moment is known.
+    #[inline(always)]
+    pub fn moment_beside(&self, tick: u64, (known, moment): (u64, Instant)) -> Instant {
+        if tick == known {
+            moment
+        } else {
+            self.moment(tick)
+        }
     }
 
     /// The same, none for a tick that never comes.
@@ -188,11 +219,15 @@ fn rounded_down(length: Duration) -> u64 {
     millis.min(LAST_TICK)
 }
 
-#[inline]
-fn rounded_up(length: Duration) -> Option<u64> {
-    let millis = u64::from((length.subsec_nanos() + 999_999) / 1_000_000);
-    let tick = length.as_secs().checked_mul(1_000)?.checked_add(millis)?;
-    Some(tick).filter(|tick| *tick <= LAST_TICK)
+/// The first tick that isn't before the end of a length, or one beyond the last, and how many nanoseconds that end is before it.
+#[inline(always)]
+fn rounded_up(length: Duration) -> (u64, u32) {
+    if length.as_secs() > LAST_TICK / 1_000 {
+        return (u64::MAX, 0);
+    }
+    let millis = (length.subsec_nanos() + 999_999) / 1_000_000;
+    let early = millis * 1_000_000 - length.subsec_nanos();
+    (length.as_secs() * 1_000 + u64::from(millis), early)
 }
 
 #[cfg(test)]
@@ -203,11 +238,11 @@ mod tests {
     #[test]
     fn a_deadline_is_rounded_up_and_refused_beyond_the_last_tick() {
         let last = Duration::from_millis(LAST_TICK);
-        assert_eq!(rounded_up(Duration::ZERO), Some(0));
-        assert_eq!(rounded_up(Duration::from_nanos(1)), Some(1));
-        assert_eq!(rounded_up(Duration::from_millis(7)), Some(7));
-        assert_eq!(rounded_up(last), Some(LAST_TICK));
-        assert_eq!(rounded_up(last + Duration::from_nanos(1)), None);
-        assert_eq!(rounded_up(Duration::MAX), None);
+        assert_eq!(rounded_up(Duration::ZERO), (0, 0));
+        assert_eq!(rounded_up(Duration::from_nanos(1)), (1, 999_999));
+        assert_eq!(rounded_up(Duration::from_millis(7)), (7, 0));
+        assert_eq!(rounded_up(last), (LAST_TICK, 0));
+        assert!(rounded_up(last + Duration::from_nanos(1)).0 > LAST_TICK);
+        assert!(rounded_up(Duration::MAX).0 > LAST_TICK);
     }
 }
