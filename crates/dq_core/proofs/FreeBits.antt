@@ -4,7 +4,7 @@ use Rattle.std.specs.Int.{bit_at}
 use Rattle.std.proofs.lemmas.Nat.Bits.{bit_at-zero}
 use Rattle.std.proofs.lemmas.List.{get_or-set_same, get_or-set_other, get_or_past}
 use Rattle.std.proofs.lemmas.Bool.{cases_eq, cases_lt, eq-eqb, ne_eqb}
-use Rattle.std.proofs.Math.Nat.{div-div-eq-div-mul, pow-le-pow_right, div-eq_of_lt}
+use Rattle.std.proofs.Math.Nat.{div-div-eq-div-mul, pow-le-pow_right, div-eq_of_lt, div-le_self}
 use Rattle.std.proofs.lemmas.Nat.{pow-add}
 use Rattle.std.proofs.lemmas.List.Sums.{sum_by_push}
 use Rattle.dq_wheel.specs.Walks.{bit_of}
@@ -110,6 +110,10 @@ found_ahead words from k fits from_in one =
 -- a bit of a group
 pub found_in : (words : List ℕ) (g k : ℕ) → g < 16 → k < 64 → bit_at (get_or words g 0) k ≡ 1 → (64 * g + k < 1024) × (bit_of words (64 * g + k) ≡ 1)
 found_in words g k g_in k_in one = (omega arith, was_one words g k k_in one)
+
+-- a number that is shifted down has no more bits
+pub shifted_fits : (n k : ℕ) → n < 18446744073709551616 → n / 2 ^ k < 18446744073709551616
+shifted_fits n k fits = omega (arith, div-le_self n (2 ^ k))
 
 -- where each group is 0, no bit is 1
 pub none_in : (words : List ℕ) (g : ℕ) → ((k : ℕ) → k < 16 → get_or words ((g + 1 + k) % 16) 0 ≡ 0) → (w : ℕ) → w < 1024 → bit_of words w ≢ 1

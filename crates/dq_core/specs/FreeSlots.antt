@@ -1,7 +1,7 @@
 -- No public clause cites this module.
 -- The free indexes of a row: those freed last on a stack, and a bit for each of the others.
-use Rattle.std.specs.Prelude.{◌≡◌, ◌≢◌, ℕ, ◌+◌, ◌*◌, ◌<◌, ◌≤◌, ◌↔◌, ◌==◌, List, Option}
-use Rattle.std.specs.Prelude.{Some, None, length, slice_index}
+use Rattle.std.specs.Prelude.{◌≡◌, ◌≢◌, ℕ, ◌+◌, ◌*◌, ◌<◌, ◌≤◌, ◌↔◌, ◌==◌, List}
+use Rattle.std.specs.Prelude.{length, slice_index}
 use Rattle.std.specs.List.{count_by}
 use Rattle.dq_wheel.specs.Walks.{bit_of}
 
@@ -27,11 +27,6 @@ pub record GivesBack (f : FreeIndexes) (i : ℕ) (g : FreeIndexes) : Type 0 wher
   pub one_more : free_times g i ≡ free_times f i + 1
   pub others : (j : ℕ) → j ≢ i → free_times g j ≡ free_times f j
   pub room : length g.bits ≡ length f.bits
-
--- a free index is taken, as if it had not been given back; none comes exactly where none is free
-abbrev pub TakesFree : FreeIndexes → Option ℕ → FreeIndexes → Type 0
-TakesFree f None g = ((i : ℕ) → free_times f i ≡ 0) × (g ≡ f)
-TakesFree f (Some i) g = GivesBack g i f
 
 -- a bit of the summary is 1 exactly where that word of bits is not 0
 abbrev pub IsSummed : List ℕ → List ℕ → Type 0

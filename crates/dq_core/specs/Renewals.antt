@@ -7,7 +7,7 @@ use Rattle.dq_ticks.specs.declared.keys.EntryId.{EntryId}
 use Rattle.dq_wheel.specs.Moves.{passed}
 use Rattle.dq_core.specs.declared.renew.RenewError.{RenewError}
 use Rattle.dq_core.specs.declared.renew.RenewError.TheVariants.{StillLinked, UsedNumber, WrongRows}
-use Rattle.dq_core.specs.Words.{Counts, AreFresh}
+use Rattle.dq_core.specs.Words.{Counts}
 use Rattle.dq_core.specs.Slots.{SlotRows, unused, is_held}
 use Rattle.dq_core.specs.Machine.{Machine}
 use Rattle.dq_core.specs.Core.{Core}

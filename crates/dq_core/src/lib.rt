@@ -9,10 +9,8 @@
 //! [`PlainQueue`] is the slow twin: a plain list, which is short enough to be read and has the same answers.
 #![tactic(auto)]
 
-mod ahead;
 mod beside;
 mod callers;
-mod deferred;
 mod entries;
 mod errors;
 mod free_slots;

@@ -12,13 +12,12 @@ ghost use Rattle.dq_core.specs.Words.{AreFresh, StillBegun};
 ghost use Rattle.dq_core.specs.Calls.{IsConfig};
 ghost use Rattle.dq_wheel.specs.State.{filed_at, fresh_filing};
 
-use crate::ahead::Ahead;
 use crate::errors::{CoreConfig, CoreError};
 use crate::outcomes::{Expired, Pace, Progress, Removed, Tally, Turn};
 use crate::slots::Slots;
 use crate::words::{Settled, Words};
 use dq_ticks::{CAPACITY_LIMIT, EntryId, Key, LAST_STAMP, LAST_TICK, Mark, REACH};
-use dq_wheel::{Wheel, wakes_are_ahead};
+use dq_wheel::{Beside, Wheel, wakes_are_ahead};
 use std::alloc::{AllocError, Allocator, Global};
 use std::marker::Model;
 
@@ -76,6 +75,22 @@ impl<T, W: Words, A: Allocator> Model for DelayCore<T, W, A> {
         IsLawful a.noted a.wheel.filing a.slots (W.known a.words) (W.counts a.words)
         × (W.counts a.words
         ≡ record { begins = a.inserted; expiries = a.expired; removals = a.removed }) };
+}
+
+// The slots and the words of a queue, which its wheel reads ahead: a poll settles a word first, and then reads the
+// slot.
+#[derive(Drop)]
+struct Ahead<'a, T, W, A: Allocator = Global> {
+    slots: &'a Slots<T, A>,
+    words: &'a W,
+}
+
+impl<'a, T, W: Words, A: Allocator> Beside for Ahead<'a, T, W, A> {
+    #[inline(always)]
+    fn once_read(&self, index: usize, number: u64) -> u64 {
+        let same = self.words.once_read(index, number);
+        self.slots.once_read(index, same)
+    }
 }
 
 // Whether the numbers of a configuration are in their ranges, and the words are as many as its slots.
@@ -204,6 +219,13 @@ impl<T, W: Words, A: Allocator> DelayCore<T, W, A> {
     {
         self.wheel.law();
         self.words.law();
+    }
+
+    /// Returns the number of the queue, which its keys carry.
+    pub fn shard(&self) -> u32
+        ensures { result ≡ self.now.shard }
+    {
+        self.shard
     }
 
     /// Returns the greatest tick of one millisecond that a poll accepted; at first 0.
@@ -442,6 +464,34 @@ impl<T, W: Words, A: Allocator> DelayCore<T, W, A> {
         ensures { result ≡ length self.now.slots.rows }
     {
         self.slots.capacity()
+    }
+
+    /// Returns how many freed values wait for their drop. Constant time.
+    #[inline(always)]
+    pub fn aside(&self) -> usize {
+        self.slots.aside()
+    }
+
+    /// Takes out a freed value that waits for its drop. It returns none if no value waits. Constant time.
+    ///
+    /// ```ignore
+    /// for _ in 0..queue.aside() {
+    ///     drop(queue.take_aside());
+    /// }
+    /// ```
+    pub fn take_aside(&mut self) -> Option<T>
+        ensures { self.new ≡ self.old }
+    {
+        self.slots.take_aside()
+    }
+
+    /// Takes out the value that waits for its drop in the slot that the next insert takes, if one does: none while a
+    /// slot is free. Constant time.
+    #[inline(always)]
+    pub fn take_crowded(&mut self) -> Option<T>
+        ensures { self.new ≡ self.old }
+    {
+        self.slots.take_crowded()
     }
 
     // Where an entry is held, none where it is missing.

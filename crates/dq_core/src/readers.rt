@@ -14,13 +14,6 @@ use std::alloc::Allocator;
 impl<T, W: Words, A: Allocator> DelayCore<T, W, A> {
     ghost use Rattle.dq_core.specs.Readers.{IsTally, TellsLeast, TellsPlace, TellsFiled};
 
-    /// Returns the number of the queue, which its keys carry.
-    pub fn shard(&self) -> u32
-        ensures { result ≡ self.now.shard }
-    {
-        self.shard
-    }
-
     /// Returns the number of worn slots, which hold no entry and have no stamp left.
     pub fn worn(&self) -> usize
         ensures { result ≡ count_by (is_worn self.now.slots.last_stamp) self.now.slots.rows }

@@ -12,10 +12,9 @@ ghost use Rattle.std.specs.List.{count_by};
 ghost use Rattle.dq_core.specs.Deferred.{deferred_at, defers_room, MayDefer, DefersIf};
 ghost use Rattle.dq_core.specs.Cells.{AreThere, AreTaken, TakesWaiting, TakesAny};
 ghost use Rattle.dq_core.specs.FreeSlots.{free_times, room_of};
-ghost use Rattle.dq_core.specs.SlotRowsKept.{GivesSlot, TakesSlot};
+ghost use Rattle.dq_core.specs.SlotRowsKept.{GivesSlot};
 
-use crate::deferred::DeferredDrops;
-use crate::free_slots::FreeSlots;
+use crate::free_slots::{DeferredDrops, FreeSlots};
 use dq_ticks::LAST_STAMP;
 use dq_wheel::Beside;
 use std::alloc::{AllocError, Allocator, Global};
@@ -290,20 +289,6 @@ fn renew_slot<A: Allocator>(
     }
 }
 
-// Takes the slot of the next fill: a free one, and only where none is free one whose value waits for its drop.
-#[inline(always)]
-fn take_slot<A: Allocator>(
-    free: &mut FreeSlots<A>,
-    deferred: &mut DeferredDrops<A>,
-) -> Option<usize>
-    ensures { TakesSlot free.old deferred.old result free.new deferred.new }
-{
-    match free.take() {
-        Some(index) => Some(index),
-        None => deferred.take(),
-    }
-}
-
 // Takes out a value that waits for its drop, with the slot that it waited in; none comes exactly where none waits.
 fn take_waiting<T, A: Allocator>(
     cells: &mut Vec<Cell<T>, A>,
@@ -450,7 +435,7 @@ impl<T, A: Allocator> Slots<T, A> {
     pub fn fill(&mut self, value: T) -> Result<(usize, Option<T>), T>
         ensures { IsFilled self.old value result self.new }
     {
-        let Some(index) = take_slot(&mut self.free, &mut self.deferred) else {
+        let Some(index) = self.free.take(&mut self.deferred) else {
             return Err(value);
         };
         let cell = &mut self.cells[index];

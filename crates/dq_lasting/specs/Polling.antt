@@ -5,7 +5,7 @@ use Rattle.futures.specs.declared.task.Poll.TheVariants.{Ready, Pending}
 use Rattle.futures.specs.declared.task.context.Context.{Context}
 use Rattle.dq_core.specs.declared.errors.CoreError.TheVariants.{NoMemory, TickTooLarge}
 use Rattle.dq_core.specs.declared.outcomes.Expired.{Expired}
-use Rattle.dq_parking.specs.declared.fault.StreamFault.TheVariants as Fault
+use Rattle.dq_parking.specs.declared.sleeping.StreamFault.TheVariants as Fault
 use Rattle.dq_parking.specs.EachPoll.{AnswersAt}
 use Rattle.dq_parking.specs.Items.{Answer}
 use Rattle.dq_parking.specs.Parking.{is_rung, after_ring}

@@ -14,8 +14,8 @@ use Rattle.dq_core.specs.declared.outcomes.Expired.{Expired}
 use Rattle.dq_core.specs.declared.outcomes.Piece.TheVariants.{Answer as Answered, Working}
 use Rattle.dq_core.specs.declared.outcomes.Turn.TheVariants.{Out}
 use Rattle.dq_words.specs.Seats.{Sat}
-use Rattle.dq_parking.specs.declared.fault.StreamFault.{StreamFault}
-use Rattle.dq_parking.specs.declared.fault.StreamFault.TheVariants.{TickTooLarge, NoMemory}
+use Rattle.dq_parking.specs.declared.sleeping.StreamFault.{StreamFault}
+use Rattle.dq_parking.specs.declared.sleeping.StreamFault.TheVariants.{TickTooLarge, NoMemory}
 use Rattle.dq_parking.specs.declared.parked.Parked.{Parked}
 use Rattle.dq_parking.specs.EachPoll.{IsLeastDue, IsParkedAtWake, IsAtWork, TurnsAt, AnswersAt}
 use Rattle.dq_parking.specs.Items.{Answer}

@@ -3,7 +3,7 @@ use Rattle.std.specs.Prelude.{ℕ, ⊤, Option, Some, None, Result, Ok, Err}
 use Rattle.futures.specs.declared.task.Poll.{Poll}
 use Rattle.futures.specs.declared.task.Poll.TheVariants.{Ready, Pending}
 use Rattle.dq_core.specs.declared.outcomes.Expired.{Expired}
-use Rattle.dq_parking.specs.declared.fault.StreamFault.{StreamFault}
+use Rattle.dq_parking.specs.declared.sleeping.StreamFault.{StreamFault}
 
 -- an item of a stream: an entry that expired, or why there is none
 abbrev pub StreamItem : Type 0 → Type 0

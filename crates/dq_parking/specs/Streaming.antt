@@ -13,8 +13,8 @@ use Rattle.dq_core.specs.declared.outcomes.Piece.TheVariants.{Answer as Answered
 use Rattle.dq_core.specs.declared.outcomes.Turn.{Turn}
 use Rattle.dq_core.specs.declared.outcomes.Turn.TheVariants.{Out, Waiting, Idle}
 use Rattle.dq_words.specs.Seats.{Sat}
-use Rattle.dq_parking.specs.declared.fault.StreamFault.{StreamFault}
-use Rattle.dq_parking.specs.declared.fault.StreamFault.TheVariants.{TickTooLarge, NoMemory}
+use Rattle.dq_parking.specs.declared.sleeping.StreamFault.{StreamFault}
+use Rattle.dq_parking.specs.declared.sleeping.StreamFault.TheVariants.{TickTooLarge, NoMemory}
 use Rattle.dq_parking.specs.declared.parked.Parked.{Parked}
 use Rattle.dq_parking.specs.Items.{Answer}
 use Rattle.dq_parking.specs.Parking.{poller}

@@ -4,20 +4,15 @@
 #![tactic(auto)]
 
 mod attended;
-mod fault;
 mod parked;
-mod registering;
 mod row;
 mod sleeping;
 mod source;
 mod streaming;
-mod waiting;
 
 pub use attended::{Attended, keep_or_leave};
-pub use fault::StreamFault;
 pub use parked::{Leaver, Parked, let_sleep, ring, take};
-pub use row::{Row, Shard, unlock};
-pub use sleeping::{Polled, Sleeps, park_with};
+pub use row::{Row, Shard, unlock, waiting_row};
+pub use sleeping::{Polled, Sleeps, StreamFault, park_with};
 pub use source::{MillisecondTicks, TickSource};
 pub use streaming::{ShardStream, Shards, Whole, poll_place};
-pub use waiting::waiting_row;

@@ -13,14 +13,33 @@
 //! lets the lock go, wakes who has left, and drops what is set aside; `unlock` is for what drops nothing. A value's drop
 //! is a user's code: it may call the queue, and it may panic. So it runs while the lock is free, and where it panics the
 //! shard is whole.
-ghost use Rattle.std.specs.Prelude.{◌≡◌, ℕ, ◌<◌, ◌≤◌, IfOk, IsTrue, vec_len, vec_capacity};
+ghost use Rattle.std.specs.Prelude.{◌≡◌, ℕ, ◌<◌, ◌≤◌, ◌^◌, IfOk, IfErr, IsTrue, vec_len, vec_capacity};
 ghost use Rattle.std.specs.Sync.Mutex.{mutex_guard_value};
+ghost use Rattle.dq_core.specs.Calls.{IsConfig};
+ghost use Rattle.dq_core.specs.declared.errors.CoreError.TheVariants.{NoMemory};
 
 use crate::parked::{Leaver, Until};
-use crate::waiting::Waiting;
+use dq_core::{CoreConfig, CoreError, DelayCore};
+use dq_words::{Keeper, locked_shards};
 use std::alloc::{AllocError, Allocator, Global};
+use std::hint::spin_loop;
 use std::marker::Model;
+use std::sync::atomic::{AtomicU64, Ordering};
 use std::sync::{Mutex, MutexGuard, Wait};
+
+// How often a poller looks whether someone waits still before it goes on.
+const LOOKS: u32 = 1_000;
+
+// How often who finds a lock held tries it before it sleeps until the lock is free. A thread that sleeps is woken in
+// far more time than a piece takes.
+const TRIES: u32 = 32;
+
+// How long who finds a lock held pauses before its first try, and before any: each pause is twice the one before. Each
+// try takes the lock's cache line from the thread that holds the lock, and that thread is slower for it. So the tries
+// get rarer, the longer the lock is held.
+const FIRST_PAUSE: u32 = 4;
+
+const LONGEST_PAUSE: u32 = 256;
 
 /// What a call asks of a shard behind its lock.
 pub trait Shard {
@@ -59,6 +78,87 @@ pub trait Shard {
     /// Ends the dropping before its time, as `Attended::end_dropping`.
     fn end_dropping(&mut self, is_mine: &mut bool)
         ensures { self.new ≡ self.old };
+}
+
+/// How many threads wait for the lock of a shard. No contract speaks of the number: whoever reads a wrong one waits a
+/// little longer, or a little less.
+///
+/// It stands in cache lines of its own, so whoever looks at it takes none from who works under the lock.
+#[derive(Drop)]
+pub struct Waiting {
+    threads: AtomicU64,
+    _room: [u64; 15],
+}
+
+impl Waiting {
+    fn nobody() -> Waiting {
+        Waiting {
+            threads: AtomicU64::new(0),
+            _room: [0; 15],
+        }
+    }
+
+    /// Takes a lock. Who finds it held is counted until it has it.
+    #[inline(always)]
+    pub fn taken<'q, S, R: Wait>(&self, rt: &R, lock: &'q Mutex<S>) -> MutexGuard<'q, S> {
+        match lock.try_lock() {
+            Some(guard) => guard,
+            None => self.waited_for(rt, lock),
+        }
+    }
+
+    #[cold]
+    fn waited_for<'q, S, R: Wait>(&self, rt: &R, lock: &'q Mutex<S>) -> MutexGuard<'q, S> {
+        self.threads.fetch_add(1, Ordering::SeqCst);
+        let guard = match tried(lock) {
+            Some(guard) => guard,
+            None => lock.lock(rt),
+        };
+        self.threads.fetch_sub(1, Ordering::SeqCst);
+        guard
+    }
+
+    /// Looks for a bounded while until nobody waits.
+    pub fn give_way(&self) {
+        for _ in 0..LOOKS {
+            if self.threads.load(Ordering::SeqCst) == 0 {
+                return;
+            }
+            spin_loop();
+        }
+    }
+}
+
+// The lock, where it gets free within a bounded while.
+fn tried<S>(lock: &Mutex<S>) -> Option<MutexGuard<'_, S>> {
+    let mut pause = FIRST_PAUSE;
+    for _ in 0..TRIES {
+        for _ in 0..pause {
+            spin_loop();
+        }
+        if let Some(guard) = lock.try_lock() {
+            return Some(guard);
+        }
+        pause = pause.saturating_mul(2).min(LONGEST_PAUSE);
+    }
+    None
+}
+
+/// A number for each of so many shards, of whose locks nobody waits for one.
+///
+/// # Errors
+/// AllocError where memory is refused.
+pub fn waiting_row<A: Allocator + Clone>(
+    alloc: &A,
+    shards: usize,
+) -> Result<Vec<Waiting, A>, AllocError>
+    ensures { IfOk result (λ row. vec_len row ≡ shards) }
+{
+    let mut row = Vec::with_capacity(alloc.clone()?, shards)?;
+    for _shard in 0..shards {
+        row.push_reserved(Waiting::nobody());
+    }
+    Ok(row)
 }
 
 /// Shards behind locks. To a contract it is how many.
@@ -112,6 +212,39 @@ impl<S, A: Allocator + Clone> Row<S, A> {
         ensures { IfOk result (λ room. (vec_len room ≡ 0) × (self.now ≤ vec_capacity room)) }
     {
         Vec::with_capacity(self.shards.allocator().clone()?, self.shards.len())
+    }
+}
+
+impl<S: Drop, A: Allocator + Clone + Drop> Row<S, A> {
+    /// A row of so many shards, made of queues with nothing in them, of which each has its place for its number.
+    ///
+    /// # Errors
+    /// `NoMemory` if memory is refused.
+    pub fn of_queues<T>(
+        alloc: A,
+        shards: usize,
+        capacity: usize,
+        last_stamp: u32,
+    ) -> Result<Row<S, A>, CoreError>
+    where
+        S: From<DelayCore<T, Keeper<A>, A>>,
+        requires few { shards < 2 ^ 32 }
+        requires config { IsConfig capacity last_stamp capacity }
+        ensures count { IfOk result (λ row. row ≡ shards) }
+        ensures refused { IfErr result (λ e. e ≡ NoMemory) }
+    {
+        let config = CoreConfig {
+            shard: 0,
+            capacity,
+            last_stamp,
+        };
+        let Ok(waiting) = waiting_row(&alloc, shards) else {
+            return Err(CoreError::NoMemory);
+        };
+        match locked_shards(alloc, shards as u32, config) {
+            Ok(shards) => Ok(Row { shards, waiting }),
+            Err(_) => Err(CoreError::NoMemory),
+        }
     }
 }
 

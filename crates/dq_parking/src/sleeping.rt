@@ -1,5 +1,6 @@
-//! How a task that is polled waits in a shard.
+//! How a task that is polled waits in a shard: how it asks to be woken, and what it is given.
 ghost use Rattle.std.specs.Prelude.{◌≡◌, ℕ, Option, Some, None, Ok, Err, true};
+ghost use Rattle.futures.specs.Task.{Covers, Keeps};
 ghost use Rattle.dq_core.specs.Calls.{TellsWake};
 ghost use Rattle.dq_core.specs.Core.{Core};
 ghost use Rattle.dq_words.specs.Seats.{Sat};
@@ -7,12 +8,29 @@ ghost use Rattle.dq_parking.specs.declared.parked.Parked.{Parked};
 ghost use Rattle.dq_parking.specs.Attending.{MayWait, MayWaitSo};
 ghost use Rattle.dq_parking.specs.Parking.{poller};
 ghost use Rattle.dq_parking.specs.Streaming.{PollsBy, ParksWith, WaitsSo, Turns};
+ghost use Rattle.dq_parking.specs.Wakers.{LeavesWaker};
 
-use crate::fault::StreamFault;
 use crate::parked::{Parked, Until};
 use crate::row::Shard;
 use dq_core::{CoreError, Expired, Piece, Turn};
-use futures::task::{Poll, Waker};
+use futures::task::{Context, Poll, Source, Waker};
+use std::mem;
+use thiserror::Error;
+
+/// Why a stream gives no entry.
+#[derive(Clone, Copy, Debug, PartialEq, Eq, Error)]
+pub enum StreamFault {
+    /// The tick of its source is beyond the last tick. A stream of a `SharedDelayQueue` has ended for good, and one of
+    /// a `LastingQueue` goes on.
+    #[error("the tick is beyond the last tick, {limit}")]
+    TickTooLarge {
+        /// The last tick.
+        limit: u64,
+    },
+    /// Memory for the waker was refused. Nothing is parked, and the stream goes on.
+    #[error("out of memory")]
+    NoMemory,
+}
 
 /// What a poll of a stream gives.
 pub type Polled<T> = Poll<Option<Result<Expired<T>, StreamFault>>>;
@@ -57,6 +75,28 @@ pub trait Sleeps: Shard {
     ghost is_parked: { (s : Self) (p : Option (Parked Self.Next)) → parked (parks s p) ≡ p };
 
     ghost same_core: { (s : Self) (p : Option (Parked Self.Next)) → core (parks s p) ≡ core s };
+}
+
+/// Registers with the context, and answers the waker of its task; none where none can be made for want of memory, and
+/// then the task has asked for another poll. The name stands for the shard, as a source that fires where it wakes its
+/// poller.
+pub fn register(name: &Source, cx: &mut Context<'_>) -> Option<Waker>
+    ensures left { LeavesWaker cx.old cx.new result }
+    ensures registered { Covers cx.new (λ s. s ≡ name.now.id) }
+    ensures kept { Keeps cx.old cx.new }
+{
+    let mut slot = None;
+    let _pending: Poll<()> = cx.register(name, &mut slot);
+    slot
+}
+
+/// Lets the waker go that a registration left and that nobody parked, and doesn't wake its task. It is the user's: the
+/// shard's lock is to be free.
+pub fn forget(slot: Option<Waker>) {
+    if let Some(waker) = slot {
+        // A waker that is dropped wakes.
+        mem::forget(waker);
+    }
 }
 
 /// Parks a poller with the waker that a registration left. Refused as NoMemory where it left none; the shard stays as

@@ -14,11 +14,9 @@ ghost use Rattle.dq_parking.specs.Streaming.{StreamPolls};
 ghost use Rattle.dq_parking.specs.EachPoll.{IsEntered, IsLeastDue, IsParkedAtWake, IsAtWork};
 ghost use Rattle.dq_parking.specs.EachPoll.{EndsWhereEmpty, EndsByFault, TurnsAt, AnswersAt, GivesAt, is_over};
 
-use crate::fault::StreamFault;
 use crate::parked::{Parked, let_sleep};
-use crate::registering::{forget, register};
 use crate::row::{Row, Shard};
-use crate::sleeping::{NextOf, Polled, Sleeps, ValueOf, turn};
+use crate::sleeping::{NextOf, Polled, Sleeps, StreamFault, ValueOf, forget, register, turn};
 use crate::source::TickSource;
 use dq_core::Expired;
 use futures::Stream;
@@ -32,6 +30,7 @@ pub trait Shards {
     /// A shard behind its lock.
     type State: Sleeps;
 
+    /// What its row was allocated by.
     type Alloc: Allocator;
 
     /// Why a call is refused.
@@ -212,16 +211,10 @@ fn dropped_behind<T>(answer: &Polled<T>, aside: usize) -> usize
 fn ends_by<T>(ends: bool, answer: &Polled<T>) -> bool
     ensures { result ≡ is_over ends answer.now }
 {
-    let Poll::Ready(Some(item)) = answer else {
-        return false;
-    };
-    let Err(fault) = item else {
-        return false;
-    };
-    match fault {
-        StreamFault::TickTooLarge { limit: _ } => ends,
-        StreamFault::NoMemory => false,
-    }
+    ends && matches!(
+        answer,
+        Poll::Ready(Some(Err(StreamFault::TickTooLarge { .. })))
+    )
 }
 
 // What a poll does under its shard's lock, for a task that left its waker. Who was parked there before goes out with

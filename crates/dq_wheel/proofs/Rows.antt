@@ -1,10 +1,10 @@
 -- The circular lists as rows of numbers.
 
-use Rattle.std.proofs.Common.{◌≡◌, ◌≢◌, ℕ, ◌+◌, ◌-◌, ◌<◌, ◌≤◌, List, length, get_or, set, take, replicate, min, sym, arith, ◌∙◌, ap}
+use Rattle.std.proofs.Common.{◌≡◌, ◌≢◌, ℕ, ◌+◌, ◌-◌, ◌<◌, ◌≤◌, List, length, get_or, set, map, take, replicate, min, sym, arith, ◌∙◌, ap}
 use Rattle.std.proofs.Math.ListN.{length-set}
 use Rattle.std.proofs.lemmas.List.{get_or-set_same, get_or-set_other}
-use Rattle.std.proofs.Math.Seq.{take-set-lt}
-use Rattle.std.proofs.lemmas.List.{length-take-le, get_or-take, length-take, length-map, length-replicate, get_or-replicate, ext_get_or}
+use Rattle.std.proofs.Math.Seq.{take-set-lt, map-set_same}
+use Rattle.std.proofs.lemmas.List.{map-set, length-take-le, get_or-take, length-take, length-map, length-replicate, get_or-replicate, ext_get_or}
 use Rattle.dq_wheel.specs.Circle.{IsCircles}
 use Rattle.dq_wheel.specs.Rows.{nexts, prevs, homes, filed_numbers, moves_made, AreAlone}
 use Rattle.dq_wheel.specs.declared.row.Row.{Row}
@@ -199,3 +199,23 @@ stands_seen cap next prev homes now i r now_is i_in =
 -- an index that callers see stands in one of the lists, or in none
 pub home_small : (cap : ℕ) (next prev homes now : List ℕ) (i : ℕ) → IsCircles cap next prev homes → take cap homes ≡ now → i < length now → get_or homes i 0 ≤ LISTS
 home_small cap next prev homes now i r now_is i_in = r.circle.home_le i (stands_seen cap next prev homes now i r now_is i_in)
+
+-- one element is replaced, one by one that f can't tell from it, and one more
+pub set_kept_set : {A : Type 0} (f : A → ℕ) (xs : List A) (i j k v : ℕ) (a b x d : A) → f b ≡ f (get_or (set xs i a) j d) → v ≡ f a
+    → map f (set (set (set xs i a) j b) k x) ≡ set (set (map f xs) i v) k (f x)
+set_kept_set f xs i j k v a b x d kept v_is =
+    rw v_is (map-set f (set (set xs i a) j b) k x
+    ∙ ap (λ ys. set ys k (f x)) (map-set_same f (set xs i a) j b d kept ∙ map-set f xs i a))
+
+-- two elements are replaced, and one by one that f can't tell from it
+pub set_set_kept : {A : Type 0} (f : A → ℕ) (xs : List A) (i j k at : ℕ) (a b x d : A) → f x ≡ f (get_or (set (set xs i a) j b) k d) → at ≡ j
+    → map f (set (set (set xs i a) j b) k x) ≡ set (set (map f xs) i (f a)) at (f b)
+set_set_kept f xs i j k at a b x d kept at_is =
+    rw at_is (map-set_same f (set (set xs i a) j b) k x d kept
+    ∙ (map-set f (set xs i a) j b ∙ ap (λ ys. set ys j (f b)) (map-set f xs i a)))
+
+-- one element is replaced, and two by ones that f can't tell from them
+pub set_kept_kept : {A B : Type 0} (f : A → B) (xs : List A) (i j k : ℕ) (a b x d : A) → f b ≡ f (get_or (set xs i a) j d)
+    → f x ≡ f (get_or (set (set xs i a) j b) k d) → map f (set (set (set xs i a) j b) k x) ≡ set (map f xs) i (f a)
+set_kept_kept f xs i j k a b x d kept same =
+    map-set_same f (set (set xs i a) j b) k x d same ∙ (map-set_same f (set xs i a) j b d kept ∙ map-set f xs i a)

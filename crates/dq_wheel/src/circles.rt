@@ -5,14 +5,16 @@ ghost use Rattle.dq_wheel.specs.Lists.{IsLeastIn, IsListEmpty, IsListFilled, IsL
 ghost use Rattle.dq_wheel.specs.Seen.{home_seen, number_seen, numbers_seen};
 ghost use Rattle.dq_wheel.specs.Maps.{IsOccupied};
 ghost use Rattle.dq_wheel.specs.Homes.{CanGo, IsOpened};
-ghost use Rattle.dq_wheel.specs.Rows.{homes, filed_numbers, shown_numbers};
+ghost use Rattle.dq_wheel.specs.Rows.{homes, filed_numbers, shown_numbers, entry_homes, entry_filed, entry_moves, AreCircles};
 ghost use Rattle.dq_wheel.specs.declared.row.TheConstants.{NOT_FILED};
 
 use crate::LISTS;
 use crate::beside::Beside;
-use crate::cascade::scatter;
-use crate::maps::Maps;
-use crate::row::{Row, append, detach, detach_first, hang, lone_rows, once_near, row_at};
+use crate::homes::{Maps, clear_bit, list_from, set_bit};
+use crate::row::{
+    Row, append, detach, detach_first, hang, lone_rows, once_near, put_last, row_at, set_moves,
+    take_off,
+};
 use dq_ticks::CAPACITY_LIMIT;
 use std::alloc::{AllocError, Allocator, Global};
 use std::marker::Model;
@@ -86,6 +88,39 @@ fn earlier(rows: &[Row], opened: Option<usize>, since: u64, one: usize, other: u
     } else {
         one
     }
+}
+
+// Places each index of a list again by the new tick, and gives how many of them aren't due yet. Meanwhile the list's
+// bit stays, and what waits in it is linked only forward.
+fn scatter(rows: &mut [Row], capacity: usize, maps: &mut Maps, list: usize, tick: u64) -> u64
+    requires circles { AreCircles capacity rows.old }
+    requires list_in { list < LISTS }
+    requires occupied { IsOccupied maps.old (entry_homes capacity rows.old) }
+    requires can_go { (i : ℕ) → StandsIn (entry_homes capacity rows.old) list i →
+        CanGo tick list (slice_index (entry_filed capacity rows.old) i)
+        (slice_index (entry_moves capacity rows.old) i) }
+    ensures circles { AreCircles capacity rows.new }
+    ensures opened { IsOpened tick list (entry_filed capacity rows.old)
+        (entry_homes capacity rows.old) (entry_moves capacity rows.old)
+        (entry_homes capacity rows.new) (entry_moves capacity rows.new) result }
+    ensures filed { filed_numbers rows.new ≡ filed_numbers rows.old }
+    ensures occupied { IsOccupied maps.new (entry_homes capacity rows.new) }
+{
+    let mut made = 0;
+    let mut index = take_off(rows, capacity, list);
+    while index < capacity {
+        let row = row_at(rows, index);
+        let to = list_from(list, tick, row.filed);
+        let after = put_last(rows, capacity, list, index, to);
+        set_bit(maps, to);
+        if row.filed != tick {
+            set_moves(rows, index, row.moves + 1);
+            made += 1;
+        }
+        index = after;
+    }
+    clear_bit(maps, list);
+    made
 }
 
 impl<A: Allocator> Circles<A> {
@@ -218,7 +253,7 @@ impl<A: Allocator> Circles<A> {
         ensures moves { self.new.moves ≡ slice_set self.old.moves index 0 }
         ensures opened { self.new.opened ≡ self.old.opened }
     {
-        append(&mut self.rows, self.capacity + list, index, list, filed);
+        append(&mut self.rows, self.capacity + list, index, list, filed, 0);
     }
 
     /// The number, once the rows were read that an unlink of the index writes.

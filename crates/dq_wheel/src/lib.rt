@@ -22,11 +22,9 @@
 #![tactic(auto)]
 
 mod beside;
-mod cascade;
 mod circles;
 mod homes;
 mod lists;
-mod maps;
 mod row;
 mod wheel;
 

@@ -12,7 +12,7 @@ ghost use Rattle.dq_wheel.specs.declared.row.TheConstants.{NOT_FILED};
 use crate::LISTS;
 use crate::beside::Beside;
 use crate::circles::Circles;
-use crate::maps::{Maps, clear_bit, first_list, set_bit};
+use crate::homes::{Maps, clear_bit, first_list, set_bit};
 use dq_ticks::{CAPACITY_LIMIT, LEVELS, SLOTS};
 use std::alloc::{AllocError, Allocator, Global};
 use std::marker::Model;

@@ -49,21 +49,6 @@ fn set_prev(rows: &mut [Row], at: usize, prev: u32)
     rows[at].prev = prev;
 }
 
-// Writes a number's links and its home.
-fn set_links(rows: &mut [Row], at: usize, next: u32, prev: u32, home: u16)
-    requires { at < length rows.old }
-    ensures next { nexts rows.new ≡ slice_set (nexts rows.old) at next }
-    ensures prev { prevs rows.new ≡ slice_set (prevs rows.old) at prev }
-    ensures home { homes rows.new ≡ slice_set (homes rows.old) at home }
-    ensures filed { filed_numbers rows.new ≡ filed_numbers rows.old }
-    ensures moves { moves_made rows.new ≡ moves_made rows.old }
-{
-    let row = &mut rows[at];
-    row.next = next;
-    row.prev = prev;
-    row.home = home;
-}
-
 // Writes a number's home.
 fn set_home(rows: &mut [Row], at: usize, home: u16)
     requires { at < length rows.old }
@@ -114,29 +99,8 @@ pub fn row_at(rows: &[Row], at: usize) -> Row
     rows[at]
 }
 
-// Writes an entry as the last of a list, behind what its head follows.
-fn write_last(rows: &mut [Row], head: usize, index: usize, list: usize)
-    requires list_in { list < LISTS }
-    requires size { length rows.old ≤ CAPACITY_LIMIT + LISTS }
-    requires head_in { head < length rows.old }
-    requires index_in { index < length rows.old }
-    requires last_in { slice_index (prevs rows.old) head < length rows.old }
-    ensures next { let last = slice_index (prevs rows.old) head in
-        nexts rows.new ≡ slice_set (slice_set (nexts rows.old) index head) last index }
-    ensures prev { let last = slice_index (prevs rows.old) head in
-        prevs rows.new ≡ slice_set (slice_set (prevs rows.old) index last) head index }
-    ensures home { homes rows.new ≡ slice_set (homes rows.old) index (list + 1) }
-    ensures filed { filed_numbers rows.new ≡ filed_numbers rows.old }
-    ensures moves { moves_made rows.new ≡ moves_made rows.old }
-{
-    let last = row_at(rows, head).prev;
-    set_links(rows, index, head as u32, last, list as u16 + 1);
-    set_next(rows, last as usize, index as u32);
-    set_prev(rows, head, index as u32);
-}
-
-/// Puts a loose entry at the end of a list, filed at a tick.
-pub fn append(rows: &mut [Row], head: usize, index: usize, list: usize, filed: u64)
+/// Writes an entry as the last of a list, filed at a tick, after so many moves.
+pub fn append(rows: &mut [Row], head: usize, index: usize, list: usize, filed: u64, moves: u8)
     requires list_in { list < LISTS }
     requires size { length rows.old ≤ CAPACITY_LIMIT + LISTS }
     requires head_in { head < length rows.old }
@@ -148,10 +112,18 @@ pub fn append(rows: &mut [Row], head: usize, index: usize, list: usize, filed: u
         prevs rows.new ≡ slice_set (slice_set (prevs rows.old) index last) head index }
     ensures home { homes rows.new ≡ slice_set (homes rows.old) index (list + 1) }
     ensures filed { filed_numbers rows.new ≡ slice_set (filed_numbers rows.old) index filed }
-    ensures moves { moves_made rows.new ≡ slice_set (moves_made rows.old) index 0 }
+    ensures moves { moves_made rows.new ≡ slice_set (moves_made rows.old) index moves }
 {
-    write_last(rows, head, index, list);
-    set_filed(rows, index, filed);
+    let last = rows[head].prev;
+    rows[index] = Row {
+        filed,
+        next: head as u32,
+        prev: last,
+        home: list as u16 + 1,
+        moves,
+    };
+    rows[last as usize].next = index as u32;
+    rows[head].prev = index as u32;
 }
 
 /// Takes an entry out of its list.
@@ -266,9 +238,9 @@ pub fn put_last(rows: &mut [Row], capacity: usize, list: usize, index: usize, to
     ensures filed { filed_numbers rows.new ≡ filed_numbers rows.old }
     ensures moves { moves_made rows.new ≡ moves_made rows.old }
 {
-    let after = row_at(rows, index).next as usize;
-    write_last(rows, capacity + to, index, to);
-    after
+    let row = row_at(rows, index);
+    append(rows, capacity + to, index, to, row.filed, row.moves);
+    row.next as usize
 }
 
 /// The rows of entries and heads that stand alone.

@@ -8,9 +8,7 @@
 //!
 //! [`PlainQueue`] is the slow twin: a plain list, which is short enough to be read and has the same answers.
 
-mod ahead;
 mod callers;
-mod deferred;
 mod entries;
 mod errors;
 mod free_slots;

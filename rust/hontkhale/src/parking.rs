@@ -3,22 +3,17 @@
 //! threads wait for the shard's lock.
 
 mod attended;
-mod fault;
 mod parked;
-mod registering;
 mod row;
 mod sleeping;
 mod source;
 mod streaming;
-mod waiting;
 
 pub use attended::{keep_or_leave, Attended};
-pub use fault::StreamFault;
 pub use parked::{let_sleep, ring, take, Leaver, Parked};
-pub use row::{unlock, Row, Shard};
+pub use row::{unlock, waiting_row, Row, Shard};
 #[cfg(test)]
 pub use sleeping::park_with;
-pub use sleeping::{Polled, Sleeps};
+pub use sleeping::{Polled, Sleeps, StreamFault};
 pub use source::{MillisecondTicks, TickSource};
 pub use streaming::{poll_place, ShardStream, Shards, Whole};
-pub use waiting::waiting_row;

@@ -21,11 +21,9 @@
 //! reads wait together.
 
 mod beside;
-mod cascade;
 mod circles;
 pub(crate) mod homes;
 mod lists;
-mod maps;
 pub(crate) mod row;
 mod wheel;
 

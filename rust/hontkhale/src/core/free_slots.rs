@@ -1,9 +1,15 @@
-//! The free indexes of a row of slots.
+//! The free indexes of a row of slots, and those whose slots have a value that was let go and isn't dropped yet.
 //!
 //! The indexes that were freed last stand on a small stack and are given first: their rows are still near. All others
 //! are bits of words, with a bit of a summary for each word that isn't 0, and are given in rising order from where
 //! the last was given, so that a fill walks through the memory in its order. The stack also serves a queue that is
-//! nearly full, where the few free bits would lie far apart. Each call takes constant time.
+//! nearly full, where the few free bits would lie far apart.
+//!
+//! A value's drop is a user's code: it may take long, call the queue or panic, so it runs only where a call is done
+//! with the queue. Until then the value stays in its slot: a row of its own would take as much memory again as all
+//! values do, and to move a value there and back would cost what its drop is put off for. A slot that waits for its
+//! drop may be filled again where no slot is free; the value then goes out beside the new one. These slots are bits of
+//! words too, with a count of them. Each call takes constant time.
 
 use crate::index::{nth, nth_mut};
 use crate::memory::{filled, room_for, AllocError};
@@ -16,7 +22,7 @@ const RECENT: usize = 64;
 const BITS: usize = 64;
 
 // A bit for each of 1,024 words.
-pub(crate) type Summary = [u64; 16];
+type Summary = [u64; 16];
 
 /// Which indexes are free.
 pub struct FreeSlots {
@@ -27,28 +33,21 @@ pub struct FreeSlots {
     current: usize,
 }
 
-// The place of the lowest bit of a word that is 1.
-fn lowest_bit(word: u64) -> Option<usize> {
-    if word == 0 {
-        None
-    } else {
-        Some(word.trailing_zeros() as usize)
-    }
-}
-
 /// A word that the summary has a bit for: in rising order from `from`, and then again from the first.
 // Called once a word, so it stays out of its callers' loops.
 #[inline(never)]
 fn next_word(summary: &Summary, from: usize) -> Option<usize> {
     // requires from < 1024
     let group = from / BITS;
-    if let Some(ahead) = lowest_bit(*nth(summary, group) >> (from % BITS)) {
-        return Some(from + ahead);
+    let ahead = *nth(summary, group) >> (from % BITS);
+    if ahead != 0 {
+        return Some(from + ahead.trailing_zeros() as usize);
     }
     for turn in 0..16 {
         let next = (group + 1 + turn) % 16;
-        if let Some(bit) = lowest_bit(*nth(summary, next)) {
-            return Some(BITS * next + bit);
+        let word = *nth(summary, next);
+        if word != 0 {
+            return Some(BITS * next + word.trailing_zeros() as usize);
         }
     }
     None
@@ -56,7 +55,7 @@ fn next_word(summary: &Summary, from: usize) -> Option<usize> {
 
 // A word of bits that isn't 0: the one that gave the last index, or the next that the summary knows.
 #[inline]
-pub(crate) fn filled_word(bits: &[u64], summary: &Summary, last: usize) -> Option<usize> {
+fn filled_word(bits: &[u64], summary: &Summary, last: usize) -> Option<usize> {
     // requires last < length bits.now
     // requires length bits.now ≤ 1024
     // requires IsSummed bits.now summary.now
@@ -69,7 +68,7 @@ pub(crate) fn filled_word(bits: &[u64], summary: &Summary, last: usize) -> Optio
 
 // Sets the bit of an index, and its word's in the summary where it is the word's first.
 #[inline]
-pub(crate) fn set_bit(bits: &mut [u64], summary: &mut Summary, index: usize) {
+fn set_bit(bits: &mut [u64], summary: &mut Summary, index: usize) {
     // requires index < 64 * length bits.old
     // requires length bits.old ≤ 1024
     // requires IsSummed bits.old summary.old
@@ -83,14 +82,14 @@ pub(crate) fn set_bit(bits: &mut [u64], summary: &mut Summary, index: usize) {
 
 // Whether the bit of an index is set.
 #[inline]
-pub(crate) fn has_bit(bits: &[u64], index: usize) -> bool {
+fn has_bit(bits: &[u64], index: usize) -> bool {
     // requires index < 64 * length bits.now
     *nth(bits, index / BITS) >> (index % BITS) & 1 == 1
 }
 
 // Clears the bit of an index, and its word's in the summary where it was the word's only one.
 #[inline]
-pub(crate) fn clear_bit(bits: &mut [u64], summary: &mut Summary, index: usize) {
+fn clear_bit(bits: &mut [u64], summary: &mut Summary, index: usize) {
     // requires index < 64 * length bits.old
     // requires length bits.old ≤ 1024
     // requires bit_of bits.old index ≡ 1
@@ -105,7 +104,7 @@ pub(crate) fn clear_bit(bits: &mut [u64], summary: &mut Summary, index: usize) {
 
 // Clears the lowest bit of a word that isn't 0, and the word's bit in the summary where it was its only one.
 #[inline]
-pub(crate) fn take_bit(bits: &mut [u64], summary: &mut Summary, word: usize) -> usize {
+fn take_bit(bits: &mut [u64], summary: &mut Summary, word: usize) -> usize {
     // requires word < length bits.old
     // requires length bits.old ≤ 1024
     // requires 0 < slice_index bits.old word
@@ -156,14 +155,76 @@ impl FreeSlots {
         }
     }
 
-    /// Takes a free index, if there is one.
-    #[inline]
-    pub fn take(&mut self) -> Option<usize> {
+    /// Takes the index of the next fill: a free one, and only where none is free one whose value waits for its drop.
+    #[inline(always)]
+    pub fn take(&mut self, deferred: &mut DeferredDrops) -> Option<usize> {
         if let Some(top) = self.recent.pop() {
             return Some(top as usize);
         }
-        let word = filled_word(&self.bits, &self.summary, self.current)?;
+        let Some(word) = filled_word(&self.bits, &self.summary, self.current) else {
+            return deferred.take();
+        };
         self.current = word;
         Some(take_bit(self.bits.as_mut_slice(), &mut self.summary, word))
+    }
+}
+
+/// The slots whose value waits for its drop.
+pub struct DeferredDrops {
+    pub(crate) bits: Vec<u64>,
+    pub(crate) summary: Summary,
+    /// The word that gave the last slot.
+    current: usize,
+    pub(crate) count: usize,
+}
+
+impl DeferredDrops {
+    /// Room for the slots below `capacity`, of which none waits.
+    pub fn new(capacity: usize) -> Result<DeferredDrops, AllocError> {
+        // requires capacity ≤ CAPACITY_LIMIT
+        let words = capacity.saturating_sub(1) / 64 + 1;
+        let bits = filled(0, words)?;
+        Ok(DeferredDrops {
+            bits,
+            summary: [0; 16],
+            current: 0,
+            count: 0,
+        })
+    }
+
+    /// How many slots wait.
+    #[inline(always)]
+    pub fn count(&self) -> usize {
+        self.count
+    }
+
+    /// From now on a slot waits.
+    pub fn add(&mut self, index: usize) {
+        // requires index < defers_room self.old
+        if has_bit(&self.bits, index) {
+            return;
+        }
+        set_bit(self.bits.as_mut_slice(), &mut self.summary, index);
+        self.count += 1;
+    }
+
+    /// A slot waits no more. It returns whether it did.
+    pub fn remove(&mut self, index: usize) -> bool {
+        // requires index < defers_room self.old
+        if !has_bit(&self.bits, index) {
+            return false;
+        }
+        clear_bit(self.bits.as_mut_slice(), &mut self.summary, index);
+        self.count -= 1;
+        true
+    }
+
+    /// Takes out a slot that waits; none comes exactly where the count is 0.
+    pub fn take(&mut self) -> Option<usize> {
+        let word = filled_word(&self.bits, &self.summary, self.current)?;
+        self.current = word;
+        let index = take_bit(self.bits.as_mut_slice(), &mut self.summary, word);
+        self.count -= 1;
+        Some(index)
     }
 }

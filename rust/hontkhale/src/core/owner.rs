@@ -11,32 +11,6 @@ use crate::core::words::Words;
 use crate::ticks::{EntryId, Key, LAST_TICK};
 
 impl<T, W: Words> DelayCore<T, W> {
-    /// Returns how many freed values wait for their drop. Constant time.
-    #[inline(always)]
-    pub fn aside(&self) -> usize {
-        self.slots.aside()
-    }
-
-    /// Takes out a freed value that waits for its drop. It returns none if no value waits. Constant time.
-    ///
-    /// ```ignore
-    /// for _ in 0..queue.aside() {
-    ///     drop(queue.take_aside());
-    /// }
-    /// ```
-    pub fn take_aside(&mut self) -> Option<T> {
-        self.slots.take_aside()
-    }
-
-    /// Takes out the value that waits for its drop in the slot that the next insert takes, if one does: none while a
-    /// slot is free. Constant time.
-    #[inline(always)]
-    pub fn take_crowded(&mut self) -> Option<T> {
-        self.slots.take_crowded()
-    }
-}
-
-impl<T, W: Words> DelayCore<T, W> {
     /// Drops the freed values that wait for their drop. If a drop panics, the others wait for the next call that
     /// drops.
     #[inline]

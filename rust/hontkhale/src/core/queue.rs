@@ -4,7 +4,6 @@
 //! the owner. The wheel files the index no later than that deadline; where an entry comes due there and its word has
 //! a later deadline, it is filed again.
 
-use crate::core::ahead::Ahead;
 use crate::core::errors::{CoreConfig, CoreError};
 use crate::core::outcomes::{Expired, Pace, Progress, Removed, Turn};
 use crate::core::slots::Slots;
@@ -12,7 +11,7 @@ use crate::core::words::{Settled, Words};
 use crate::fresh::are_fresh;
 use crate::memory::AllocError;
 use crate::ticks::{EntryId, Key, Mark, CAPACITY_LIMIT, LAST_STAMP, LAST_TICK, REACH};
-use crate::wheels::Wheel;
+use crate::wheels::{Beside, Wheel};
 
 /// A delay queue of one owner: values of `T`, with their deadlines in the words `W`. Ticks are of one millisecond,
 /// and the owner passes them in: the queue reads no clock. It takes all of its memory when it is made.
@@ -45,6 +44,21 @@ pub struct DelayCore<T, W: Words> {
     pub(crate) inserted: u64,
     pub(crate) expired: u64,
     pub(crate) removed: u64,
+}
+
+// The slots and the words of a queue, which its wheel reads ahead: a poll settles a word first, and then reads the
+// slot.
+struct Ahead<'a, T, W> {
+    slots: &'a Slots<T>,
+    words: &'a W,
+}
+
+impl<'a, T, W: Words> Beside for Ahead<'a, T, W> {
+    #[inline(always)]
+    fn once_read(&self, index: usize, number: u64) -> u64 {
+        let same = self.words.once_read(index, number);
+        self.slots.once_read(index, same)
+    }
 }
 
 // Whether the numbers of a configuration are in their ranges, and the words are as many as its slots.
@@ -126,6 +140,11 @@ impl<T, W: Words> DelayCore<T, W> {
 }
 
 impl<T, W: Words> DelayCore<T, W> {
+    /// Returns the number of the queue, which its keys carry.
+    pub fn shard(&self) -> u32 {
+        self.shard
+    }
+
     /// Returns the greatest tick of one millisecond that a poll accepted; at first 0.
     pub fn noted(&self) -> u64 {
         self.noted
@@ -278,6 +297,30 @@ impl<T, W: Words> DelayCore<T, W> {
     /// Returns the number of slots.
     pub fn capacity(&self) -> usize {
         self.slots.capacity()
+    }
+
+    /// Returns how many freed values wait for their drop. Constant time.
+    #[inline(always)]
+    pub fn aside(&self) -> usize {
+        self.slots.aside()
+    }
+
+    /// Takes out a freed value that waits for its drop. It returns none if no value waits. Constant time.
+    ///
+    /// ```ignore
+    /// for _ in 0..queue.aside() {
+    ///     drop(queue.take_aside());
+    /// }
+    /// ```
+    pub fn take_aside(&mut self) -> Option<T> {
+        self.slots.take_aside()
+    }
+
+    /// Takes out the value that waits for its drop in the slot that the next insert takes, if one does: none while a
+    /// slot is free. Constant time.
+    #[inline(always)]
+    pub fn take_crowded(&mut self) -> Option<T> {
+        self.slots.take_crowded()
     }
 
     // Where an entry is held, none where it is missing.

@@ -7,11 +7,6 @@ use crate::ticks::{EntryId, Key};
 use crate::wheels::Place;
 
 impl<T, W: Words> DelayCore<T, W> {
-    /// Returns the number of the queue, which its keys carry.
-    pub fn shard(&self) -> u32 {
-        self.shard
-    }
-
     /// Returns the number of worn slots, which hold no entry and have no stamp left.
     pub fn worn(&self) -> usize {
         self.slots.worn()

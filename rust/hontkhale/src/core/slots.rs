@@ -8,8 +8,7 @@
 //! the slot isn't among the free ones: a fill takes it only where no slot is free, and hands the value over. No call
 //! drops a value: no impl here says that one may be dropped.
 
-use crate::core::deferred::DeferredDrops;
-use crate::core::free_slots::FreeSlots;
+use crate::core::free_slots::{DeferredDrops, FreeSlots};
 use crate::index::{nth, nth_mut};
 use crate::memory::{room_for, AllocError};
 use crate::ticks::LAST_STAMP;
@@ -204,15 +203,6 @@ fn renew_slot(free: &mut FreeSlots, deferred: &mut DeferredDrops, waits: bool, i
     }
 }
 
-// Takes the slot of the next fill: a free one, and only where none is free one whose value waits for its drop.
-#[inline(always)]
-fn take_slot(free: &mut FreeSlots, deferred: &mut DeferredDrops) -> Option<usize> {
-    match free.take() {
-        Some(index) => Some(index),
-        None => deferred.take(),
-    }
-}
-
 // Takes out a value that waits for its drop, with the slot that it waited in; none comes exactly where none waits.
 fn take_waiting<T>(cells: &mut [Cell<T>], waiting: &mut DeferredDrops) -> Option<(usize, T)> {
     // requires AreThere cells.old.items waiting.old
@@ -315,7 +305,7 @@ impl<T> Slots<T> {
     /// of the free slots it returns the one that waited there too. It hands the value back where no slot is free.
     #[inline(always)]
     pub fn fill(&mut self, value: T) -> Result<(usize, Option<T>), T> {
-        let Some(index) = take_slot(&mut self.free, &mut self.deferred) else {
+        let Some(index) = self.free.take(&mut self.deferred) else {
             return Err(value);
         };
         let cell = nth_mut(&mut self.cells, index);

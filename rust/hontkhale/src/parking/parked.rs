@@ -21,10 +21,7 @@ impl Until for u64 {
     }
 
     fn lasts_until(&self, next_wake: Option<u64>) -> bool {
-        match next_wake {
-            Some(wake) => *self <= wake,
-            None => false,
-        }
+        matches!(next_wake, Some(wake) if *self <= wake)
     }
 
     fn ends_by(&self, tick: u64) -> bool {
@@ -46,10 +43,7 @@ impl Until for Option<u64> {
     }
 
     fn ends_by(&self, tick: u64) -> bool {
-        match self {
-            Some(next) => *next <= tick,
-            None => false,
-        }
+        matches!(self, Some(next) if *next <= tick)
     }
 }
 

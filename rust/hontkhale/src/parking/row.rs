@@ -14,12 +14,29 @@
 //! is a user's code: it may call the queue, and it may panic. So it runs while the lock is free, and where it panics the
 //! shard is whole.
 
+use crate::core::{CoreConfig, CoreError, DelayCore};
 use crate::index::nth;
 use crate::locks::{Mutex, MutexGuard};
 use crate::memory::{room_for, AllocError};
 use crate::parking::parked::{Leaver, Until};
-use crate::parking::waiting::Waiting;
+use crate::words::{locked_shards, Keeper};
 use alloc::vec::Vec;
+use core::hint::spin_loop;
+use core::sync::atomic::{AtomicU64, Ordering};
+
+// How often a poller looks whether someone waits still before it goes on.
+const LOOKS: u32 = 1_000;
+
+// How often who finds a lock held tries it before it sleeps until the lock is free. A thread that sleeps is woken in
+// far more time than a piece takes.
+const TRIES: u32 = 32;
+
+// How long who finds a lock held pauses before its first try, and before any: each pause is twice the one before. Each
+// try takes the lock's cache line from the thread that holds the lock, and that thread is slower for it. So the tries
+// get rarer, the longer the lock is held.
+const FIRST_PAUSE: u32 = 4;
+
+const LONGEST_PAUSE: u32 = 256;
 
 /// What a call asks of a shard behind its lock.
 pub trait Shard {
@@ -43,6 +60,82 @@ pub trait Shard {
 
     /// Ends the dropping before its time, as `Attended::end_dropping`.
     fn end_dropping(&mut self, is_mine: &mut bool);
+}
+
+/// How many threads wait for the lock of a shard. No contract speaks of the number: whoever reads a wrong one waits a
+/// little longer, or a little less.
+///
+/// It stands in cache lines of its own, so whoever looks at it takes none from who works under the lock.
+#[derive(Debug)]
+pub struct Waiting {
+    threads: AtomicU64,
+    _room: [u64; 15],
+}
+
+impl Waiting {
+    fn nobody() -> Waiting {
+        Waiting {
+            threads: AtomicU64::new(0),
+            _room: [0; 15],
+        }
+    }
+
+    /// Takes a lock. Who finds it held is counted until it has it.
+    #[inline(always)]
+    pub fn taken<'q, S>(&self, lock: &'q Mutex<S>) -> MutexGuard<'q, S> {
+        match lock.try_lock() {
+            Some(guard) => guard,
+            None => self.waited_for(lock),
+        }
+    }
+
+    #[cold]
+    fn waited_for<'q, S>(&self, lock: &'q Mutex<S>) -> MutexGuard<'q, S> {
+        self.threads.fetch_add(1, Ordering::SeqCst);
+        let guard = match tried(lock) {
+            Some(guard) => guard,
+            None => lock.lock(),
+        };
+        self.threads.fetch_sub(1, Ordering::SeqCst);
+        guard
+    }
+
+    /// Looks for a bounded while until nobody waits.
+    pub fn give_way(&self) {
+        for _ in 0..LOOKS {
+            if self.threads.load(Ordering::SeqCst) == 0 {
+                return;
+            }
+            spin_loop();
+        }
+    }
+}
+
+// The lock, where it gets free within a bounded while.
+fn tried<S>(lock: &Mutex<S>) -> Option<MutexGuard<'_, S>> {
+    let mut pause = FIRST_PAUSE;
+    for _ in 0..TRIES {
+        for _ in 0..pause {
+            spin_loop();
+        }
+        if let Some(guard) = lock.try_lock() {
+            return Some(guard);
+        }
+        pause = pause.saturating_mul(2).min(LONGEST_PAUSE);
+    }
+    None
+}
+
+/// A number for each of so many shards, of whose locks nobody waits for one.
+///
+/// # Errors
+/// AllocError where memory is refused.
+pub fn waiting_row(shards: usize) -> Result<Vec<Waiting>, AllocError> {
+    let mut row = room_for(shards)?;
+    for _shard in 0..shards {
+        row.push(Waiting::nobody());
+    }
+    Ok(row)
 }
 
 /// Shards behind locks. To a contract it is how many.
@@ -80,6 +173,32 @@ impl<S> Row<S> {
     /// An empty row with room for one of each shard's.
     pub fn room_for_each<X>(&self) -> Result<Vec<X>, AllocError> {
         room_for(self.shards.len())
+    }
+}
+
+impl<S> Row<S> {
+    /// A row of so many shards, made of queues with nothing in them, of which each has its place for its number.
+    ///
+    /// # Errors
+    /// `NoMemory` if memory is refused.
+    pub fn of_queues<T>(shards: usize, capacity: usize, last_stamp: u32) -> Result<Row<S>, CoreError>
+    where
+        S: From<DelayCore<T, Keeper>>,
+    {
+        // requires shards < 2 ^ 32
+        // requires IsConfig capacity last_stamp capacity
+        let config = CoreConfig {
+            shard: 0,
+            capacity,
+            last_stamp,
+        };
+        let Ok(waiting) = waiting_row(shards) else {
+            return Err(CoreError::NoMemory);
+        };
+        match locked_shards(shards as u32, config) {
+            Ok(shards) => Ok(Row { shards, waiting }),
+            Err(_) => Err(CoreError::NoMemory),
+        }
     }
 }
 

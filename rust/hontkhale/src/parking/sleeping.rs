@@ -1,10 +1,36 @@
-//! How a task that is polled waits in a shard.
+//! How a task that is polled waits in a shard: how it asks to be woken, and what it is given.
 
 use crate::core::{CoreError, Expired, Piece, Turn};
-use crate::parking::fault::StreamFault;
 use crate::parking::parked::{Parked, Until};
 use crate::parking::row::Shard;
-use core::task::{Poll, Waker};
+use core::fmt;
+use core::task::{Context, Poll, Waker};
+
+/// Why a stream gives no entry.
+#[derive(Clone, Copy, Debug, PartialEq, Eq)]
+#[non_exhaustive]
+pub enum StreamFault {
+    /// The tick of its source is beyond the last tick. A stream of a `SharedDelayQueue` has ended for good, and one of
+    /// a `LastingQueue` goes on.
+    TickTooLarge {
+        /// The last tick.
+        limit: u64,
+    },
+    /// Memory for the waker was refused. Nothing is parked, and the stream goes on.
+    NoMemory,
+}
+
+impl fmt::Display for StreamFault {
+    fn fmt(&self, f: &mut fmt::Formatter<'_>) -> fmt::Result {
+        match self {
+            StreamFault::TickTooLarge { limit } => write!(f, "the tick is beyond the last tick, {limit}"),
+            StreamFault::NoMemory => f.write_str("out of memory"),
+        }
+    }
+}
+
+#[cfg(feature = "std")]
+impl std::error::Error for StreamFault {}
 
 /// What a poll of a stream gives.
 pub type Polled<T> = Poll<Option<Result<Expired<T>, StreamFault>>>;
@@ -25,6 +51,21 @@ pub trait Sleeps: Shard {
 
     /// Polls its queue at a tick where none is parked: whole, or by at most `most` steps.
     fn poll_piece(&mut self, tick: u64, most: Option<u32>) -> Result<Piece<Self::Value>, CoreError>;
+}
+
+/// Registers with the context, and answers the waker of its task; none where none can be made for want of memory, and
+/// then the task has asked for another poll. The name stands for the shard, as a source that fires where it wakes its
+/// poller.
+pub fn register(cx: &mut Context<'_>) -> Option<Waker> {
+    Some(cx.waker().clone())
+}
+
+/// Lets the waker go that a registration left and that nobody parked, and doesn't wake its task. It is the user's: the
+/// shard's lock is to be free.
+pub fn forget(slot: Option<Waker>) {
+    if let Some(waker) = slot {
+        drop(waker);
+    }
 }
 
 /// Parks a poller with the waker that a registration left. Refused as NoMemory where it left none; the shard stays as

@@ -5,11 +5,9 @@
 //! sleeps until the next wake changes. A shard parks one poller, so a second stream on it puts the first to sleep.
 
 use crate::locks::MutexGuard;
-use crate::parking::fault::StreamFault;
 use crate::parking::parked::{let_sleep, Parked};
-use crate::parking::registering::{forget, register};
 use crate::parking::row::{Row, Shard};
-use crate::parking::sleeping::{turn, NextOf, Polled, Sleeps, ValueOf};
+use crate::parking::sleeping::{forget, register, turn, NextOf, Polled, Sleeps, StreamFault, ValueOf};
 use crate::parking::source::TickSource;
 use core::num::NonZeroU32;
 use core::task::{Context, Poll, Waker};
@@ -135,16 +133,7 @@ fn dropped_behind<T>(answer: &Polled<T>, aside: usize) -> usize {
 
 // Whether a stream has ended for good after this answer, where a refused tick ends it or doesn't.
 fn ends_by<T>(ends: bool, answer: &Polled<T>) -> bool {
-    let Poll::Ready(Some(item)) = answer else {
-        return false;
-    };
-    let Err(fault) = item else {
-        return false;
-    };
-    match fault {
-        StreamFault::TickTooLarge { limit: _ } => ends,
-        StreamFault::NoMemory => false,
-    }
+    ends && matches!(answer, Poll::Ready(Some(Err(StreamFault::TickTooLarge { .. }))))
 }
 
 // What a poll does under its shard's lock, for a task that left its waker. Who was parked there before goes out with

@@ -2,9 +2,10 @@
 
 use crate::memory::AllocError;
 use crate::wheels::beside::Beside;
-use crate::wheels::cascade::scatter;
-use crate::wheels::maps::Maps;
-use crate::wheels::row::{append, detach, detach_first, hang, lone_rows, once_near, row_at, Row};
+use crate::wheels::homes::{clear_bit, list_from, set_bit, Maps};
+use crate::wheels::row::{
+    append, detach, detach_first, hang, lone_rows, once_near, put_last, row_at, set_moves, take_off, Row,
+};
 use alloc::vec::Vec;
 
 /// Which of the lists each index stands in, if any.
@@ -46,6 +47,30 @@ fn earlier(rows: &[Row], opened: Option<usize>, since: u64, one: usize, other: u
     } else {
         one
     }
+}
+
+// Places each index of a list again by the new tick, and gives how many of them aren't due yet. Meanwhile the list's
+// bit stays, and what waits in it is linked only forward.
+fn scatter(rows: &mut [Row], capacity: usize, maps: &mut Maps, list: usize, tick: u64) -> u64 {
+    // requires AreCircles capacity rows.old
+    // requires list < LISTS
+    // requires IsOccupied maps.old (entry_homes capacity rows.old)
+    // requires (i : ℕ) → StandsIn (entry_homes capacity rows.old) list i → CanGo tick list (slice_index (entry_filed capacity rows.old) i) (slice_index (entry_moves capacity rows.old) i)
+    let mut made = 0;
+    let mut index = take_off(rows, capacity, list);
+    while index < capacity {
+        let row = row_at(rows, index);
+        let to = list_from(list, tick, row.filed);
+        let after = put_last(rows, capacity, list, index, to);
+        set_bit(maps, to);
+        if row.filed != tick {
+            set_moves(rows, index, row.moves + 1);
+            made += 1;
+        }
+        index = after;
+    }
+    clear_bit(maps, list);
+    made
 }
 
 impl Circles {
@@ -141,7 +166,7 @@ impl Circles {
     pub fn link(&mut self, index: usize, list: usize, filed: u64) {
         // requires IsLoose self.old.homes index
         // requires TakesMore self.old.opened list
-        append(&mut self.rows, self.capacity + list, index, list, filed);
+        append(&mut self.rows, self.capacity + list, index, list, filed, 0);
     }
 
     /// The number, once the rows were read that an unlink of the index writes.

@@ -5,7 +5,7 @@ use crate::memory::AllocError;
 use crate::ticks::{LEVELS, SLOTS};
 use crate::wheels::beside::Beside;
 use crate::wheels::circles::Circles;
-use crate::wheels::maps::{clear_bit, first_list, set_bit, Maps};
+use crate::wheels::homes::{clear_bit, first_list, set_bit, Maps};
 
 // The rows of so many indexes, and what lies beside them, mostly are in a processor's own cache: to read them ahead
 // would cost more than it saves.

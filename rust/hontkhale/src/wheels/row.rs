@@ -35,15 +35,6 @@ fn set_prev(rows: &mut [Row], at: usize, prev: u32) {
     nth_mut(rows, at).prev = prev;
 }
 
-// Writes a number's links and its home.
-fn set_links(rows: &mut [Row], at: usize, next: u32, prev: u32, home: u16) {
-    // requires at < length rows.old
-    let row = nth_mut(rows, at);
-    row.next = next;
-    row.prev = prev;
-    row.home = home;
-}
-
 // Writes a number's home.
 fn set_home(rows: &mut [Row], at: usize, home: u16) {
     // requires at < length rows.old
@@ -70,28 +61,23 @@ pub fn row_at(rows: &[Row], at: usize) -> Row {
     *nth(rows, at)
 }
 
-// Writes an entry as the last of a list, behind what its head follows.
-fn write_last(rows: &mut [Row], head: usize, index: usize, list: usize) {
+/// Writes an entry as the last of a list, filed at a tick, after so many moves.
+pub fn append(rows: &mut [Row], head: usize, index: usize, list: usize, filed: u64, moves: u8) {
     // requires list < LISTS
     // requires length rows.old ≤ CAPACITY_LIMIT + LISTS
     // requires head < length rows.old
     // requires index < length rows.old
     // requires slice_index (prevs rows.old) head < length rows.old
-    let last = row_at(rows, head).prev;
-    set_links(rows, index, head as u32, last, list as u16 + 1);
-    set_next(rows, last as usize, index as u32);
-    set_prev(rows, head, index as u32);
-}
-
-/// Puts a loose entry at the end of a list, filed at a tick.
-pub fn append(rows: &mut [Row], head: usize, index: usize, list: usize, filed: u64) {
-    // requires list < LISTS
-    // requires length rows.old ≤ CAPACITY_LIMIT + LISTS
-    // requires head < length rows.old
-    // requires index < length rows.old
-    // requires slice_index (prevs rows.old) head < length rows.old
-    write_last(rows, head, index, list);
-    set_filed(rows, index, filed);
+    let last = nth(rows, head).prev;
+    *nth_mut(rows, index) = Row {
+        filed,
+        next: head as u32,
+        prev: last,
+        home: list as u16 + 1,
+        moves,
+    };
+    nth_mut(rows, last as usize).next = index as u32;
+    nth_mut(rows, head).prev = index as u32;
 }
 
 /// Takes an entry out of its list.
@@ -166,9 +152,9 @@ pub fn put_last(rows: &mut [Row], capacity: usize, _list: usize, index: usize, t
     // requires list < LISTS
     // requires to < LISTS
     // requires to ≢ list
-    let after = row_at(rows, index).next as usize;
-    write_last(rows, capacity + to, index, to);
-    after
+    let row = row_at(rows, index);
+    append(rows, capacity + to, index, to, row.filed, row.moves);
+    row.next as usize
 }
 
 /// The rows of entries and heads that stand alone.

@@ -1,12 +1,11 @@
 //! Named shards, each behind a lock of its own, and the calls by name of their callers.
 
-use crate::core::{CallError, CoreConfig, CoreError, Removed, Turn};
+use crate::core::{CallError, CoreError, Removed, Turn};
 use crate::locks::MutexGuard;
-use crate::parking::{unlock, waiting_row, Row, Shard};
+use crate::parking::{unlock, Row, Shard};
 use crate::shards::by::{NamedCaller, NamedShard, Rooms};
 use crate::shards::errors::{QueueConfig, QueueError};
 use crate::ticks::{EntryId, Key};
-use crate::words::locked_shards;
 
 impl<T, J: Rooms> Shard for NamedShard<T, J> {
     type Value = T;
@@ -52,20 +51,9 @@ impl<T, J: Rooms> NamedQueue<T, J> {
         let Ok(()) = config.check() else {
             return Err(QueueError::Core(CoreError::BadConfig));
         };
-        let core = CoreConfig {
-            shard: 0,
-            capacity: config.capacity,
-            last_stamp: config.last_stamp,
-        };
-        let Ok(waiting) = waiting_row(config.shards) else {
-            return Err(QueueError::Core(CoreError::NoMemory));
-        };
-        match locked_shards(config.shards as u32, core) {
-            Ok(shards) => Ok(NamedQueue {
-                row: Row::new(shards, waiting),
-            }),
-            Err(error) => Err(QueueError::Core(error)),
-        }
+        Ok(NamedQueue {
+            row: Row::of_queues(config.shards, config.capacity, config.last_stamp)?,
+        })
     }
 
     /// How many shards there are.

@@ -1,4 +1,3 @@
-use Rattle.std.proofs.Common.{◌≡◌}
 use Rattle.dq_core.proofs.queue.DelayCore.poll.Goals as goal
 
 pub returns : goal.returns
