@@ -5,6 +5,7 @@ pub mod Growing
 pub mod Handles
 pub mod Keeping
 pub mod Many
+pub mod Moving
 pub mod Numbered
 pub mod Parking
 pub mod Polling

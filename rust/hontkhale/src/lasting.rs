@@ -16,6 +16,7 @@ mod errors;
 mod growing;
 mod handle;
 mod keeping;
+mod moving;
 mod names;
 mod numbered;
 mod opening;
@@ -31,6 +32,7 @@ pub use errors::{HandleError, HandleRenewError, LastingError, OpenError, ReopenE
 pub(crate) use growing::{fresh_queue, Anew};
 pub use handle::LastingHandle;
 pub use keeping::Kept;
+pub(crate) use moving::{move_entry, move_within, Moved, NextDeadline};
 pub(crate) use numbered::NumberedCaller;
 pub use poller::ParkedPoller;
 pub use queue::LastingQueue;

@@ -5,6 +5,7 @@ use crate::delay_queue::dropping::{Dropping, LetGo};
 use crate::delay_queue::key::Places;
 use crate::delay_queue::waking::NEVER;
 use crate::lasting::{fresh_queue, Anew, LastingConfig, LastingQueue, LastingShard, NumberedCaller};
+use crate::lasting::{move_entry, move_within, Moved, NextDeadline};
 use crate::locks::MutexGuard;
 use crate::memory::room_for;
 use crate::ticks::{EntryId, Key};
@@ -378,12 +379,41 @@ impl<T> Locked<'_, T> {
         self.shard.takes && self.core().slots.free_count > 0
     }
 
+    /// Whether it takes entries, and drops no value then.
+    pub fn takes_clean(&self) -> bool {
+        self.shard.takes && self.core().aside() == 0
+    }
+
     /// Whether it takes an entry of its own again once that is removed, and drops no value then. The slot is free for it unless
     /// it has had its last stamp.
     pub fn takes_again(&self, entry: &EntryId) -> bool {
-        let core = self.core();
-        let is_free = || self.shard.takes && core.slots.stamp(entry.index() as usize) < core.last_stamp();
-        core.aside() == 0 && (self.has_room() || is_free())
+        let slots = &self.core().slots;
+        self.takes_clean() && (slots.free_count > 0 || slots.stamp(entry.index() as usize) < self.core().last_stamp())
+    }
+
+    /// Moves an entry of its own to a slot that has a stamp, where it takes it again.
+    pub fn move_within(&mut self, entry: &EntryId, next: NextDeadline) -> Result<Moved<T>, CoreError> {
+        let (moved, _none) = move_within(self.core_mut(), entry, next);
+        self.noted(moved)
+    }
+
+    /// Moves an entry to another shard, which takes entries and in which no value is set aside.
+    pub fn move_to(
+        &mut self,
+        entry: &EntryId,
+        next: NextDeadline,
+        other: &mut Locked<'_, T>,
+    ) -> Result<Moved<T>, CoreError> {
+        let (moved, _none) = move_entry(self.core_mut(), entry, next, other.core_mut());
+        other.noted(moved)
+    }
+
+    /// Notes when an entry is due that came in so.
+    fn noted(&mut self, moved: Result<Moved<T>, CoreError>) -> Result<Moved<T>, CoreError> {
+        if let Ok(Moved::To { deadline, .. }) = moved {
+            self.lower_hint(deadline);
+        }
+        moved
     }
 
     /// How many entries of the shard were cancelled and freed.
@@ -431,5 +461,92 @@ impl<T> Drop for Left<'_, T> {
             self.segment.let_go.has_aside.store(true, SeqCst);
             drop(self.segment.enter(self.place));
         }
+    }
+}
+
+#[cfg(test)]
+mod tests {
+    use super::*;
+    use crate::core::CoreError::{Full, TooFar, WasCancelled};
+    use crate::ticks::LAST_TICK;
+    use NextDeadline::{At, Same, SameIfAfter};
+
+    fn segment(capacity: usize) -> Segment<&'static str> {
+        let config = LastingConfig {
+            shards: 2,
+            capacity,
+            last_stamp: 3,
+        };
+        Segment::new(config, &Arc::new(LetGo::new())).expect("memory")
+    }
+
+    /// What a move comes to, of an entry that was extended from 10 to 50, to a shard of so many slots with an entry of its own.
+    fn moved(capacity: usize, next: NextDeadline, is_cancelled: bool) -> Result<Option<u64>, CoreError> {
+        let (small, other) = (segment(1), segment(capacity));
+        let (mut from, mut to) = (small.enter(0), other.enter(1));
+        let key = from.insert("moved", 10).expect("a free slot");
+        to.insert("there", 70).expect("a free slot");
+        let mut caller = from.issue().expect("memory");
+        assert_eq!(caller.extend(&key, 50), Ok(50));
+        if is_cancelled {
+            assert_eq!(caller.cancel(&key), Ok(50));
+        }
+        let moved = from.move_to(&key.entry(), next, &mut to);
+        let left = from.core_mut().deadline(&key.entry());
+        match moved {
+            Ok(Moved::To { key: present, deadline }) => {
+                assert_eq!(
+                    (left, from.core().len(), to.core().len()),
+                    (Err(CoreError::Missing), 0, 2)
+                );
+                let removed = to.core_mut().remove(&present.entry()).expect("a live entry");
+                assert_eq!((removed.deadline, removed.value), (deadline, "moved"));
+                assert!(to.row.hint() <= deadline);
+                Ok(Some(deadline))
+            }
+            Ok(Moved::Out(removed)) => {
+                assert_eq!((left, to.core().len()), (Err(CoreError::Missing), 1));
+                assert_eq!((removed.deadline, removed.value), (50, "moved"));
+                Ok(None)
+            }
+            Err(refused) => {
+                assert_eq!((from.core().len(), to.core().len()), (1, 1));
+                assert_eq!(left, if is_cancelled { Err(WasCancelled) } else { Ok(50) });
+                Err(refused)
+            }
+        }
+    }
+
+    #[test]
+    fn a_move_takes_the_deadline_in_force_and_a_refused_one_takes_nothing() {
+        let full = Full { linked: 1, worn: 0 };
+        assert_eq!(moved(2, Same, false), Ok(Some(50)));
+        assert_eq!(moved(3, At(20), false), Ok(Some(20)));
+        assert_eq!(moved(3, SameIfAfter(49), false), Ok(Some(50)));
+        assert_eq!(moved(2, SameIfAfter(50), false), Ok(None));
+        assert_eq!(moved(1, Same, false), Err(full));
+        assert_eq!(moved(1, Same, true), Err(full));
+        assert_eq!(moved(2, Same, true), Err(WasCancelled));
+        assert_eq!(moved(2, At(LAST_TICK + 1), false), Err(TooFar { limit: LAST_TICK }));
+    }
+
+    #[test]
+    fn an_entry_moves_within_its_shard_until_no_stamp_is_left() {
+        let one = segment(1);
+        let mut shard = one.enter(0);
+        let mut key = shard.insert("moved", 10).expect("a free slot");
+        for stamp in 2..=3 {
+            assert!(shard.takes_again(&key.entry()));
+            match shard.move_within(&key.entry(), Same) {
+                Ok(Moved::To {
+                    key: present,
+                    deadline: 10,
+                }) => key = present,
+                moved => panic!("{moved:?}"),
+            }
+            assert_eq!((key.stamp(), shard.core().len()), (stamp, 1));
+        }
+        assert!(!shard.takes_again(&key.entry()));
+        assert!(matches!(shard.move_within(&key.entry(), Same), Ok(Moved::Out(removed)) if removed.value == "moved"));
     }
 }

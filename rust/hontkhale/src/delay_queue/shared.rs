@@ -14,7 +14,7 @@ use crate::delay_queue::moves::Moves;
 use crate::delay_queue::segment::{Locked, Row, Segment};
 use crate::delay_queue::shared::sweep::Sweep;
 use crate::delay_queue::waking::NEVER;
-use crate::lasting::{Kept, LastingConfig, NumberedCaller};
+use crate::lasting::{Kept, LastingConfig, Moved, NextDeadline, NumberedCaller};
 use crate::memory::room_for;
 use crate::ticks::LAST_TICK;
 use crate::ticks::{self, EntryId, CAPACITY_LIMIT};
@@ -528,7 +528,7 @@ impl<T> Shared<T> {
             let grown = self.grown.load(SeqCst);
             let mut moves = self.moves();
             let place = moves.place(key).unwrap_or(*key);
-            let moved = self.move_entry(&mut moves, &place, |_| Some(tick));
+            let moved = self.move_entry(&mut moves, &place, NextDeadline::At(tick));
             drop(moves);
             match moved {
                 Ok(_) => return Ok(*key),
@@ -597,13 +597,6 @@ impl<T> Shared<T> {
     }
 }
 
-/// What became of an entry that was taken out of its slot.
-enum Moved<T> {
-    /// It waits there until a tick.
-    To(Key, u64),
-    Out(Removed<T>),
-}
-
 /// Why an entry isn't moved.
 enum Unmoved {
     Ended,
@@ -611,15 +604,9 @@ enum Unmoved {
 }
 
 impl<T> Shared<T> {
-    /// Moves a live entry to a slot that has stamps, and gives it the deadline that `until` makes of its own; or takes it out,
-    /// where that is none. Nobody else holds two locks of shards, and whoever holds one waits for nothing, so the order of the
-    /// two is free.
-    fn move_entry(
-        &self,
-        moves: &mut Moves,
-        place: &Key,
-        until: impl FnOnce(u64) -> Option<u64>,
-    ) -> Result<Moved<T>, Unmoved> {
+    /// Moves a live entry to a slot that has stamps, or takes it out. Nobody else holds two locks of shards, and whoever holds
+    /// one waits for nothing, so the order of the two is free.
+    fn move_entry(&self, moves: &mut Moves, place: &Key, next: NextDeadline) -> Result<Moved<T>, Unmoved> {
         let segment = self.segment(place.segment()).ok_or(Unmoved::Ended)?;
         let at = segment.place_of(place.number());
         let mut source = segment.enter(at);
@@ -627,32 +614,32 @@ impl<T> Shared<T> {
         let key = moves.key(place);
         // From here on whoever doesn't find the entry at its place asks for where it was moved.
         self.moved.store(moves.len() + 1, SeqCst);
-        let moved = self.put_elsewhere(&mut source, (place.segment(), at), &place.entry(), until);
+        let moved = self.put_elsewhere(&mut source, (place.segment(), at), &place.entry(), next);
         match &moved {
-            Ok(Moved::To(present, _)) => {
-                moves.note(key, *present);
+            Ok((to, Moved::To { key: present, .. })) => {
+                moves.note(key, self.key(*to, present));
                 self.moves_made.fetch_add(1, SeqCst);
             }
-            Ok(Moved::Out(_)) => drop(moves.end(place)),
+            Ok((_, Moved::Out(_))) => drop(moves.end(place)),
             Err(_) => {}
         }
         drop(source);
         self.moved.store(moves.len(), SeqCst);
-        moved
+        moved.map(|(_, moved)| moved)
     }
 
-    /// Takes an entry out of a shard whose lock is held, and puts it in anew: there, or in the first shard that has room. No
-    /// value is dropped meanwhile: a shard where some are set aside isn't taken.
+    /// Moves an entry of a shard whose lock is held: there, or to the first shard that has room, whose segment is told. No value
+    /// is dropped meanwhile: a shard where some are set aside isn't taken.
     fn put_elsewhere(
         &self,
         source: &mut Locked<'_, T>,
         from: (usize, usize),
         entry: &EntryId,
-        until: impl FnOnce(u64) -> Option<u64>,
-    ) -> Result<Moved<T>, Unmoved> {
+        next: NextDeadline,
+    ) -> Result<(usize, Moved<T>), Unmoved> {
         if source.takes_again(entry) {
-            let removed = source.core_mut().remove(entry).map_err(|_| Unmoved::Ended)?;
-            return Ok(self.put(source, from.0, removed, until));
+            let moved = source.move_within(entry, next);
+            return moved.map(|moved| (from.0, moved)).map_err(|_| Unmoved::Ended);
         }
         for (at, segment) in self.segments() {
             for place in 0..segment.rows.len() {
@@ -660,30 +647,16 @@ impl<T> Shared<T> {
                     continue;
                 }
                 let mut other = segment.enter(place);
-                if other.has_room() && other.core().aside() == 0 {
-                    let removed = source.core_mut().remove(entry).map_err(|_| Unmoved::Ended)?;
-                    return Ok(self.put(&mut other, at, removed, until));
+                if !other.takes_clean() {
+                    continue;
+                }
+                match source.move_to(entry, next, &mut other) {
+                    Err(CoreError::Full { .. }) => {}
+                    moved => return moved.map(|moved| (at, moved)).map_err(|_| Unmoved::Ended),
                 }
             }
         }
         Err(Unmoved::NoRoom)
-    }
-
-    fn put(
-        &self,
-        shard: &mut Locked<'_, T>,
-        at: usize,
-        removed: Removed<T>,
-        until: impl FnOnce(u64) -> Option<u64>,
-    ) -> Moved<T> {
-        // An extend takes no lock: the deadline that counts is the one with which the entry was taken out.
-        let Some(tick) = until(removed.deadline) else {
-            return Moved::Out(removed);
-        };
-        match shard.insert(removed.value, tick) {
-            Ok(key) => Moved::To(self.key(at, &key), tick),
-            Err(_) => unreachable!("a shard that has a free slot"),
-        }
     }
 }
 
@@ -768,11 +741,11 @@ impl<T> Shared<T> {
                     continue;
                 }
             }
-            let moved = self.move_entry(&mut moves, &self.key(at, &key), Some);
+            let moved = self.move_entry(&mut moves, &self.key(at, &key), NextDeadline::Same);
             // A task's waker is the program's code.
             drop(moves);
             match moved {
-                Ok(Moved::To(_, tick)) => self.front.ring_before(tick),
+                Ok(Moved::To { deadline, .. }) => self.front.ring_before(deadline),
                 Ok(Moved::Out(_)) | Err(Unmoved::Ended) => {}
                 Err(Unmoved::NoRoom) => return false,
             }

@@ -1,9 +1,10 @@
 //! The end of an entry by whoever comes upon it once its deadline is over.
 
-use super::{Moved, Shared, Step, Unmoved};
+use super::{Shared, Step, Unmoved};
 use crate::core::Removed;
 use crate::delay_queue::errors::KeyError;
 use crate::delay_queue::key::Key;
+use crate::lasting::{Moved, NextDeadline};
 use std::sync::atomic::Ordering::SeqCst;
 
 impl<T> Shared<T> {
@@ -29,13 +30,12 @@ impl<T> Shared<T> {
             let grown = self.grown.load(SeqCst);
             let mut moves = self.moves();
             let place = moves.place(key).unwrap_or(*key);
-            let until = |deadline| Some(deadline).filter(|deadline| *deadline > now);
-            let moved = self.move_entry(&mut moves, &place, until);
+            let moved = self.move_entry(&mut moves, &place, NextDeadline::SameIfAfter(now));
             drop(moves);
             match moved {
                 Ok(Moved::Out(removed)) => return Ok(Some(self.ended(&place, removed))),
-                Ok(Moved::To(_, tick)) => {
-                    self.front.ring_before(tick);
+                Ok(Moved::To { deadline, .. }) => {
+                    self.front.ring_before(deadline);
                     return Ok(None);
                 }
                 Err(Unmoved::Ended) => return Err(KeyError::Ended),
