@@ -136,18 +136,28 @@ impl<T> Segment<T> {
                 self.drop_aside(place);
                 continue;
             }
-            if !shard.takes {
-                return Err(value);
-            }
+            let takes = shard.takes;
             let core = &mut shard.attended.core;
-            let key = core.insert_deferring(value, tick).0.map_err(|(_, value)| value)?;
+            let inserted = match takes {
+                true => core.insert_deferring(value, tick).0.map_err(|(_, value)| value),
+                false => Err(value),
+            };
+            if inserted.is_err() {
+                // That it has no room is noted.
+                drop(Locked {
+                    shard,
+                    segment: self,
+                    row,
+                });
+                return inserted;
+            }
             row.lower_hint(tick);
             row.left.store(row.left() + 1, Relaxed);
             row.linked.store(core.len(), Relaxed);
             if core.slots.free_count == 0 {
                 row.has_room.store(false, SeqCst);
             }
-            return Ok(key);
+            return inserted;
         }
     }
 
@@ -198,6 +208,8 @@ impl<T> Segment<T> {
                 (0..aside).map_while(take).for_each(|value| self.let_go.push(value));
             }
         }
+        // Their slots are free from now on.
+        drop(self.enter(place));
     }
 
     /// The same in each shard.
@@ -343,18 +355,6 @@ impl<T> Locked<'_, T> {
         self.shard.issue()
     }
 
-    /// Puts an entry in where none of the values is set aside. The value comes back where there is no room.
-    #[inline(always)]
-    pub fn insert(&mut self, value: T, tick: u64) -> Result<Key, T> {
-        if !self.shard.takes {
-            return Err(value);
-        }
-        let (answer, _none) = self.core_mut().insert_deferring(value, tick);
-        let key = answer.map_err(|(_, value)| value)?;
-        self.row.lower_hint(tick);
-        Ok(key)
-    }
-
     /// What a poll comes to at a tick: as a whole where the shard has at most so many entries, or else by 256 steps.
     #[inline(always)]
     pub fn poll(&mut self, now: u64, whole: usize) -> Piece<T> {
@@ -411,7 +411,7 @@ impl<T> Locked<'_, T> {
     /// Notes when an entry is due that came in so.
     fn noted(&mut self, moved: Result<Moved<T>, CoreError>) -> Result<Moved<T>, CoreError> {
         if let Ok(Moved::To { deadline, .. }) = moved {
-            self.lower_hint(deadline);
+            self.row.lower_hint(deadline);
         }
         moved
     }
@@ -483,9 +483,9 @@ mod tests {
     /// What a move comes to, of an entry that was extended from 10 to 50, to a shard of so many slots with an entry of its own.
     fn moved(capacity: usize, next: NextDeadline, is_cancelled: bool) -> Result<Option<u64>, CoreError> {
         let (small, other) = (segment(1), segment(capacity));
+        let key = small.insert(0, "moved", 10).expect("a free slot");
+        other.insert(1, "there", 70).expect("a free slot");
         let (mut from, mut to) = (small.enter(0), other.enter(1));
-        let key = from.insert("moved", 10).expect("a free slot");
-        to.insert("there", 70).expect("a free slot");
         let mut caller = from.issue().expect("memory");
         assert_eq!(caller.extend(&key, 50), Ok(50));
         if is_cancelled {
@@ -533,8 +533,8 @@ mod tests {
     #[test]
     fn an_entry_moves_within_its_shard_until_no_stamp_is_left() {
         let one = segment(1);
+        let mut key = one.insert(0, "moved", 10).expect("a free slot");
         let mut shard = one.enter(0);
-        let mut key = shard.insert("moved", 10).expect("a free slot");
         for stamp in 2..=3 {
             assert!(shard.takes_again(&key.entry()));
             match shard.move_within(&key.entry(), Same) {

@@ -4,7 +4,7 @@ mod due;
 mod reserve;
 mod sweep;
 
-use crate::core::{CallError, CoreError, Removed};
+use crate::core::{CallError, CoreError};
 use crate::delay_queue::callers::{cancel_by_own, deadline_by, extend_by_own, look_by_own, route, tidy_own};
 use crate::delay_queue::callers::{Bound, Callers, Front, SegmentCallers, Told};
 use crate::delay_queue::dropping::{Dropping, LetGo};
