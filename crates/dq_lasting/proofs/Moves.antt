@@ -1,5 +1,5 @@
 -- What an entry keeps as it is moved.
-use Rattle.std.proofs.Common.{◌≡◌, ℕ, ◌+◌, ◌<◌, ◌≤◌, max, Bool, true, false, cond, length, set, Option, Some, None, is_some, Err, refl, sym, ap, ◌∙◌, subst, inl, inr, arith}
+use Rattle.std.proofs.Common.{◌≡◌, ℕ, ◌+◌, ◌≤◌, max, Bool, false, cond, length, set, is_some, Err, refl, ap, subst, inl, inr, arith}
 use Rattle.std.specs.List.{count_by}
 use Rattle.dq_ticks.specs.declared.TheConstants.{LAST_TICK}
 use Rattle.dq_ticks.specs.declared.keys.EntryId.{EntryId}
@@ -11,7 +11,7 @@ use Rattle.dq_core.specs.declared.slots.Held.{Held}
 use Rattle.dq_core.specs.AtTheCall.{HoldsValue, OthersStay, linked_in}
 use Rattle.dq_core.specs.Calls.{IsRemoved, IsFound, FindRefused, base_for}
 use Rattle.dq_core.specs.Core.{Core, IsLawfulCore}
-use Rattle.dq_core.specs.Slots.{is_held, is_worn, row_at, vacated_row}
+use Rattle.dq_core.specs.Slots.{is_held, row_at, vacated_row}
 use Rattle.dq_core.specs.Words.{IsInForce, live, word_at}
 use Rattle.dq_core.proofs.CallWords.{inserted_live, inserted_others}
 use Rattle.dq_core.proofs.Finds.{found_force}

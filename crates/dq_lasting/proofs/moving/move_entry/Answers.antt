@@ -1,6 +1,6 @@
-use Rattle.std.proofs.Common.{◌≡◌, ◌+◌, ◌<◌, ◌≤◌, false, length, refl, sym, ◌∙◌, rules, arith}
+use Rattle.std.proofs.Common.{refl, sym, ◌∙◌, arith}
 use Rattle.dq_core.specs.AtTheCall.{linked_in}
-use Rattle.dq_lasting.specs.Moving.{is_beyond, worn_in, HasFreeSlot}
+use Rattle.dq_lasting.specs.Moving.{HasFreeSlot}
 use Rattle.dq_lasting.proofs.Moves.{within, in_time, one_fewer, goes_on, others_there, as_many, refuses}
 use Rattle.dq_lasting.proofs.moving.move_entry.Goals as goal
 

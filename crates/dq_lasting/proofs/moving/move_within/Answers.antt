@@ -1,4 +1,4 @@
-use Rattle.std.proofs.Common.{◌≡◌, ◌+◌, false, sym, ◌∙◌}
+use Rattle.std.proofs.Common.{sym, ◌∙◌}
 use Rattle.dq_core.specs.AtTheCall.{linked_in}
 use Rattle.dq_lasting.proofs.Moves.{in_time, one_fewer, goes_on_within, as_many_within, refuses_within}
 use Rattle.dq_lasting.proofs.moving.move_within.Goals as goal
