@@ -531,7 +531,8 @@ impl<T> Shared<T> {
             let moved = self.move_entry(&mut moves, &place, NextDeadline::At(tick));
             drop(moves);
             match moved {
-                Ok(_) => return Ok(*key),
+                Ok(Moved::To { .. }) => return Ok(*key),
+                Ok(Moved::Out(_)) => unreachable!("a deadline, and a free slot"),
                 Err(Unmoved::Ended) => return Err(KeyError::Ended),
                 Err(Unmoved::NoRoom) => {
                     self.tidy();
@@ -746,7 +747,8 @@ impl<T> Shared<T> {
             drop(moves);
             match moved {
                 Ok(Moved::To { deadline, .. }) => self.front.ring_before(deadline),
-                Ok(Moved::Out(_)) | Err(Unmoved::Ended) => {}
+                Ok(Moved::Out(_)) => unreachable!("a deadline, and a free slot"),
+                Err(Unmoved::Ended) => {}
                 Err(Unmoved::NoRoom) => return false,
             }
         }
