@@ -16,9 +16,9 @@ use crate::{rounds_of, Asked, Clocks, PausedClock, Timed, TurnedWithin};
 const BARE: &str = "lasting-shards";
 /// A goal, the row in which it is timed, and its sides. In the first row each thread has entries of its own.
 const CALLS: [(&str, &str, &[&str]); 5] = [
-    ("extend", "own-extend", &[BARE, "lasting-at", "queue-at", "queue"]),
-    ("insert", "insert", &[BARE, "lasting-at", "queue-at", "queue", "queue-reserved"]),
-    ("reset", "reset", &[BARE, "lasting-at", "queue-at", "queue", "queue-reserved"]),
+    ("extend", "own-extend", &[BARE, "lasting-at", "lasting-now", "queue-at", "queue"]),
+    ("insert", "insert", &[BARE, "lasting-at", "lasting-now", "queue-at", "queue", "queue-reserved"]),
+    ("reset", "reset", &[BARE, "lasting-at", "lasting-now", "queue-at", "queue", "queue-reserved"]),
     ("remove", "remove", &[BARE, "queue-at", "queue-reserved"]),
     ("recv_many", "poll-burst", &[BARE, "lasting-at", "queue-at", "queue-reserved"]),
 ];

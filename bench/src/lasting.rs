@@ -4,7 +4,7 @@ use hontkhale::lasting::{LastingConfig, LastingHandle, LastingQueue};
 use hontkhale::owner::{Key, Turn};
 
 use crate::plan::BURST;
-use crate::product::Standing;
+use crate::product::{By, Standing};
 use crate::queue::Sharded;
 use crate::shards::{Begun, Gone};
 
@@ -83,25 +83,29 @@ impl Sharded for Lasting {
     }
 }
 
-/// The same for a server that has moments.
-pub struct ByMoments<'c> {
+/// The same for a server that has moments, or durations from now on.
+pub struct ByHand<'c> {
     queue: Lasting,
     clock: &'c Standing,
+    by: By,
 }
 
-impl<'c> ByMoments<'c> {
-    pub fn new(clock: &'c Standing, shards: usize, capacity: usize) -> ByMoments<'c> {
-        ByMoments { queue: Lasting::new(shards, capacity), clock }
+impl<'c> ByHand<'c> {
+    pub fn new(clock: &'c Standing, shards: usize, capacity: usize, by: By) -> ByHand<'c> {
+        ByHand { queue: Lasting::new(shards, capacity), clock, by }
     }
 
     /// A tick by way of its moment.
     #[inline(always)]
     fn tick(&self, tick: u64) -> u64 {
-        self.clock.by_hand(self.clock.at(tick))
+        self.clock.by_hand(match self.by {
+            By::Duration => self.clock.now() + self.clock.after(tick),
+            By::Moment => self.clock.at(tick),
+        })
     }
 }
 
-impl Sharded for ByMoments<'_> {
+impl Sharded for ByHand<'_> {
     type Key = Key;
     type Toucher = LastingHandle;
 

@@ -52,7 +52,7 @@ use hashed::HashedWheel;
 use heap::{Extending, HeapQueue};
 use indexed::IndexedHeap;
 #[cfg(feature = "rust")]
-use lasting::{ByMoments, Lasting};
+use lasting::{ByHand, Lasting};
 use lives::Life;
 use longest::Touched;
 use plan::shard_room;
@@ -170,11 +170,17 @@ fn mine_of(timed: Timed) -> &'static [&'static str] {
     let is_unchecked = cfg!(feature = "proved-bounds");
     match timed {
         Timed::Shards(..) | Timed::Lives(..) if is_unchecked => {
-            &["queue", "queue-at", "queue-reserved", "lasting-shards", "lasting-at", "rust-shards"]
+            &["queue", "queue-at", "queue-reserved", "lasting-shards", "lasting-at", "lasting-now", "rust-shards"]
         }
-        Timed::Shards(..) | Timed::Lives(..) => {
-            &["queue", "queue-at", "queue-reserved", "lasting-shards", "lasting-at", "rust-checked-shards"]
-        }
+        Timed::Shards(..) | Timed::Lives(..) => &[
+            "queue",
+            "queue-at",
+            "queue-reserved",
+            "lasting-shards",
+            "lasting-at",
+            "lasting-now",
+            "rust-checked-shards",
+        ],
         _ if is_unchecked => &["rust"],
         Timed::One(Row::Callers) => &["rust-checked", "adapter-handle", "queue"],
         _ => &["rust-checked", "adapter", "adapter-handle", "queue"],
@@ -335,6 +341,11 @@ fn rounds_of_shards<'a>(asked: &'a Asked, peer: &str, clocks: &'a Clocks<'a>) ->
         let queue = move |shards| Product::new(clocks.standing, shards, asked.threads, by, of_reserved * shards);
         sharded(asked, queue, clocks.standing)
     };
+    #[cfg(feature = "rust")]
+    let by_hand = |by| {
+        let queue = move |shards| ByHand::new(clocks.standing, shards, room, by);
+        sharded(asked, queue, clocks.standing)
+    };
     match peer {
         "delay-queue-locked" => locked_shards(asked, || TokioQueue::new(clock, room), clock),
         "heap-best-locked" => locked_shards(asked, || BestHeap::new(room), &NoClock),
@@ -345,7 +356,9 @@ fn rounds_of_shards<'a>(asked: &'a Asked, peer: &str, clocks: &'a Clocks<'a>) ->
         #[cfg(feature = "rust")]
         "lasting-shards" => sharded(asked, |shards| Lasting::new(shards, room), &NoClock),
         #[cfg(feature = "rust")]
-        "lasting-at" => sharded(asked, |shards| ByMoments::new(clocks.standing, shards, room), clocks.standing),
+        "lasting-at" => by_hand(By::Moment),
+        #[cfg(feature = "rust")]
+        "lasting-now" => by_hand(By::Duration),
         #[cfg(feature = "rust")]
         "queue" => product(By::Duration, 0),
         #[cfg(feature = "rust")]

@@ -33,6 +33,18 @@ impl Standing {
         self.start + Duration::from_millis(tick)
     }
 
+    #[inline(always)]
+    pub fn now(&self) -> Instant {
+        self.clock.now()
+    }
+
+    /// How long it is until a tick, beside a reading of the system's clock.
+    #[inline(always)]
+    pub fn after(&self, tick: u64) -> Duration {
+        black_box(Instant::now());
+        Duration::from_millis(tick.saturating_sub(self.tick.load(Ordering::Relaxed)))
+    }
+
     /// The present tick, beside a reading of the system's clock.
     #[inline(always)]
     pub fn tick_now(&self) -> u64 {
@@ -102,15 +114,9 @@ impl<'c> Product<'c> {
     }
 
     #[inline(always)]
-    fn after(&self, deadline: u64) -> Duration {
-        black_box(Instant::now());
-        Duration::from_millis(deadline.saturating_sub(self.clock.tick.load(Ordering::Relaxed)))
-    }
-
-    #[inline(always)]
     fn put(&self, value: u64, deadline: u64) -> Key {
         let put = match self.by {
-            By::Duration => self.queue.insert(value, self.after(deadline)),
+            By::Duration => self.queue.insert(value, self.clock.after(deadline)),
             By::Moment => self.queue.insert_at(value, self.clock.at(deadline)),
         };
         put.map_err(|refused| refused.kind()).expect("memory")
@@ -119,7 +125,7 @@ impl<'c> Product<'c> {
     #[inline(always)]
     fn raise(&self, key: Key, deadline: u64) -> u64 {
         let in_force = match self.by {
-            By::Duration => self.queue.extend(&key, self.after(deadline)),
+            By::Duration => self.queue.extend(&key, self.clock.after(deadline)),
             By::Moment => {
                 let when = self.clock.at(deadline);
                 let in_force = self.queue.extend_at(&key, when).expect("the entry is live");
@@ -142,7 +148,7 @@ impl<'c> Product<'c> {
     #[inline(always)]
     fn set(&self, key: Key, deadline: u64) -> Key {
         let set = match self.by {
-            By::Duration => self.queue.reset(&key, self.after(deadline)),
+            By::Duration => self.queue.reset(&key, self.clock.after(deadline)),
             By::Moment => self.queue.reset_at(&key, self.clock.at(deadline)),
         };
         set.expect("the entry is live")

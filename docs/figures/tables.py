@@ -97,7 +97,7 @@ def product_goals():
         return f"{it['words']}{f', {side}' if side and ours != 'unpark' else ''}, beside {PLAN['goal_sides'][beside]}"
 
     rows = [[told(it, ours, beside), f"{it['most']} times", *(ratios(it["goal"], ours, beside, threads) for threads in many)]
-            for it in PLAN["goals"] for beside in it["beside"] for ours in it["ours"]]
+            for it in PLAN["goals"] for ours, beside in it["pairs"]]
     memory = {side: value for (goal, side, *_), value in taken.items() if goal == "memory"}
     rows.append(["a million live entries, beside the value", "64 bytes", f"{memory['entry']:.0f} bytes", "", ""])
     rows.append(["the same once they came out", "10%", f"{memory['stays']:.1f}%", "", ""])
