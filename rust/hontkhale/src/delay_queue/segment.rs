@@ -208,8 +208,6 @@ impl<T> Segment<T> {
                 (0..aside).map_while(take).for_each(|value| self.let_go.push(value));
             }
         }
-        // Their slots are free from now on.
-        drop(self.enter(place));
     }
 
     /// The same in each shard.
@@ -528,6 +526,15 @@ mod tests {
         assert_eq!(moved(1, Same, true), Err(full));
         assert_eq!(moved(2, Same, true), Err(WasCancelled));
         assert_eq!(moved(2, At(LAST_TICK + 1), false), Err(TooFar { limit: LAST_TICK }));
+    }
+
+    #[test]
+    fn a_shard_that_refuses_an_entry_is_noted_as_full() {
+        let one = segment(1);
+        assert!(one.queue.close(0).is_ok());
+        assert!(one.rows[0].has_room());
+        assert_eq!(one.insert(0, "refused", 10), Err("refused"));
+        assert!(!one.rows[0].has_room());
     }
 
     #[test]
