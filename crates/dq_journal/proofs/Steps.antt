@@ -10,7 +10,6 @@ use Rattle.dq_journal.specs.declared.views.View.{View}
 use Rattle.dq_journal.specs.Views.{nobody, first_witness, with_one_more, new_witness, left, lent, taken}
 use Rattle.dq_journal.specs.History.{entry, entries_by, Continues}
 use Rattle.dq_journal.specs.Rule.{Fits, AreApart, HasOne, HasOneHistory}
-use Rattle.dq_journal.specs.Once.{EntersOnce, IsTold}
 use Rattle.dq_journal.specs.Plays.{entering, IsFair, entered, learned}
 
 off : false ≡ true → ⊥
@@ -315,12 +314,3 @@ module _ {E : Type 0} where
       alone zero zero u v ej ek hu hv n = refl
       alone zero (suc k) u v ej ek hu hv n = absurd (some-ne-none v (sym ek))
       alone (suc j) k u v ej ek hu hv n = absurd (some-ne-none u (sym ej))
-
-  -- a caller's number came to the witness under the lock, which entered, and went back
-  pub once : (h v : View E) (x : Option E) → IsFair (taken h (lent v)) → IsFair (entering (taken h (lent v)) x)
-      → EntersOnce h v x (lent (entering (taken h (lent v)) x))
-  once h v x before after = (before.0.0, before.0.1, refl, refl, after.1, refl)
-
-  -- it came, looked, and went back
-  pub told : (h v : View E) → IsFair (taken h (lent v)) → IsTold h v (lent (taken h (lent v)))
-  told h v fairly = (fairly.0, refl, refl, fairly.1, refl)

@@ -13,8 +13,8 @@ use Rattle.dq_words.specs.KeeperCalls.{Accounts, AccountsFor, Returns}
 use Rattle.dq_words.specs.Keeping.{Stood, counts_of}
 use Rattle.dq_words.specs.Seats.{Sat}
 use Rattle.dq_parking.specs.declared.parked.Parked.{Parked}
-use Rattle.dq_shards.specs.declared.totals.Totals.{Totals}
-use Rattle.dq_shards.specs.declared.totals.HandlesOut.{HandlesOut}
+use Rattle.dq_shards.specs.declared.audit.Totals.{Totals}
+use Rattle.dq_shards.specs.declared.audit.HandlesOut.{HandlesOut}
 use Rattle.dq_shards.specs.Shard.{ShardView}
 use Rattle.dq_shards.specs.Changes.{with_keeper, OnNumbered}
 use Rattle.dq_shards.specs.Audits.{IsTotals, AddUp, FewInserted, IsSum, AreSums, AreTotalsOf, ShardAudits, OnePerShard, QueueAudits}

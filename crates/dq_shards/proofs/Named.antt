@@ -1,15 +1,11 @@
 -- What an entry of a call makes of a shard's history.
-use Rattle.std.proofs.Common.{◌≡◌, ℕ, List, [], ◌∷◌, Some, refl, sym, ap, ◌∙◌, subst, Result, Ok, Err}
+use Rattle.std.proofs.Common.{◌≡◌, ◌<◌, ℕ, List, ◌∷◌, Some, refl, sym, ap, ◌∙◌, subst, inl, inr}
 use Rattle.dq_journal.specs.declared.views.Entry.{Entry}
 use Rattle.dq_journal.specs.declared.views.View.{View}
 use Rattle.dq_journal.specs.History.{entry, entries_by}
-use Rattle.dq_journal.specs.Once.{EntersOnce, IsTold}
-use Rattle.dq_words.specs.declared.keeper.WordsError.{WordsError}
-use Rattle.dq_words.specs.declared.views.View.{View as WordsView}
-use Rattle.dq_words.specs.Seats.{Sat}
-use Rattle.dq_shards.specs.Changes.{ShardIssues, with_keeper}
-use Rattle.dq_shards.specs.Named.{with_issued, Follows, IsCall, IsHistory, Once, HasOneMore}
-use Rattle.dq_shards.specs.Shard.{ShardView, IsShard, keeper_of}
+use Rattle.dq_journal.specs.Once.{EntersOnce, IsTold, IsUnderLock}
+use Rattle.dq_shards.specs.Named.{Follows, IsCall, IsHistory, Once, HasOneMore}
+use Rattle.dq_shards.specs.Shard.{ShardView, IsShard}
 
 -- what stands under the name of one number
 pub one_name : {X : Type 0} (named : ℕ → X) (a b : X) (m n : ℕ) → a ≡ named m → b ≡ named n → m ≡ n → a ≡ b
@@ -40,6 +36,31 @@ module _ {T : Type 0} where
         (goes_on h v w w.log a b enters refl follows call history).1,
         enters.5,
       )
+
+  -- a call leaves the shard its number and its words
+  pub same_shard : (a b : ShardView T) → IsCall a b → (b.core.shard ≡ a.core.shard) × (b.core.words.table ≡ a.core.words.table)
+  same_shard a b (inl (v, when, r, made)) = (made.1.0.0, made.1.1)
+  same_shard a b (inr (inl (id, when, r, made))) = (made.1.0.0, made.1.1)
+  same_shard a b (inr (inr (inl (id, r, made)))) = (made.1.0.0, made.1.1)
+  same_shard a b (inr (inr (inr (tick, r, made)))) = (made.1.0.0, made.1.1)
+
+  -- after a call that was entered the words and the history are still those that the shard's number names
+  pub stays_named : {X : Type 0} (rooms : ℕ) (words history : ℕ → X) (table : ShardView T → X) (old now : X) (h v w u : View (ShardView T)) (a b : ShardView T)
+      → (a.core.shard < rooms) × (table a ≡ words a.core.shard) × (old ≡ history a.core.shard) × IsUnderLock h × Follows h.log a × IsHistory h.log
+      → IsCall a b → table b ≡ table a → EntersOnce h v (Some b) w → u.log ≡ w.log → now ≡ old → IsUnderLock u
+      → (b.core.shard < rooms) × (table b ≡ words b.core.shard) × (now ≡ history b.core.shard) × IsUnderLock u × Follows u.log b × IsHistory u.log
+  stays_named rooms words history table old now h v w u a b s call same_table enters log of under =
+      let same = sym (same_shard a b call).0 in
+      let on = goes_on h v w u.log a b enters log s.4 call s.5 in
+      let P : ℕ → Type 0 = λ n. n < rooms in
+      (subst P same s.0, same_table ∙ (s.1 ∙ ap words same), of ∙ (s.2 ∙ ap history same), under, on.0, on.1)
+
+  -- the same of a caller's view that is known by another name
+  pub once_of : (gives : ShardView T → ShardView T → Type 0) (h v w u : View (ShardView T)) (a b : ShardView T)
+      → v ≡ u → EntersOnce h v (Some b) w → Follows h.log a → IsShard a → IsShard b → gives a b → IsCall a b → IsHistory h.log → Once gives u w
+  once_of gives h v w u a b mine enters follows before after is call history =
+      let P : View (ShardView T) → Type 0 = λ x. Once gives x w in
+      subst P mine (once gives h v w a b enters follows before after is call history)
 
   -- once a caller is told the history, its call stands there
   pub one_more : (gives : ShardView T → ShardView T → Type 0) (h v w u : View (ShardView T)) → Once gives v w → IsTold h w u → HasOneMore gives v h.log

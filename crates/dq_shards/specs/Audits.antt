@@ -6,8 +6,8 @@ use Rattle.dq_words.specs.declared.views.View.{View}
 use Rattle.dq_words.specs.Counts.{begins_in, expiries_in, removals_in, total, goes, own_cancels}
 use Rattle.dq_words.specs.Counts.{lives, below, most_begins}
 use Rattle.dq_words.specs.KeeperCalls.{Returns}
-use Rattle.dq_shards.specs.declared.totals.Totals.{Totals}
-use Rattle.dq_shards.specs.declared.totals.HandlesOut.{HandlesOut}
+use Rattle.dq_shards.specs.declared.audit.Totals.{Totals}
+use Rattle.dq_shards.specs.declared.audit.HandlesOut.{HandlesOut}
 use Rattle.dq_shards.specs.Shard.{ShardView, keeper_of}
 use Rattle.dq_shards.specs.Changes.{OnlyKeeperGoesOn, OnNumbered}
 use Rattle.dq_shards.specs.Endings.{InEveryTable}

@@ -1,4 +1,4 @@
-//! The totals of all shards.
+//! The totals of all shards, which an audit answers.
 ghost use Rattle.std.specs.Prelude.{◌<◌, ◌≤◌, ◌*◌, IfOk, IfErr};
 ghost use Rattle.dq_words.specs.Counts.{most_begins};
 ghost use Rattle.dq_shards.specs.declared.errors.TheConstants.{SHARD_LIMIT};
@@ -9,10 +9,33 @@ ghost use Rattle.dq_shards.specs.Audits.{EndsAreBegun, AreTotalsOf, ShardAudits,
 
 use crate::queue::SharedDelayQueue;
 use crate::state::ShardState;
-use crate::totals::{HandlesOut, Totals};
 use dq_core::Tally;
 use std::alloc::Allocator;
 use std::sync::Wait;
+use thiserror::Error;
+
+/// What became of all entries that were ever inserted: `inserted` is the sum of the others.
+#[derive(Clone, Copy, Debug, PartialEq, Eq)]
+pub struct Totals {
+    /// Inserts.
+    pub inserted: u64,
+    /// Entries that came out of a poll.
+    pub expired: u64,
+    /// Entries that were removed, by `clear` too.
+    pub removed: u64,
+    /// Accepted cancels, reaped or not.
+    pub cancelled: u64,
+    /// Entries that are live.
+    pub live: u64,
+}
+
+/// Some callers are not given back, so no audit can tell how many cancels were accepted.
+#[derive(Clone, Copy, Debug, PartialEq, Eq, Error)]
+#[error("{out} handles are out")]
+pub struct HandlesOut {
+    /// How many of one shard's callers are out.
+    pub out: u64,
+}
 
 const NOTHING: Totals = Totals {
     inserted: 0,

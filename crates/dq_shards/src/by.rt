@@ -183,15 +183,12 @@ impl<T, J: Rooms, A: Allocator> NamedShard<T, J, A> {
             return Err(WordsError::NoMemory);
         };
         let shard = self.state.shard() as usize;
-        match self.state.issue() {
-            Ok(caller) => Ok(NamedCaller {
-                shard,
-                caller,
-                history,
-                rooms: PhantomData,
-            }),
-            Err(refusal) => Err(refusal),
-        }
+        Ok(NamedCaller {
+            shard,
+            caller: self.state.issue()?,
+            history,
+            rooms: PhantomData,
+        })
     }
 
     /// Tells a caller the whole history of the shard: of its own calls it has those that it made, each once.

@@ -21,10 +21,10 @@ ghost use Rattle.dq_shards.specs.Through.{AnswersThrough};
 use crate::errors::{QueueConfig, QueueError};
 use crate::queue::SharedDelayQueue;
 use crate::state::ShardState;
-use dq_core::{CoreConfig, CoreError, Expired, Piece, ReapError, Swept, Turn};
-use dq_parking::{Leaver, Row, unlock, waiting_row};
+use dq_core::{CoreError, Expired, Piece, ReapError, Swept, Turn};
+use dq_parking::{Leaver, Row, unlock};
 use dq_ticks::{EntryId, Key};
-use dq_words::{ManyTurn, locked_shards};
+use dq_words::ManyTurn;
 use std::alloc::Allocator;
 use std::num::NonZeroU32;
 use std::sync::Wait;
@@ -57,20 +57,9 @@ impl<T: Drop, A: Allocator> SharedDelayQueue<T, A> {
         let Ok(()) = config.check() else {
             return Err(QueueError::Core(CoreError::BadConfig));
         };
-        let core = CoreConfig {
-            shard: 0,
-            capacity: config.capacity,
-            last_stamp: config.last_stamp,
-        };
-        let Ok(waiting) = waiting_row(&alloc, config.shards) else {
-            return Err(QueueError::Core(CoreError::NoMemory));
-        };
-        match locked_shards(alloc, config.shards as u32, core) {
-            Ok(shards) => Ok(SharedDelayQueue {
-                row: Row::new(shards, waiting),
-            }),
-            Err(error) => Err(QueueError::Core(error)),
-        }
+        Ok(SharedDelayQueue {
+            row: Row::of_queues(alloc, config.shards, config.capacity, config.last_stamp)?,
+        })
     }
 
     /// Puts `value` into the shard `route` modulo the number of shards, to come out at the tick `when` of one
@@ -113,7 +102,7 @@ impl<T: Drop, A: Allocator> SharedDelayQueue<T, A> {
         // All that it answers.
         ensures inserts { QueueInserts self.now route value when result }
     {
-        let shard = routed_shard(route, self.shards() as u64);
+        let shard = routed_shard(route, self.row.len() as u64);
         let mut locked = self.row.lock_with_room(rt, shard as usize);
         // A value that waited for its drop where the entry is now is dropped once the lock is free.
         let (answer, leaver, _crowded) = locked.attended.insert(value, when);
@@ -149,10 +138,8 @@ impl<T: Drop, A: Allocator> SharedDelayQueue<T, A> {
         ensures inserts { QueueInserts self.now route value when
             (with_value_handed_back value result) }
     {
-        match self.insert(rt, route, value, when) {
-            Ok(key) => Ok(key),
-            Err((error, _)) => Err(error),
-        }
+        self.insert(rt, route, value, when)
+            .map_err(|(error, _)| error)
     }
 
     /// Notes `tick`, of one millisecond, in `shard`, and takes one entry out that is due at the greatest tick noted

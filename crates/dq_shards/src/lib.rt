@@ -3,22 +3,19 @@
 
 mod audit;
 pub mod by;
-mod callers;
 mod calls;
 mod drops;
 pub mod endings;
 mod errors;
 mod handle;
-mod poller;
 mod queue;
 mod readers;
 mod shard;
 mod state;
-mod totals;
 
+pub use audit::{HandlesOut, Totals};
 pub use dq_parking::Parked;
 pub use errors::{BadQueueNumber, QueueConfig, QueueError, SHARD_LIMIT};
 pub use handle::Handle;
 pub use queue::SharedDelayQueue;
 pub use state::ShardState;
-pub use totals::{HandlesOut, Totals};

@@ -1,15 +1,17 @@
-//! What a queue's row and a stream ask of a shard behind its lock, and what a stream asks of the queue.
-ghost use Rattle.std.specs.Prelude.{◌≡◌, true};
+//! What a queue's row and a stream ask of a shard behind its lock, and of the poller that waits for it, one at a time; and
+//! what a stream asks of the queue.
+ghost use Rattle.std.specs.Prelude.{◌≡◌, true, Some, option_map};
+ghost use Rattle.dq_parking.specs.Parking.{poller};
 ghost use Rattle.dq_shards.specs.declared.errors.QueueError.TheVariants.{Unknown};
-ghost use Rattle.dq_shards.specs.Shard.{IsShard};
-ghost use Rattle.dq_shards.specs.Changes.{Changes};
+ghost use Rattle.dq_shards.specs.Shard.{IsParked, IsShard};
+ghost use Rattle.dq_shards.specs.Changes.{Changes, Unparks, TakesParked, Rings};
 ghost use Rattle.std.proofs.Common.{refl};
 
 use crate::errors::QueueError;
 use crate::queue::SharedDelayQueue;
 use crate::state::ShardState;
 use dq_core::{CoreError, Piece};
-use dq_parking::{Parked, Row, Shard, Shards, Sleeps, TickSource};
+use dq_parking::{Parked, Row, Shard, Shards, Sleeps, TickSource, let_sleep, ring};
 use futures::task::Waker;
 use std::alloc::Allocator;
 use std::sync::{MutexGuard, Wait};
@@ -20,6 +22,55 @@ impl<T, A: Allocator> ShardState<T, A> {
     #[inline(always)]
     pub fn aside(&self) -> usize {
         self.attended.core.aside()
+    }
+
+    /// Returns the tick, of one millisecond, until which a task is parked. It returns none if no task is parked.
+    pub fn parked(&self) -> Option<u64>
+        ensures { result ≡ option_map (λ p. p.next) self.now.parked }
+    {
+        match &self.attended.parked {
+            Some(poller) => Some(poller.next),
+            None => None,
+        }
+    }
+
+    /// Parks a task until `next`, a tick of one millisecond that isn't after the next wake. A task that was parked
+    /// before is replaced, and isn't woken.
+    ///
+    /// # Panics
+    /// If `next` is after the next wake, or nothing is linked.
+    pub fn park(&mut self, next: u64, waker: Waker)
+        requires { IsParked self.old.core (Some (poller next waker)) }
+        ensures { self.new ≡ record self.old { parked = Some (poller next waker) } }
+    {
+        self.unpark();
+        self.attended.parked = Some(Parked { next, waker });
+    }
+
+    /// Takes the parked task out, and doesn't wake it. It returns whether there was one.
+    pub fn unpark(&mut self) -> bool
+        ensures { Unparks self.old result self.new }
+    {
+        let_sleep(self.take_parked())
+    }
+
+    /// Takes the parked task out, and returns it unwoken. Whoever has its waker may wake it, or drop it, after the
+    /// shard's lock is released.
+    pub fn take_parked(&mut self) -> Option<Parked>
+        ensures { TakesParked self.old result self.new }
+    {
+        self.attended.parked.take()
+    }
+
+    /// Tells the shard that `tick`, of one millisecond, is reached: a task that is parked until `tick` or before is
+    /// taken out and woken. It returns whether there was one.
+    pub fn ring(&mut self, tick: u64) -> bool
+        ensures { Rings self.old tick result self.new }
+    {
+        let rung = ring(&mut self.attended.parked, tick);
+        let is_rung = rung.is_some();
+        rung.wake();
+        is_rung
     }
 }
 
@@ -32,13 +83,14 @@ impl<T, A: Allocator> Shard for ShardState<T, A> {
 
     ghost stands = { λ s place places. s.core.shard ≡ place };
 
+    #[tactic(auto, using(crate::proofs::Parking::told))]
     fn law(&self) {
-        ShardState::law(self);
+        self.attended.core.law();
     }
 
     #[inline(always)]
     fn stands_at(&self, place: usize, _places: usize) -> bool {
-        self.shard() as usize == place
+        self.attended.core.shard() as usize == place
     }
 
     #[inline(always)]

@@ -1,5 +1,5 @@
-//! In which list an index stands, by the wheel's tick and the one at which it is filed; and the occupancy maps: a bit for
-//! each list, by which the next list is found.
+//! In which list an index stands, by the wheel's tick and the one at which it is filed; and the occupancy maps: a bit
+//! for each list, by which the next list is found.
 
 ghost use Rattle.std.specs.Prelude.{◌≡◌, ◌≢◌, ℕ, ◌+◌, ◌-◌, ◌*◌, ◌/◌, ◌%◌, ◌<◌, ◌≤◌, ◌==◌, if◌then◌else◌, slice_index, MatchOption};
 ghost use Rattle.std.specs.Int.{bit_at};

@@ -3,21 +3,18 @@
 mod audit;
 #[doc(hidden)]
 pub mod by;
-mod callers;
 mod calls;
 mod drops;
 mod errors;
 mod handle;
-mod poller;
 mod queue;
 mod readers;
 mod shard;
 mod state;
-mod totals;
 
 pub use crate::parking::Parked;
+pub use audit::{HandlesOut, Totals};
 pub use errors::{BadQueueNumber, QueueConfig, QueueError, SHARD_LIMIT};
 pub use handle::Handle;
 pub use queue::SharedDelayQueue;
 pub use state::ShardState;
-pub use totals::{HandlesOut, Totals};

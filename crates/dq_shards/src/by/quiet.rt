@@ -14,16 +14,6 @@ use dq_words::Caller;
 use std::alloc::Allocator;
 
 impl<T, A: Allocator> ShardState<T, A> {
-    fn insert_at_once(
-        &mut self,
-        value: T,
-        when: u64,
-    ) -> (Result<Key, (CoreError, T)>, Leaver, Option<T>)
-        ensures { ShardInserts self.old value when result.0 self.new }
-    {
-        self.attended.insert(value, when)
-    }
-
     pub(crate) fn insert_quietly(
         &mut self,
         value: T,
@@ -33,15 +23,9 @@ impl<T, A: Allocator> ShardState<T, A> {
         ensures inserts { ShardInserts self.old value when result.0 self.new }
     {
         self.law();
-        let answered = self.insert_at_once(value, when);
+        let answered = self.attended.insert(value, when);
         self.law();
         answered
-    }
-
-    fn reset_at_once(&mut self, entry: &EntryId, when: u64) -> (Result<Key, CoreError>, Leaver)
-        ensures { ShardResets self.old entry.now when result.0 self.new }
-    {
-        self.attended.reset(entry, when)
     }
 
     pub(crate) fn reset_quietly(
@@ -53,15 +37,9 @@ impl<T, A: Allocator> ShardState<T, A> {
         ensures resets { ShardResets self.old entry.now when result.0 self.new }
     {
         self.law();
-        let answered = self.reset_at_once(entry, when);
+        let answered = self.attended.reset(entry, when);
         self.law();
         answered
-    }
-
-    fn remove_at_once(&mut self, entry: &EntryId) -> (Result<Removed<T>, CoreError>, Leaver)
-        ensures { ShardRemoves self.old entry.now result.0 self.new }
-    {
-        self.attended.remove(entry)
     }
 
     pub(crate) fn remove_quietly(
@@ -72,15 +50,9 @@ impl<T, A: Allocator> ShardState<T, A> {
         ensures removes { ShardRemoves self.old entry.now result.0 self.new }
     {
         self.law();
-        let answered = self.remove_at_once(entry);
+        let answered = self.attended.remove(entry);
         self.law();
         answered
-    }
-
-    fn poll_at_once(&mut self, tick: u64) -> (Result<Turn<T>, CoreError>, Leaver)
-        ensures { ShardPolls self.old tick result.0 self.new }
-    {
-        self.attended.poll(tick)
     }
 
     fn beside(&mut self, caller: &mut Caller<A>)
@@ -104,7 +76,7 @@ impl<T, A: Allocator> ShardState<T, A> {
         ensures polls { ShardPolls self.old tick result.0 self.new }
     {
         self.law();
-        let answered = self.poll_at_once(tick);
+        let answered = self.attended.poll(tick);
         self.beside(caller);
         self.law();
         endings::outs_are_in_force::<T>();

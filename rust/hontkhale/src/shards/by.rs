@@ -89,14 +89,11 @@ impl<T, J: Rooms> NamedShard<T, J> {
     /// - `TooManyHandles` if 1,024 callers were made, given back or not.
     pub fn issue(&mut self) -> Result<NamedCaller<T, J>, WordsError> {
         let shard = self.state.shard() as usize;
-        match self.state.issue() {
-            Ok(caller) => Ok(NamedCaller {
-                shard,
-                caller,
-                rooms: PhantomData,
-            }),
-            Err(refusal) => Err(refusal),
-        }
+        Ok(NamedCaller {
+            shard,
+            caller: self.state.issue()?,
+            rooms: PhantomData,
+        })
     }
 
     fn insert(

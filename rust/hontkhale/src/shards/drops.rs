@@ -6,13 +6,13 @@
 //! is still set aside is dropped by a later call. Beside the row and a stream's poll no other impl of a queue says that
 //! a value of it may be dropped, so the checker refuses a drop anywhere else.
 
-use crate::core::{CoreConfig, CoreError, Expired, Piece, ReapError, Swept, Turn};
-use crate::parking::{unlock, waiting_row, Leaver, Row};
+use crate::core::{CoreError, Expired, Piece, ReapError, Swept, Turn};
+use crate::parking::{unlock, Leaver, Row};
 use crate::shards::errors::{QueueConfig, QueueError};
 use crate::shards::queue::SharedDelayQueue;
 use crate::shards::state::ShardState;
 use crate::ticks::{EntryId, Key};
-use crate::words::{locked_shards, ManyTurn};
+use crate::words::ManyTurn;
 use alloc::vec::Vec;
 use core::num::NonZeroU32;
 
@@ -38,20 +38,9 @@ impl<T> SharedDelayQueue<T> {
         let Ok(()) = config.check() else {
             return Err(QueueError::Core(CoreError::BadConfig));
         };
-        let core = CoreConfig {
-            shard: 0,
-            capacity: config.capacity,
-            last_stamp: config.last_stamp,
-        };
-        let Ok(waiting) = waiting_row(config.shards) else {
-            return Err(QueueError::Core(CoreError::NoMemory));
-        };
-        match locked_shards(config.shards as u32, core) {
-            Ok(shards) => Ok(SharedDelayQueue {
-                row: Row::new(shards, waiting),
-            }),
-            Err(error) => Err(QueueError::Core(error)),
-        }
+        Ok(SharedDelayQueue {
+            row: Row::of_queues(config.shards, config.capacity, config.last_stamp)?,
+        })
     }
 
     /// Puts `value` into the shard `route` modulo the number of shards, to come out at the tick `when` of one
@@ -78,7 +67,7 @@ impl<T> SharedDelayQueue<T> {
     /// assert_eq!(value, "other");
     /// ```
     pub fn insert(&self, route: u64, value: T, when: u64) -> Result<Key, (QueueError, T)> {
-        let shard = routed_shard(route, self.shards() as u64);
+        let shard = routed_shard(route, self.row.len() as u64);
         let mut locked = self.row.lock_with_room(shard as usize);
         // A value that waited for its drop where the entry is now is dropped once the lock is free.
         let (answer, leaver, _crowded) = locked.attended.insert(value, when);
@@ -101,10 +90,7 @@ impl<T> SharedDelayQueue<T> {
     /// - `TooFar` if `when` is beyond the last tick, 2^42 - 1.
     /// - `Full` if that shard has no free slot.
     pub fn insert_or_drop(&self, route: u64, value: T, when: u64) -> Result<Key, QueueError> {
-        match self.insert(route, value, when) {
-            Ok(key) => Ok(key),
-            Err((error, _)) => Err(error),
-        }
+        self.insert(route, value, when).map_err(|(error, _)| error)
     }
 
     /// Notes `tick`, of one millisecond, in `shard`, and takes one entry out that is due at the greatest tick noted

@@ -1,8 +1,9 @@
-//! What a queue's row and a stream ask of a shard behind its lock, and what a stream asks of the queue.
+//! What a queue's row and a stream ask of a shard behind its lock, and of the poller that waits for it, one at a time; and
+//! what a stream asks of the queue.
 
 use crate::core::{CoreError, Piece};
 use crate::locks::MutexGuard;
-use crate::parking::{Parked, Row, Shard, Shards, Sleeps, TickSource};
+use crate::parking::{let_sleep, ring, Parked, Row, Shard, Shards, Sleeps, TickSource};
 use crate::shards::errors::QueueError;
 use crate::shards::queue::SharedDelayQueue;
 use crate::shards::state::ShardState;
@@ -15,6 +16,49 @@ impl<T> ShardState<T> {
     pub fn aside(&self) -> usize {
         self.attended.core.aside()
     }
+
+    /// Returns the tick, of one millisecond, until which a task is parked. It returns none if no task is parked.
+    pub fn parked(&self) -> Option<u64> {
+        match &self.attended.parked {
+            Some(poller) => Some(poller.next),
+            None => None,
+        }
+    }
+
+    /// Parks a task until `next`, a tick of one millisecond that isn't after the next wake. A task that was parked
+    /// before is replaced, and isn't woken.
+    ///
+    /// # Panics
+    /// If `next` is after the next wake, or nothing is linked.
+    pub fn park(&mut self, next: u64, waker: Waker) {
+        // requires IsParked self.old.core (Some (poller next waker))
+        assert!(
+            matches!(self.next_wake(), Some(wake) if next <= wake),
+            "a poller is parked after the next wake"
+        );
+        self.unpark();
+        self.attended.parked = Some(Parked { next, waker });
+    }
+
+    /// Takes the parked task out, and doesn't wake it. It returns whether there was one.
+    pub fn unpark(&mut self) -> bool {
+        let_sleep(self.take_parked())
+    }
+
+    /// Takes the parked task out, and returns it unwoken. Whoever has its waker may wake it, or drop it, after the
+    /// shard's lock is released.
+    pub fn take_parked(&mut self) -> Option<Parked> {
+        self.attended.parked.take()
+    }
+
+    /// Tells the shard that `tick`, of one millisecond, is reached: a task that is parked until `tick` or before is
+    /// taken out and woken. It returns whether there was one.
+    pub fn ring(&mut self, tick: u64) -> bool {
+        let rung = ring(&mut self.attended.parked, tick);
+        let is_rung = rung.is_some();
+        rung.wake();
+        is_rung
+    }
 }
 
 impl<T> Shard for ShardState<T> {
@@ -24,7 +68,7 @@ impl<T> Shard for ShardState<T> {
 
     #[inline(always)]
     fn stands_at(&self, place: usize, _places: usize) -> bool {
-        self.shard() as usize == place
+        self.attended.core.shard() as usize == place
     }
 
     #[inline(always)]

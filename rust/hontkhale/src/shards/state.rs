@@ -3,7 +3,7 @@
 use crate::core::{CoreError, DelayCore, Expired, Piece, ReapError, Removed, Swept, Turn};
 use crate::parking::{keep_or_leave, Attended};
 use crate::ticks::{EntryId, Key};
-use crate::words::{Keeper, ManyTurn};
+use crate::words::{Caller, Keeper, ManyTurn, WordsError};
 use alloc::vec::Vec;
 
 /// The state of a shard behind its lock: a queue over words that handles share, and the task that is parked there. A
@@ -181,5 +181,21 @@ impl<T> ShardState<T> {
         let removed = self.attended.core.clear_deferring();
         keep_or_leave(&self.attended.core, &mut self.attended.parked).wake();
         removed
+    }
+
+    /// Makes one caller more of this shard's words, which may go to any thread. It takes memory for the caller.
+    ///
+    /// # Errors
+    /// In this order:
+    /// - `TooManyHandles` if 1,024 callers were made, given back or not.
+    /// - `NoMemory` if memory is refused.
+    pub fn issue(&mut self) -> Result<Caller, WordsError> {
+        self.attended.core.issue()
+    }
+
+    /// Returns the number of callers that were made and not given back, by one load. A caller that was dropped stays
+    /// counted.
+    pub fn out(&mut self) -> u64 {
+        self.attended.core.out()
     }
 }

@@ -1,5 +1,5 @@
-//! In which list an index stands, by the wheel's tick and the one at which it is filed; and the occupancy maps: a bit for
-//! each list, by which the next list is found.
+//! In which list an index stands, by the wheel's tick and the one at which it is filed; and the occupancy maps: a bit
+//! for each list, by which the next list is found.
 
 use crate::index::{nth, nth_mut};
 use crate::ticks::{digit, level_of, slot_start, LEVELS, SLOTS};

@@ -7,37 +7,21 @@ use crate::ticks::{EntryId, Key};
 use crate::words::Caller;
 
 impl<T> ShardState<T> {
-    fn insert_at_once(&mut self, value: T, when: u64) -> (Result<Key, (CoreError, T)>, Leaver, Option<T>) {
+    pub(crate) fn insert_quietly(&mut self, value: T, when: u64) -> (Result<Key, (CoreError, T)>, Leaver, Option<T>) {
         self.attended.insert(value, when)
     }
 
-    pub(crate) fn insert_quietly(&mut self, value: T, when: u64) -> (Result<Key, (CoreError, T)>, Leaver, Option<T>) {
-        self.insert_at_once(value, when)
-    }
-
-    fn reset_at_once(&mut self, entry: &EntryId, when: u64) -> (Result<Key, CoreError>, Leaver) {
+    pub(crate) fn reset_quietly(&mut self, entry: &EntryId, when: u64) -> (Result<Key, CoreError>, Leaver) {
         self.attended.reset(entry, when)
     }
 
-    pub(crate) fn reset_quietly(&mut self, entry: &EntryId, when: u64) -> (Result<Key, CoreError>, Leaver) {
-        self.reset_at_once(entry, when)
-    }
-
-    fn remove_at_once(&mut self, entry: &EntryId) -> (Result<Removed<T>, CoreError>, Leaver) {
-        self.attended.remove(entry)
-    }
-
     pub(crate) fn remove_quietly(&mut self, entry: &EntryId) -> (Result<Removed<T>, CoreError>, Leaver) {
-        self.remove_at_once(entry)
-    }
-
-    fn poll_at_once(&mut self, tick: u64) -> (Result<Turn<T>, CoreError>, Leaver) {
-        self.attended.poll(tick)
+        self.attended.remove(entry)
     }
 
     // What the caller was promised holds of what comes out.
     pub(crate) fn poll_for(&mut self, _caller: &mut Caller, tick: u64) -> (Result<Turn<T>, CoreError>, Leaver) {
         // requires self.old.core.words.table ≡ caller.old.table
-        self.poll_at_once(tick)
+        self.attended.poll(tick)
     }
 }

@@ -1,9 +1,8 @@
-use Rattle.std.proofs.Common.{◌≡◌, ◌<◌, ℕ, sym, ap, ◌∙◌, subst, inl, inr}
-use Rattle.dq_journal.specs.declared.views.View.{View}
+use Rattle.std.proofs.Common.{sym, ap, ◌∙◌, inl, inr}
 use Rattle.dq_shards.specs.Changes.{ShardRemoves}
-use Rattle.dq_shards.specs.Named.{NamedCallerView, NamedView, AtShard, IsCall, Once}
+use Rattle.dq_shards.specs.Named.{NamedCallerView, NamedView, AtShard, IsCall}
 use Rattle.dq_shards.specs.Shard.{ShardView}
-use Rattle.dq_shards.proofs.Named.{goes_on, once, one_name}
+use Rattle.dq_shards.proofs.Named.{once_of, one_name, stays_named}
 use Rattle.dq_shards.proofs.by.NamedShard.remove.Goals as goal
 
 pub enter_for-requires-clause-table : goal.enter_for-requires-clause-table
@@ -13,20 +12,11 @@ enter_for-requires-clause-table g c =
 
 pub invariant_of-self : goal.invariant_of-self
 invariant_of-self g c =
-    let s = c.self.invariant in
     let made = c.remove_quietly-answered in
     let e = c.enter_for.ensures in
     let call : IsCall c.self.inside.state made.new.self = inr (inr (inl (c.args.entry.now, made.result.0, made.ensures.removes))) in
-    let on = goes_on c.self.inside.history.view c.me.inside.history.view c.enter_for.new.caller.view c.enter_for.new.self.view.log c.self.inside.state made.new.self e.once e.log s.4 call s.5 in
-    let same : made.new.self.core.shard ≡ c.self.inside.state.core.shard = made.ensures.removes.1.0.0 in
-    let P : ℕ → Type 0 = λ n. n < g.J.Rooms.shards in (
-      subst P (sym same) s.0,
-      made.ensures.removes.1.1 ∙ (s.1 ∙ ap g.J.Rooms.words (sym same)),
-      e.tables.0 ∙ (s.2 ∙ ap g.J.Rooms.history (sym same)),
-      e.keeper,
-      on.0,
-      on.1,
-    )
+    stays_named g.J.Rooms.shards g.J.Rooms.words g.J.Rooms.history (λ (s : ShardView _). s.core.words.table) _ _ c.self.inside.history.view c.me.inside.history.view c.enter_for.new.caller.view c.enter_for.new.self.view
+    c.self.inside.state made.new.self c.self.invariant call made.ensures.removes.1.1 e.once e.log e.tables.0 e.keeper
 
 pub returns-clause-once : goal.returns-clause-once
 returns-clause-once g c =
@@ -35,6 +25,5 @@ returns-clause-once g c =
     let gives : ShardView _ → ShardView _ → Type 0 = AtShard c.args.me.now.shard (λ old new. ShardRemoves old c.args.entry.now made.result.0 new) in
     let call : IsCall c.self.inside.state made.new.self = inr (inr (inl (c.args.entry.now, made.result.0, made.ensures.removes))) in
     let at = ap (λ (s : NamedView _). s.shard.core.shard) c.self.view_is ∙ sym c.requires in
-    let mine = ap (λ (v : NamedCallerView _). v.history) c.me.view_is in
-    let P : View (ShardView _) → Type 0 = λ v. Once gives v c.enter_for.new.caller.view in
-    subst P mine (once gives c.self.inside.history.view c.me.inside.history.view c.enter_for.new.caller.view c.self.inside.state made.new.self c.enter_for.ensures.once s.4 made.ensures.shards.0 made.ensures.shards.1 (at, made.ensures.removes) call s.5)
+    once_of gives c.self.inside.history.view c.me.inside.history.view c.enter_for.new.caller.view _ c.self.inside.state made.new.self (ap (λ (v : NamedCallerView _). v.history) c.me.view_is) c.enter_for.ensures.once s.4
+    made.ensures.shards.0 made.ensures.shards.1 (at, made.ensures.removes) call s.5
