@@ -18,6 +18,7 @@ use crate::lasting::{Kept, LastingConfig, Moved, NextDeadline, NumberedCaller};
 use crate::memory::room_for;
 use crate::ticks::LAST_TICK;
 use crate::ticks::{self, EntryId, CAPACITY_LIMIT};
+use std::mem;
 use std::sync::atomic::{
     AtomicU64, AtomicUsize,
     Ordering::{Relaxed, SeqCst},
@@ -275,7 +276,7 @@ impl<T> Shared<T> {
             bound => Counted(bound.as_ref()),
         };
         let key = self.insert_where_last(value, tick)?;
-        std::mem::forget(counted);
+        mem::forget(counted);
         self.front.ring_before(tick);
         Ok(key)
     }
@@ -524,6 +525,7 @@ impl<T> Shared<T> {
 
     /// The reset of an entry whose slot has no stamp left: it is moved.
     fn reset_elsewhere(&self, key: &Key, tick: u64) -> Result<Key, KeyError> {
+        let mut is_tidy = false;
         loop {
             let grown = self.grown.load(SeqCst);
             let mut moves = self.moves();
@@ -534,12 +536,19 @@ impl<T> Shared<T> {
                 Ok(Moved::To { .. }) => return Ok(*key),
                 Ok(Moved::Out(_)) => unreachable!("a deadline, and a free slot"),
                 Err(Unmoved::Ended) => return Err(KeyError::Ended),
-                Err(Unmoved::NoRoom) => {
-                    self.tidy();
-                    self.grow(grown).map_err(|_| KeyError::NoMemory)?;
-                }
+                Err(Unmoved::NoRoom) => self.room_for_a_move(&mut is_tidy, grown)?,
             }
         }
+    }
+
+    /// Makes room for an entry that is moved: first where there are slots, as an insert does, and then in a new segment.
+    fn room_for_a_move(&self, is_tidy: &mut bool, grown: usize) -> Result<(), KeyError> {
+        if mem::replace(is_tidy, true) {
+            return self.grow(grown).map_err(|_| KeyError::NoMemory);
+        }
+        self.tidy();
+        self.make_room();
+        Ok(())
     }
 
     /// The value of a live entry at a place, and whether it was the last of its shard.

@@ -43,6 +43,19 @@ fn eight_threads_take_no_more_memory_than_one() {
     }
 }
 
+/// Each reset moves the entry here, as no slot has a second stamp, and what it leaves is worn.
+#[test]
+fn resets_of_one_entry_take_no_more_memory() {
+    let queue = DelayQueue::builder().shards(2).last_stamp(1).build();
+    let key = queue.insert("kept", FAR).expect("room");
+    let memory = queue.stats().memory;
+    for _ in 0..2_000 {
+        queue.reset(&key, FAR).expect("it waits");
+    }
+    assert_eq!(queue.stats().memory, memory);
+    assert_eq!(queue.remove(&key), Ok("kept"));
+}
+
 #[test]
 fn no_more_wait_than_may_and_what_has_ended_makes_room() {
     for most in [0, 1, 5, 1_000] {

@@ -39,10 +39,8 @@ impl<T> Shared<T> {
                     return Ok(None);
                 }
                 Err(Unmoved::Ended) => return Err(KeyError::Ended),
-                Err(Unmoved::NoRoom) if is_tidy => self.grow(grown).map_err(|_| KeyError::NoMemory)?,
-                Err(Unmoved::NoRoom) => self.tidy(),
+                Err(Unmoved::NoRoom) => self.room_for_a_move(&mut is_tidy, grown)?,
             }
-            is_tidy = true;
         }
     }
 
