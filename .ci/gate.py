@@ -4,12 +4,13 @@
   .ci/run            all of it
   .ci/run --store    and writes to bench/results/gate.tsv what its parts took; hold it to two cores by `taskset -c 0,1`
 
-The first two take seconds, and nothing else is tried where one of them fails. `tools/test-edits` comes behind `rt ci`, if
-that passed, with a check for each processor. The tests of the plain Rust run beside the two where there is more than
-one processor, and what they said is told whole at the end. The last line counts what passed and what failed in all.
-The status is that of `rt ci`, or 1 where only another part failed.
+The first two take seconds, and nothing else is tried where one of them fails. Where there is more than one processor, the
+others run beside each other: `tools/test-edits` begins with a crate's wrong bodies once `rt ci` has proved the crate,
+and takes what `rt ci` leaves of the processors. If `rt ci` fails, nothing is told of them. The last line counts what
+passed and what failed in all. The status is that of `rt ci`, or 1 where only another part failed.
 """
 
+import contextlib
 import datetime
 import os
 import pathlib
@@ -22,7 +23,6 @@ import tempfile
 import time
 
 TOP = pathlib.Path(__file__).resolve().parent.parent
-TESTS = TOP / "rust" / "test"
 STORED = TOP / "bench" / "results" / "gate.tsv"
 # Both need Python alone, as rt does.
 FIRST = {"docs/check": ["python3", "docs/check"], "c/generate": ["python3", "c/generate", "--hash"]}
@@ -66,7 +66,7 @@ def store(begun):
     STORED.write_text(head + "".join(rows), encoding="utf-8")
 
 
-def shown(name, words, **more):
+def shown(name, words, heard=lambda line: None, **more):
     """Runs a part, with more in its environment, and passes on what it says: its status, and what its last line counts."""
     say(f"== {name}")
     last, before = "", used()
@@ -74,45 +74,62 @@ def shown(name, words, **more):
         for line in ran.stdout:
             sys.stdout.write(line)
             sys.stdout.flush()
+            heard(line)
             last = line if line.strip() else last
     tell_times(name, before)
     return ran.returncode, counts(last, ran.returncode)
 
 
-def proved():
-    """Runs `rt ci`, and behind it the wrong bodies of all that it proved."""
-    processors = len(os.sched_getaffinity(0))
-    # two jobs of one proof take more of a processor than one: where there are two, other work takes the second
-    jobs = {"RT_JOBS": "2"} if processors == 2 else {}
-    parts = [shown("rt ci", ["rt", "ci"], **jobs)]
-    if parts[0][0]:
-        say("rt ci failed, so the wrong bodies were not tried")
-        return parts
-    return [*parts, shown("tools/test-edits", ["python3", "tools/test-edits", "--built", "-j", str(processors)])]
+class Beside:
+    """A part that runs beside others: it says what it has to say into a file."""
 
-
-class Tests:
-    """The tests of the plain Rust, which say what they have to say into a file."""
-
-    def __init__(self):
-        self.said, self.ran = tempfile.TemporaryFile("w+", encoding="utf-8", errors="replace"), None
+    def __init__(self, name, *words):
+        self.name, self.words, self.ran = name, words, None
+        self.said = tempfile.TemporaryFile("w+", encoding="utf-8", errors="replace")
 
     def begin(self):
-        self.ran = self.ran or subprocess.Popen([str(TESTS)], stdout=self.said, start_new_session=True, **SAID)
+        # (its processes are of this session, so that `nice` counts among them and those of other parts)
+        how = {"stdin": subprocess.PIPE, "stdout": self.said, "process_group": 0}
+        self.ran = self.ran or subprocess.Popen(self.words, **how, **SAID)
+
+    def hear(self, line):
+        """Gives it a line of its input."""
+        with contextlib.suppress(BrokenPipeError):
+            if self.ran:
+                print(line, file=self.ran.stdin, flush=True)
 
     def end(self):
-        """Waits, and tells all: whether they passed, and what their last line counts."""
+        """Waits, and tells all that it said: its status, and what its last line counts."""
         self.begin()
+        with contextlib.suppress(BrokenPipeError):
+            self.ran.stdin.close()
         before, status = used(), self.ran.wait()
         self.said.seek(0)
         text = self.said.read()
-        say("== rust/test\n" + text.rstrip("\n"))
-        tell_times("rust/test", before)
+        say(f"== {self.name}\n" + text.rstrip("\n"))
+        tell_times(self.name, before)
         return status, counts((text.strip().splitlines() or [""])[-1], status)
 
     def stop(self):
         if self.ran is not None and self.ran.poll() is None:
-            os.killpg(self.ran.pid, signal.SIGKILL)
+            os.killpg(self.ran.pid, signal.SIGTERM)
+            self.ran.wait()
+
+
+def proved(edits):
+    """Runs `rt ci`, and waits for the wrong bodies of all that it proved."""
+    def heard(line):
+        crate = re.fullmatch(r"rt: (\w+) proved\n", line)
+        if crate:
+            edits.hear(crate[1])
+
+    # two jobs of one proof take more of a processor than one: where there are two, other work takes the second
+    jobs = {"RT_JOBS": "2"} if len(os.sched_getaffinity(0)) == 2 else {}
+    parts = [shown("rt ci", ["rt", "ci"], heard, **jobs)]
+    if parts[0][0]:
+        say("rt ci failed, so nothing is told of the wrong bodies")
+        return parts
+    return [*parts, edits.end()]
 
 
 def main():
@@ -123,13 +140,16 @@ def main():
     if any([shown(*part)[0] for part in FIRST.items()]):
         say("0 passed, 1 failed")
         return 1
-    tests = Tests()
+    processors = len(os.sched_getaffinity(0))
+    tests = Beside("rust/test", "rust/test")
+    edits = Beside("tools/test-edits", "nice", "python3", "tools/test-edits", "--follow", "-j", str(processors))
     try:
-        if len(os.sched_getaffinity(0)) > 1:
-            tests.begin()
-        parts = [*proved(), tests.end()]
+        for it in [tests, edits] if processors > 1 else []:
+            it.begin()
+        parts = [*proved(edits), tests.end()]
     finally:
-        tests.stop()
+        for it in (edits, tests):
+            it.stop()
     if sys.argv[1:]:
         store(begun)
     say(f"{sum(it[0] for _, it in parts)} passed, {sum(it[1] for _, it in parts)} failed")

@@ -97,9 +97,9 @@ def is_handed(value, names, fields):
     """Whether a value is one of those names or fields, a reference to it or a copy of it."""
     found = HANDED.fullmatch(" ".join(texts_of(value)))
     path = found[1].split(" . ") if found else [""]
-    if path[0] == "self":
-        return "allocator" in found[2] or len(path) > 1 and path[-1] in fields
-    return len(path) == 1 and path[0] in names
+    if found and "allocator" in found[2]:
+        return True
+    return path[0] == "self" and len(path) > 1 and path[-1] in fields or len(path) == 1 and path[0] in names
 
 
 def is_handed_field(element, names, fields):

@@ -41,7 +41,7 @@ class Bench:
     def ran(self, name, folder, words):
         """Runs a check in a crate's folder: its status and what it said. A killed one runs again."""
         how = {"stdin": subprocess.DEVNULL, "stdout": subprocess.PIPE, "stderr": subprocess.STDOUT}
-        how.update(cwd=folder, encoding="utf-8", errors="replace", start_new_session=True)
+        how.update(cwd=folder, encoding="utf-8", errors="replace", process_group=0)
         for last in (False, True):
             with self.lock:
                 if self.is_over:

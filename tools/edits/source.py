@@ -10,7 +10,7 @@ import rattle
 
 TOP = pathlib.Path(__file__).resolve().parents[2]
 # So many edits stand in one check at most: its memory and what is lost when it is killed grow with them.
-MOST = 32
+MOST = 64
 # A type that has a name of its own in a module, whose methods the check calls by that module.
 TYPE = re.compile(r"^(?:pub(?:\([a-z]+\))? )?(?:struct|enum|trait) (\w+)", re.M)
 
@@ -48,7 +48,7 @@ class Edit:
 
     def is_searched(self):
         """Whether a check of it only has to tell which goals aren't proved, and offers no answers for them."""
-        return not self.tries and not self.is_alone()
+        return not self.error and not self.tries and not self.is_alone()
 
     def wrong(self):
         """The functions that have the wrong bodies."""
@@ -181,7 +181,7 @@ class Crate:
             edit.reaches_further = bool(more or not edit.bodies)
         except Fault:
             edit.reaches_further = True
-        edit.most = 1 if edit.reaches_further or edit.error else MOST
+        edit.most = 1 if edit.reaches_further else MOST
 
     def place_of(self, function):
         """The file that a function stands in, and the function."""
@@ -249,8 +249,10 @@ class Crate:
 
     def rounds(self, edits):
         """Packs edits into rounds in which no function is edited twice in its place, each into the first that takes it;
-        first those that the most others meet."""
+        first those that the most others meet. What is refused before anything is proved stands with its like."""
         def meet(one, other):
+            if one.error != other.error:
+                return True
             return one is not other and bool(one.bodies.keys() & other.bodies.keys()) and not (one.copy and other.copy)
 
         rounds = []

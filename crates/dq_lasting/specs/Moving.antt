@@ -35,6 +35,11 @@ module _ {T : Type 0} where
   IfTo (To key deadline) P = P key deadline
   IfTo (Out x) P = Unit {0}
 
+  -- unless it is in again
+  abbrev pub UnlessTo : Result (Moved T) CoreError → Type 0 → Type 0
+  UnlessTo (Ok (To key deadline)) P = Unit {0}
+  UnlessTo r P = P
+
   -- where it came out
   abbrev pub IfCameOut : Moved T → (Removed T → Type 0) → Type 0
   IfCameOut (To key deadline) P = Unit {0}
@@ -67,7 +72,8 @@ module _ {T W : Type 0} where
       Bool → Core T W → EntryId → NextDeadline → Core T W → Result (Moved T) CoreError →
       Core T W → Core T W → Type 0
   Moves shared b id next o (Ok m) c p =
-      HasFreeSlot o × ((x : Removed T) × IsRemoved shared b id x c × PutsAgain x next o m p)
+      (is_beyond next ≡ false) × HasFreeSlot o
+      × ((x : Removed T) × IsRemoved shared b id x c × PutsAgain x next o m p)
   Moves shared b id next o (Err (TooFar limit)) c p =
       (limit ≡ LAST_TICK) × (is_beyond next ≡ true) × (c ≡ b) × (p ≡ o)
   Moves shared b id next o (Err (Full linked worn)) c p =
@@ -81,7 +87,8 @@ module _ {T W : Type 0} where
   abbrev pub MovesWithin :
       Bool → Core T W → EntryId → NextDeadline → Result (Moved T) CoreError → Core T W → Type 0
   MovesWithin shared b id next (Ok m) c =
-      (x : Removed T) × (n : Core T W) × IsRemoved shared b id x n × PutsAgain x next n m c
+      (is_beyond next ≡ false)
+      × ((x : Removed T) × (n : Core T W) × IsRemoved shared b id x n × PutsAgain x next n m c)
   MovesWithin shared b id next (Err (TooFar limit)) c =
       (limit ≡ LAST_TICK) × (is_beyond next ≡ true) × (c ≡ b)
   MovesWithin shared b id next (Err e) c =

@@ -31,10 +31,10 @@ use crate::keeping::{Due, Kept};
 use crate::opening::Begun;
 use crate::poller::{OneTick, told};
 use crate::queue::LastingQueue;
-use dq_core::{CoreConfig, CoreError, Expired, Piece, ReapError, Swept, Turn};
-use dq_parking::{Row, poll_place, unlock, waiting_row};
+use dq_core::{CoreError, Expired, Piece, ReapError, Swept, Turn};
+use dq_parking::{Row, poll_place, unlock};
 use dq_ticks::{CAPACITY_LIMIT, EntryId, Key};
-use dq_words::{ManyTurn, locked_shards};
+use dq_words::ManyTurn;
 use futures::task::{Context, Poll, Source};
 use std::alloc::Allocator;
 use std::num::NonZeroU32;
@@ -116,21 +116,10 @@ impl<T: Drop, A: Allocator> LastingQueue<T, A> {
         let Ok(()) = config.check() else {
             return Err(CoreError::BadConfig);
         };
-        let core = CoreConfig {
-            shard: 0,
-            capacity: config.capacity,
-            last_stamp: config.last_stamp,
-        };
-        let Ok(waiting) = waiting_row(&alloc, config.shards) else {
-            return Err(CoreError::NoMemory);
-        };
-        match locked_shards(alloc, config.shards as u32, core) {
-            Ok(shards) => Ok(LastingQueue {
-                row: Row::new(shards, waiting),
-                name,
-            }),
-            Err(error) => Err(error),
-        }
+        Ok(LastingQueue {
+            row: Row::of_queues(alloc, config.shards, config.capacity, config.last_stamp)?,
+            name,
+        })
     }
 
     // An insert at a place.

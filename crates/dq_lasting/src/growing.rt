@@ -20,7 +20,7 @@ use std::alloc::Allocator;
 use std::sync::Wait;
 
 // What became of a shard that was to go on anew.
-#[derive(Clone, Copy, Debug, PartialEq, Eq)]
+#[derive(Clone, Copy)]
 pub(crate) enum Anew {
     // It went on.
     Done,

@@ -36,7 +36,7 @@ pub enum Kept {
 }
 
 // How far a shard is worn: at least so many of its slots are.
-#[derive(Clone, Copy, Debug, PartialEq, Eq)]
+#[derive(Clone, Copy)]
 pub(crate) enum Wear {
     // Half of them.
     Half,
@@ -45,7 +45,7 @@ pub(crate) enum Wear {
 }
 
 // What a shard is seen to be.
-#[derive(Clone, Copy, Debug, PartialEq, Eq)]
+#[derive(Clone, Copy)]
 pub(crate) enum Seen {
     // It can be opened again.
     Drained,
@@ -60,7 +60,7 @@ pub(crate) enum Seen {
 }
 
 // What was found by one look at each place, as long as none can be opened again.
-#[derive(Clone, Copy, Debug, PartialEq, Eq)]
+#[derive(Clone, Copy)]
 pub(crate) struct Round {
     // The first that is closed.
     closed: Option<usize>,
@@ -118,7 +118,7 @@ impl Round {
 }
 
 // What is due.
-#[derive(Clone, Copy, Debug, PartialEq, Eq)]
+#[derive(Clone, Copy)]
 pub(crate) enum Due {
     // The step was made, or none is due.
     Made(Kept),

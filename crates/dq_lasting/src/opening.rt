@@ -21,7 +21,7 @@ use std::sync::Wait;
 pub const SWEPT_AT_ONCE: usize = 256;
 
 // What a step came to.
-#[derive(Clone, Copy, Debug, PartialEq, Eq)]
+#[derive(Clone, Copy, Debug)]
 pub(crate) enum Begun {
     // The step was made, or is refused.
     Answered(Result<Kept, ReopenError>),

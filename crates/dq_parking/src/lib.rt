@@ -12,7 +12,7 @@ mod streaming;
 
 pub use attended::{Attended, keep_or_leave};
 pub use parked::{Leaver, Parked, let_sleep, ring, take};
-pub use row::{Row, Shard, unlock, waiting_row};
+pub use row::{Row, Shard, unlock};
 pub use sleeping::{Polled, Sleeps, StreamFault, park_with};
 pub use source::{MillisecondTicks, TickSource};
 pub use streaming::{ShardStream, Shards, Whole, poll_place};

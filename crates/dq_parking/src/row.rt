@@ -144,23 +144,6 @@ fn tried<S>(lock: &Mutex<S>) -> Option<MutexGuard<'_, S>> {
     None
 }
 
-/// A number for each of so many shards, of whose locks nobody waits for one.
-///
-/// # Errors
-/// AllocError where memory is refused.
-pub fn waiting_row<A: Allocator + Clone>(
-    alloc: &A,
-    shards: usize,
-) -> Result<Vec<Waiting, A>, AllocError>
-    ensures { IfOk result (λ row. vec_len row ≡ shards) }
-{
-    let mut row = Vec::with_capacity(alloc.clone()?, shards)?;
-    for _shard in 0..shards {
-        row.push_reserved(Waiting::nobody());
-    }
-    Ok(row)
-}
-
 /// Shards behind locks. To a contract it is how many.
 #[derive(Drop)]
 pub struct Row<S, A: Allocator = Global> {
@@ -180,14 +163,6 @@ impl<S, A: Allocator> Model for Row<S, A> {
 }
 
 impl<S, A: Allocator> Row<S, A> {
-    /// A row of these shards, with as many to count who waits.
-    pub fn new(shards: Vec<Mutex<S>, A>, waiting: Vec<Waiting, A>) -> Row<S, A>
-        requires { vec_len waiting ≡ vec_len shards }
-        ensures { result ≡ vec_len shards }
-    {
-        Row { shards, waiting }
-    }
-
     /// How many there are.
     #[inline]
     pub fn len(&self) -> usize
@@ -216,6 +191,20 @@ impl<S, A: Allocator + Clone> Row<S, A> {
 }
 
 impl<S: Drop, A: Allocator + Clone + Drop> Row<S, A> {
+    /// A row of these shards, of whose locks nobody waits for one.
+    ///
+    /// # Errors
+    /// `AllocError` if memory is refused.
+    pub fn new(shards: Vec<Mutex<S>, A>) -> Result<Row<S, A>, AllocError>
+        ensures { IfOk result (λ row. row ≡ vec_len shards) }
+    {
+        let mut waiting = Vec::with_capacity(shards.allocator().clone()?, shards.len())?;
+        for _shard in 0..shards.len() {
+            waiting.push_reserved(Waiting::nobody());
+        }
+        Ok(Row { shards, waiting })
+    }
+
     /// A row of so many shards, made of queues with nothing in them, of which each has its place for its number.
     ///
     /// # Errors
@@ -238,11 +227,8 @@ impl<S: Drop, A: Allocator + Clone + Drop> Row<S, A> {
             capacity,
             last_stamp,
         };
-        let Ok(waiting) = waiting_row(&alloc, shards) else {
-            return Err(CoreError::NoMemory);
-        };
         match locked_shards(alloc, shards as u32, config) {
-            Ok(shards) => Ok(Row { shards, waiting }),
+            Ok(shards) => Ok(Row::new(shards)?),
             Err(_) => Err(CoreError::NoMemory),
         }
     }

@@ -6,7 +6,6 @@ use anyhow::Result;
 use dq_core::{DelayCore, Turn, VecWords};
 use dq_ticks::EntryId;
 use dq_wheel::Place;
-use std::io;
 
 // The queue's entries, each a letter.
 type Letters = DelayCore<char, VecWords>;
@@ -20,24 +19,23 @@ const WAKES: usize = 6 * DUE.len();
 /// Inserts the entries, and prints where each stands at each wake, until all are out.
 pub fn walk<R: Print + AllocGlobal>(rt: &R) -> Result<()> {
     let mut queue = Letters::with_capacity(rt.alloc(), DUE.len())?;
-    walk_through(rt, &mut queue)
-}
-
-// The walk of a queue that has no entry yet.
-fn walk_through<R: Print + AllocGlobal>(rt: &R, queue: &mut Letters) -> Result<()> {
     let mut entries = Vec::new(rt.alloc());
     for (letter, when) in DUE {
         let key = queue.insert_or_drop(letter, when)?;
         entries.push((letter, key.entry()))?;
     }
-    poll_all(rt, queue, entries.as_slice())
+    poll_all(rt, &mut queue, entries.as_slice())
 }
 
 // Polls at each wake, and prints where each entry stands before, until all are out.
 fn poll_all<R: Print>(rt: &R, queue: &mut Letters, entries: &[(char, EntryId)]) -> Result<()> {
     let mut now = 0;
     for _ in 0..WAKES {
-        tell_places(rt, now, queue, entries)?;
+        for (letter, entry) in entries {
+            if let Some(Place::InSlot { level, slot }) = queue.place(entry) {
+                println!(rt; "{now}: {letter} stands in slot {slot} of level {level}")?;
+            }
+        }
         let Some(next) = queue.next_wake() else {
             return Ok(());
         };
@@ -45,21 +43,6 @@ fn poll_all<R: Print>(rt: &R, queue: &mut Letters, entries: &[(char, EntryId)]) 
             println!(rt; "{next}: {} is out", out.value)?;
         }
         now = next;
-    }
-    Ok(())
-}
-
-// Prints where each entry that is still there stands.
-fn tell_places<R: Print>(
-    rt: &R,
-    now: u64,
-    queue: &Letters,
-    entries: &[(char, EntryId)],
-) -> io::Result<()> {
-    for (letter, entry) in entries {
-        if let Some(Place::InSlot { level, slot }) = queue.place(entry) {
-            println!(rt; "{now}: {letter} stands in slot {slot} of level {level}")?;
-        }
     }
     Ok(())
 }

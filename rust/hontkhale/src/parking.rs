@@ -11,7 +11,7 @@ mod streaming;
 
 pub use attended::{keep_or_leave, Attended};
 pub use parked::{let_sleep, ring, take, Leaver, Parked};
-pub use row::{unlock, waiting_row, Row, Shard};
+pub use row::{unlock, Row, Shard};
 #[cfg(test)]
 pub use sleeping::park_with;
 pub use sleeping::{Polled, Sleeps, StreamFault};

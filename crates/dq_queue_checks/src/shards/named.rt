@@ -7,7 +7,7 @@ ghost use Rattle.dq_shards.specs.Named.{HasOneMoreAt, IsHistory, OnceAt};
 use super::same;
 use dq_core::{CoreConfig, CoreError, Turn};
 use dq_journal::Witness;
-use dq_parking::{Row, waiting_row};
+use dq_parking::Row;
 use dq_shards::ShardState;
 use dq_shards::by::{NamedCaller, NamedQueue, NamedShard, Rooms};
 use dq_ticks::Key;
@@ -147,8 +147,8 @@ fn named_by_two<J: Rooms + Send + Sync, R: Threads + Wait + Abort + Sync>(
     let mut shards = Vec::with_capacity(alloc, 2).ok().ok_or("a row")?;
     shards.push_reserved(Mutex::new(first));
     shards.push_reserved(Mutex::new(second));
-    let waiting = waiting_row(&alloc, 2).ok().ok_or("who waits")?;
-    inserted_by_two(rt, &NamedQueue::of(Row::new(shards, waiting)))
+    let row = Row::new(shards).ok().ok_or("who waits")?;
+    inserted_by_two(rt, &NamedQueue::of(row))
 }
 
 fn shard_of(alloc: Global, number: u32) -> Result<(ShardState<u64>, Witness<ShardState<u64>>), Fail>

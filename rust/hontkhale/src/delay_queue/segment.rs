@@ -302,7 +302,7 @@ impl<T> Segment<T> {
                 let mut shard = self.enter(place);
                 let next = shard.core().next_wake();
                 shard.set_hint(next);
-                anew == Anew::Done
+                matches!(anew, Anew::Done)
             })
     }
 }

@@ -6,7 +6,7 @@
 //! is still set aside is dropped by a later call. Beside the row and a stream's poll no other impl says that a value
 //! may be dropped, so the checker refuses a drop anywhere else.
 
-use crate::core::{CoreConfig, CoreError, Expired, Piece, ReapError, Swept, Turn};
+use crate::core::{CoreError, Expired, Piece, ReapError, Swept, Turn};
 use crate::lasting::config::LastingConfig;
 use crate::lasting::errors::{LastingError, OpenError, ReopenError};
 use crate::lasting::growing::{fresh_queue, Anew};
@@ -15,9 +15,9 @@ use crate::lasting::names;
 use crate::lasting::opening::Begun;
 use crate::lasting::poller::{told, OneTick};
 use crate::lasting::queue::LastingQueue;
-use crate::parking::{poll_place, unlock, waiting_row, Row};
+use crate::parking::{poll_place, unlock, Row};
 use crate::ticks::{EntryId, Key, CAPACITY_LIMIT};
-use crate::words::{locked_shards, ManyTurn};
+use crate::words::ManyTurn;
 use alloc::vec::Vec;
 use core::num::NonZeroU32;
 use core::task::{Context, Poll};
@@ -76,21 +76,10 @@ impl<T> LastingQueue<T> {
         let Ok(()) = config.check() else {
             return Err(CoreError::BadConfig);
         };
-        let core = CoreConfig {
-            shard: 0,
-            capacity: config.capacity,
-            last_stamp: config.last_stamp,
-        };
-        let Ok(waiting) = waiting_row(config.shards) else {
-            return Err(CoreError::NoMemory);
-        };
-        match locked_shards(config.shards as u32, core) {
-            Ok(shards) => Ok(LastingQueue {
-                row: Row::new(shards, waiting),
-                name,
-            }),
-            Err(error) => Err(error),
-        }
+        Ok(LastingQueue {
+            row: Row::of_queues(config.shards, config.capacity, config.last_stamp)?,
+            name,
+        })
     }
 
     // An insert at a place.

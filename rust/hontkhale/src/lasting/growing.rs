@@ -10,7 +10,7 @@ use crate::parking::{take, unlock, Leaver};
 use crate::words::{numbered_queue, Keeper};
 
 // What became of a shard that was to go on anew.
-#[derive(Clone, Copy, Debug, PartialEq, Eq)]
+#[derive(Clone, Copy)]
 pub(crate) enum Anew {
     // It went on.
     Done,

@@ -1,8 +1,8 @@
 //! An entry goes on in another queue: it is taken out of one and put into the other, by one call that loses nothing.
 //!
-//! A shard is opened again once nothing is linked there, and an entry that is extended for ever would keep it closed. So
-//! the entry is moved to a shard that accepts entries. Callers extend and cancel it until the step that takes it out,
-//! and the deadline that it has at that step is the one with which it goes on.
+//! A shard is opened again once nothing is linked there, and an entry that is extended for ever would keep it closed.
+//! So the entry is moved to a shard that accepts entries. Callers extend and cancel it until the step that takes it
+//! out, and the deadline that it has at that step is the one with which it goes on.
 
 use crate::core::{CoreError, DelayCore, Removed, Words};
 use crate::ticks::{EntryId, Key, LAST_TICK};
@@ -25,7 +25,9 @@ pub enum Moved<T> {
     To {
         /// Its key there.
         key: Key,
-        /// Its deadline, a tick of one millisecond.
+        /// The deadline with which it goes on, a tick of one millisecond: the one that it had, or the one that was
+        /// asked for. It isn't raised: if it is before the queue's own tick ([`DelayCore::tick`]), the entry is due
+        /// there at once, and has that tick for its deadline.
         deadline: u64,
     },
     /// It came out.
@@ -57,6 +59,16 @@ impl NextDeadline {
     }
 }
 
+// How many entries are linked and how many slots are worn, where these are all slots; none where one is free.
+fn full_of<T, W: Words>(queue: &DelayCore<T, W>) -> Option<(usize, usize)> {
+    let (linked, worn) = (queue.len(), queue.worn());
+    if linked + worn < queue.capacity() {
+        None
+    } else {
+        Some((linked, worn))
+    }
+}
+
 // Puts what was taken out in again; or hands it out, where it gets no deadline or finds no slot. A value that was set
 // aside where the entry is now comes out beside.
 fn put_again<T, W: Words>(
@@ -69,16 +81,20 @@ fn put_again<T, W: Words>(
     let Some(deadline) = next.of(removed.deadline) else {
         return (Moved::Out(removed), None);
     };
+    // What an insert that is refused hands out beside its refusal isn't in its contract: so none is made.
+    if full_of(queue).is_some() {
+        return (Moved::Out(removed), None);
+    }
     let (answer, crowded) = queue.insert_deferring(removed.value, deadline);
     match answer {
         Ok(key) => (Moved::To { key, deadline }, crowded),
-        Err((_full, value)) => (Moved::Out(Removed { value, ..removed }), crowded),
+        Err(_) => unreachable!(),
     }
 }
 
-/// Takes a live entry out of `from` and puts it into `to`, with its value and with the deadline that `next` makes of the
-/// one that it has as it is taken out. No value is dropped: one that waits for its drop in the slot that the entry takes
-/// comes out beside the answer. Constant time, and no memory is taken.
+/// Takes a live entry out of `from` and puts it into `to`, with its value and with the deadline that `next` makes of
+/// the one that it has as it is taken out. No value is dropped: one that waits for its drop in the slot that the entry
+/// takes comes out beside the answer, and none beside any answer but `To`. Constant time, and no memory is taken.
 ///
 /// # Errors
 /// Nothing is taken out. In this order:
@@ -95,8 +111,7 @@ pub fn move_entry<T, W: Words>(
     if next.is_beyond() {
         return (Err(CoreError::TooFar { limit: LAST_TICK }), None);
     }
-    let (linked, worn) = (to.len(), to.worn());
-    if linked + worn >= to.capacity() {
+    if let Some((linked, worn)) = full_of(to) {
         return (Err(CoreError::Full { linked, worn }), None);
     }
     match from.remove(entry) {
@@ -110,8 +125,8 @@ pub fn move_entry<T, W: Words>(
 
 /// Takes a live entry out and puts it in again, at a slot that has a stamp, with its value and with the deadline that
 /// `next` makes of the one that it has as it is taken out. It comes out where no slot has a stamp then. No value is
-/// dropped: one that waits for its drop in the slot that the entry takes comes out beside the answer. Constant time, and
-/// no memory is taken.
+/// dropped: one that waits for its drop in the slot that the entry takes comes out beside the answer, and none beside
+/// any answer but `To`. Constant time, and no memory is taken.
 ///
 /// # Errors
 /// Nothing is taken out. In this order:

@@ -12,7 +12,7 @@ use crate::parking::{unlock, Leaver};
 pub const SWEPT_AT_ONCE: usize = 256;
 
 // What a step came to.
-#[derive(Clone, Copy, Debug, PartialEq, Eq)]
+#[derive(Clone, Copy, Debug)]
 pub(crate) enum Begun {
     // The step was made, or is refused.
     Answered(Result<Kept, ReopenError>),

@@ -126,18 +126,6 @@ fn tried<S>(lock: &Mutex<S>) -> Option<MutexGuard<'_, S>> {
     None
 }
 
-/// A number for each of so many shards, of whose locks nobody waits for one.
-///
-/// # Errors
-/// AllocError where memory is refused.
-pub fn waiting_row(shards: usize) -> Result<Vec<Waiting>, AllocError> {
-    let mut row = room_for(shards)?;
-    for _shard in 0..shards {
-        row.push(Waiting::nobody());
-    }
-    Ok(row)
-}
-
 /// Shards behind locks. To a contract it is how many.
 #[derive(Debug)]
 pub struct Row<S> {
@@ -147,12 +135,6 @@ pub struct Row<S> {
 }
 
 impl<S> Row<S> {
-    /// A row of these shards, with as many to count who waits.
-    pub fn new(shards: Vec<Mutex<S>>, waiting: Vec<Waiting>) -> Row<S> {
-        // requires vec_len waiting ≡ vec_len shards
-        Row { shards, waiting }
-    }
-
     /// How many there are.
     #[inline]
     pub fn len(&self) -> usize {
@@ -177,6 +159,18 @@ impl<S> Row<S> {
 }
 
 impl<S> Row<S> {
+    /// A row of these shards, of whose locks nobody waits for one.
+    ///
+    /// # Errors
+    /// `AllocError` if memory is refused.
+    pub fn new(shards: Vec<Mutex<S>>) -> Result<Row<S>, AllocError> {
+        let mut waiting = room_for(shards.len())?;
+        for _shard in 0..shards.len() {
+            waiting.push(Waiting::nobody());
+        }
+        Ok(Row { shards, waiting })
+    }
+
     /// A row of so many shards, made of queues with nothing in them, of which each has its place for its number.
     ///
     /// # Errors
@@ -192,11 +186,8 @@ impl<S> Row<S> {
             capacity,
             last_stamp,
         };
-        let Ok(waiting) = waiting_row(shards) else {
-            return Err(CoreError::NoMemory);
-        };
         match locked_shards(shards as u32, config) {
-            Ok(shards) => Ok(Row { shards, waiting }),
+            Ok(shards) => Ok(Row::new(shards)?),
             Err(_) => Err(CoreError::NoMemory),
         }
     }

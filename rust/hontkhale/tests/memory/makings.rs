@@ -208,17 +208,17 @@ const ROWS: &[Row] = &[
         aborting: &[],
         makes: |grants| asks(grants, || PlainQueue::<Box<u64>>::new(4)),
     },
-    // The row of shards, that of who waits for their locks, and eight for each shard.
+    // The row of shards, eight for each shard, and the row of who waits for their locks.
     Row {
         name: "a queue of one shard",
         allocations: 10,
-        aborting: &[3],
+        aborting: &[2],
         makes: |grants| asks(grants, || Boxes::new(QueueConfig::of(1, 4))),
     },
     Row {
         name: "a queue of three shards",
         allocations: 26,
-        aborting: &[3, 11, 19],
+        aborting: &[2, 10, 18],
         makes: |grants| asks(grants, || Boxes::new(QueueConfig::of(3, 4))),
     },
     Row {
@@ -230,7 +230,7 @@ const ROWS: &[Row] = &[
     Row {
         name: "a lasting queue",
         allocations: 18,
-        aborting: &[3, 11],
+        aborting: &[2, 10],
         makes: |grants| asks(grants, || Lasting::new(LastingConfig::of(2, 4))),
     },
     Row {
@@ -291,7 +291,7 @@ const ROWS: &[Row] = &[
     Row {
         name: "sessions",
         allocations: 18,
-        aborting: &[3, 11],
+        aborting: &[2, 10],
         makes: |grants| asks(grants, || IdleSessions::new(QueueConfig::of(2, 1), 10)),
     },
     Row {
