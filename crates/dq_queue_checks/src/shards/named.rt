@@ -127,6 +127,15 @@ fn inserted_by_two<J: Rooms + Send + Sync, R: Threads + Wait + Abort + Sync>(
     Ok(())
 }
 
+fn row_of_two<S: Drop>(alloc: Global, first: S, second: S) -> Option<Row<S>>
+    ensures { IfSome result (λ row. row ≡ 2) }
+{
+    let mut shards = Vec::with_capacity(alloc, 2).ok()?;
+    shards.push_reserved(Mutex::new(first));
+    shards.push_reserved(Mutex::new(second));
+    Row::new(shards).ok()
+}
+
 // A queue of two named shards.
 fn named_by_two<J: Rooms + Send + Sync, R: Threads + Wait + Abort + Sync>(
     rt: &R,
@@ -144,10 +153,7 @@ fn named_by_two<J: Rooms + Send + Sync, R: Threads + Wait + Abort + Sync>(
     let (other_state, other_history) = second;
     let first: NamedShard<u64, J> = NamedShard::of(state, history);
     let second: NamedShard<u64, J> = NamedShard::of(other_state, other_history);
-    let mut shards = Vec::with_capacity(alloc, 2).ok().ok_or("a row")?;
-    shards.push_reserved(Mutex::new(first));
-    shards.push_reserved(Mutex::new(second));
-    let row = Row::new(shards).ok().ok_or("who waits")?;
+    let row = row_of_two(alloc, first, second).ok_or("a row")?;
     inserted_by_two(rt, &NamedQueue::of(row))
 }
 
