@@ -225,6 +225,17 @@ class File:
         full = "::".join(filter(None, (self.module, name)))
         return [it for it in self.functions if it.name == full]
 
+    def has_types(self, function):
+        """Whether a function has type parameters, be it those of its impl."""
+        tokens, heads = self.tokens, []
+        for at, body in homes(tokens):
+            if tokens[at].place < function.begin < tokens[close_of(tokens, body)].place:
+                heads.append(tokens[at + 1:angle_close_of(tokens, at + 1)] if tokens[at + 1].text == "<" else ())
+        header = [it for it in tokens if function.begin <= it.place < function.body]
+        at = next(it for it, token in enumerate(header) if token.text == "fn") + 2
+        heads.append(header[at:angle_close_of(header, at)] if header[at].text == "<" else ())
+        return any(it.kind == "word" for head in heads for it in head) or any(it.text == "impl" for it in header)
+
     def copied(self, function, name):
         """The text of a function under another name, with what stands above it; none where it can't stand beside it, or
         where it calls itself."""

@@ -19,6 +19,8 @@ PLACED = re.compile(r"note: \S+:\d+:\d+:|\S+:\d+:\d+: error")
 NO_FUNCTION = re.compile(r"^rattle: error: `\w+` has no function `([^`]+)`", re.M)
 # How a check tells of a goal that it didn't prove, with the goal's name and what it found behind.
 UNPROVED = re.compile(r"^note: src/\S+ (?:it is not proved that .*|`search` found no proof )\(`([^`]+)`\)(.*)$")
+# How it tells of an answer that it refused, with the goal's name.
+REFUSED_ANSWER = re.compile(r"/Answers\.antt:\S+ error: `([^`]+)`:")
 # What it found, by what that cost: values at which the goal is false, no more to try, or the end of what it may try.
 FOUND = ("allow values", "", "gave up")
 LIMIT = re.compile(r"antt ran out of |(outgrew the memory limit|stopped at the step limit) \(")
@@ -26,8 +28,31 @@ LIMIT = re.compile(r"antt ran out of |(outgrew the memory limit|stopped at the s
 # Where an answer in a function's file is refused, rattle offers no other answers for the goals that it didn't prove, which
 # can take as long as the search for them did. It tells of each of these goals all the same.
 OFFERS_NOTHING = "offers_nothing : Type 0\noffers_nothing = not_searched\n"
-# An answer that is refused at once, so that nothing is searched for this goal.
-LEFT_OUT = "pub {0} : goal.{0}\n{0} = not_searched\n"
+# The answers of a function of which one goal is tried. That they name the proof is a cycle, so the check makes no proof, in
+# which it would try all the other goals. The one is tried in a file beside them.
+ALONE = """mod {2}
+use {0}.Answers.{2} as tried
+use {0}.Proof as proof
+use {0}.Goals as goal
+pub {1} : goal.{1}
+{1} = tried.{1}
+"""
+# That file, if nobody wrote an answer: what rattle tries on each goal. Only that it finds no proof is a reason.
+SEARCHED = """use Rattle.std.proofs.Common.{{rules}}
+use Rattle.std.proofs.lemmas.Grind.{{common_steps, elements}}
+use native.Mathlib.Omega.{{arith}}
+use {0}.Goals as goal
+pub {1} : goal.{1}
+{1} {2} = first_of (
+    search rules,
+    grind (arith, common_steps) steps 2000000,
+    grind (arith, elements) steps 2000000,
+    grind (arith, common_steps) steps 4000000,
+  )
+"""
+SEARCHED_FOR = re.compile(r"/Answers/Searched\.antt:(?!.*: no proof of )")
+# A goal for which an answer is written.
+WRITTEN = re.compile(r"^pub (\S+) : goal\.", re.M)
 # The proof of a function that was proved before, in a check that only has to take its contract: it is refused at once.
 TAKEN = "pub {0}_spec : Type 0\n{0}_spec = not_searched\n"
 # What is said of a function's proof that has such an answer, and is no reason.
@@ -35,6 +60,13 @@ OURS = "`not_searched`"
 
 # How a run tells what isn't refused.
 WORDS = {"proved": "NOT REFUSED", "bad": "BAD EDIT", "elsewhere": "REFUSED ELSEWHERE", "not judged": "NOT JUDGED"}
+
+
+def alone(text, goal):
+    """The text of a function's answers without those for other goals."""
+    others = set(WRITTEN.findall(text)) - {goal}
+    parts = re.split(r"^(?=\S)", text, flags=re.M)
+    return "".join(it for it in parts if re.match(r"(?:pub )?(\S*)", it)[1] not in others)
 
 
 def name_among(names, function):
@@ -87,7 +119,7 @@ class Answer:
         """The lines that the check has on a function's proof."""
         folder = re.escape(name.replace("::", "/"))
         found = re.findall(rf"^(?:note: )?(?:\./)?(?:proofs/{folder}/\S+: error.*)$", self.text, re.M)
-        return [it for it in found if OURS not in it]
+        return [it for it in found if OURS not in it and not SEARCHED_FOR.search(it)]
 
     def name_of(self, function):
         """The name that the check gives a function."""
@@ -121,9 +153,14 @@ class Answer:
         return [it for it in self.functions if it not in mine and it not in self.taken and self.own_reason(it)]
 
     def goals_of(self, edit):
-        """By the functions that an edit changes, the goals that the check didn't prove, where that is more than one."""
-        found = {it: [goal for goal, _ in self.unproved(it)] for it in map(self.name_of, edit.wrong())}
-        return {name: list(dict.fromkeys(goals)) for name, goals in found.items() if len(set(goals)) > 1}
+        """By the functions that an edit changes, a goal that the check didn't prove: the one that cost least, or else one
+        whose written answer it refused."""
+        found = {}
+        for name in map(self.name_of, edit.wrong()):
+            goals = [goal for goal, _ in self.unproved(name)] or REFUSED_ANSWER.findall("\n".join(self.errors_of(name)))
+            if goals:
+                found[name] = goals[0]
+        return found
 
     def all_unread(self):
         """The lines that say that a text couldn't be compiled or read, each with its file and its place there."""

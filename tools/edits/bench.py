@@ -91,13 +91,13 @@ class Bench:
             kept = self.room / "kept" / crate.name
             kept.mkdir(parents=True, exist_ok=True)
             shutil.copytree(kept, folder / "out" / "incremental", copy_function=link)
-            for path, text in crate.texts_with(edits).items():
-                if text != crate.texts[path]:
-                    (folder / path).write_text(text, encoding="utf-8")
             for edit in (it for it in edits if it.copy):
                 copy_proof(crate, folder, edit)
             taken = take_contracts(crate, folder, edits) if takes_contracts else ()
-            searched = self.offer_nothing(crate, folder, edits)
+            for path, text in crate.texts_with(edits, taken).items():
+                if text != crate.texts[path]:
+                    (folder / path).write_text(text, encoding="utf-8")
+            searched = self.search(crate, folder, edits)
             only = sorted({name for it in edits for name in it.functions()})
             status, said = self.ran(crate.name, folder, self.rattle(crate.name, folder, only))
             if answers.NO_FUNCTION.search(said):
@@ -111,16 +111,20 @@ class Bench:
         finally:
             shutil.rmtree(at, ignore_errors=True)
 
-    def offer_nothing(self, crate, folder, edits):
-        """Has a check only tell what isn't proved of the functions of these edits, where that may do: which they are."""
+    def search(self, crate, folder, edits):
+        """Has a check only tell what isn't proved of the functions of these edits, where that may do: which they are. If a
+        goal is noted of one, the check tries that goal alone."""
         found = []
         for edit, function in ((edit, it) for edit in edits if edit.is_searched() for it in edit.bodies):
             its = crate.name_of(edit.wrong()[0] if edit.copy else function)
-            at = folder / "proofs" / its.replace("::", "/")
+            at, goal = folder / "proofs" / its.replace("::", "/"), edit.fails.get(crate.name_of(function))
             if not (at / "Proof.antt").exists():
                 found.append(its)
-                others = [] if self.notes_goals else edit.fails.get(crate.name_of(function), [])[1:]
-                leave_out(at, f"Rattle.{crate.name}.proofs.{its.replace('::', '.')}", others)
+                at.mkdir(parents=True, exist_ok=True)
+                if goal and not self.notes_goals and not crate.has_tactics(function):
+                    try_alone(at, f"Rattle.{crate.name}.proofs.{its.replace('::', '.')}", goal, crate.has_types(function))
+                else:
+                    offer_nothing(at)
         return found
 
 
@@ -161,17 +165,22 @@ def take_contracts(crate, folder, edits):
     return found
 
 
-def leave_out(folder, module, goals):
-    """Adds answers that are refused to a function's file: one so that no other is offered, and one for each of these goals
-    so that they aren't searched for."""
-    folder.mkdir(parents=True, exist_ok=True)
-    file = folder / "Answers.antt"
-    before = file.read_text(encoding="utf-8") if file.exists() else ""
-    goals = [it for it in goals if f"\npub {it} :" not in f"\n{before}"]
-    uses = f"use {module}.Goals as goal\n"
-    parts = [uses] if goals and uses not in before else []
-    parts += [before, *map(answers.LEFT_OUT.format, goals), answers.OFFERS_NOTHING]
-    file.write_text("\n".join(parts), encoding="utf-8")
+def offer_nothing(folder):
+    """Adds an answer that is refused to a function's file, so that no other is offered."""
+    with (folder / "Answers.antt").open("a", encoding="utf-8") as file:
+        file.write(f"\n{answers.OFFERS_NOTHING}")
+
+
+def try_alone(folder, module, goal, has_types):
+    """Has a check try one goal of a function: by the answer that was written for it, or else as the prover would."""
+    answers_file = folder / "Answers.antt"
+    before = answers_file.read_text(encoding="utf-8") if answers_file.exists() else ""
+    beside, text = "Written", answers.alone(before, goal)
+    if goal not in answers.WRITTEN.findall(before):
+        beside, text = "Searched", answers.SEARCHED.format(module, goal, "g c" if has_types else "c")
+    (folder / "Answers").mkdir(exist_ok=True)
+    (folder / "Answers" / f"{beside}.antt").write_text(text, encoding="utf-8")
+    answers_file.write_text(answers.ALONE.format(module, goal, beside), encoding="utf-8")
 
 
 def link(one, other):

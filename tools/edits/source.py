@@ -77,8 +77,8 @@ def read(path, crate=""):
         elif word == "error":
             edit.error = rest.strip()
         elif word == "fails":
-            name, *goals = rest.split()
-            edit.fails.setdefault(name, []).extend(goals)
+            name, goal = rest.split()
+            edit.fails[name] = goal
     return edit
 
 
@@ -211,26 +211,48 @@ class Crate:
         return text and (name, text)
 
     def right(self, edits):
-        """Of each function that these edits copy, a copy with the right body, as an edit that changes nothing."""
+        """Of each of these edits that is a copy, a copy with the right body, as an edit that changes nothing."""
         found = []
-        for function in dict.fromkeys(it for edit in edits if edit.copy for it in edit.bodies):
-            copy = self.copied(self.sources[self.place_of(function)[0]], function, f"{function.rpartition('::')[2]}_right")
-            found.append(Edit(self.name, function, copy=copy, bodies={function: None}))
+        for number, edit in enumerate((it for it in edits if it.copy), 1):
+            (function,) = edit.bodies
+            plain = f"{function.rpartition('::')[2]}_right{number}"
+            copy = self.copied(self.sources[self.place_of(function)[0]], function, plain)
+            found.append(Edit(self.name, edit.name, copy=copy, bodies={function: None}, fails=edit.fails))
         return found
+
+    def has_types(self, function):
+        """Whether a function has type parameters, be it those of its impl."""
+        path, it = self.place_of(function)
+        return self.sources[path].has_types(it)
+
+    def has_tactics(self, function):
+        """Whether a function names tactics of its own."""
+        path, it = self.place_of(function)
+        return "#[tactic(" in self.texts[path][it.above:it.begin]
 
     def free(self):
         """The functions beside which others may stand, as a check is likely to name them."""
         return [self.name_of(it.name) for file in self.sources.values() for it in file.functions if it.is_free]
 
-    def texts_with(self, edits):
-        """The texts with these edits in them: copies with wrong bodies beside the right ones, the others in their place."""
+    def texts_with(self, edits, taken=()):
+        """The texts with these edits in them: copies with wrong bodies beside the right ones, the others in their place. What
+        is taken has no body, so that nothing is made of it."""
         texts = applied([pair for it in edits if not it.copy for pair in it.pairs], self.texts)
         for edit in (it for it in edits if it.copy):
             (function,) = edit.bodies
             path = self.place_of(function)[0]
             end = next(it.end for it in file_of(path, texts[path]).functions if it.name == function)
             texts[path] = f"{texts[path][:end]}\n\n{edit.copy[1]}{texts[path][end:]}"
-        return texts
+        return {path: self.emptied(path, text, taken) if path in self.sources else text for path, text in texts.items()}
+
+    def emptied(self, path, text, taken):
+        """The text of a file without the bodies of functions that are taken, if there are any."""
+        parts, at = [], 0
+        for it in file_of(path, text).functions if taken else ():
+            if it.is_free and self.name_of(it.name) in taken:
+                parts += [text[at:it.body], "{ loop {} }"]
+                at = it.end
+        return "".join([*parts, text[at:]])
 
     def name_of(self, function):
         """The name that a check is likely to give a function: a method stands in the module of its type."""

@@ -49,8 +49,55 @@ fn take_all<A: Allocator, R: Wait>(
     Ok(out)
 }
 
+// No place opens while it holds an entry.
+fn refuses<A: Allocator + Clone + Drop, R: Abort + Wait>(
+    rt: &R,
+    queue: &Numbers<A>,
+    alloc: A,
+    linked: usize,
+) {
+    let refused = queue.open_place(rt, alloc, 0, 64, true);
+    same(
+        rt,
+        "refused",
+        refused,
+        Err(OpenError::StillLinked { linked }),
+    );
+}
+
+// Opens the second place with so many slots, and puts the values from one on in until the queue is full again.
+fn opens<A: Allocator + Clone + Drop, R: Abort + Wait>(
+    rt: &R,
+    queue: &Numbers<A>,
+    alloc: A,
+    slots: usize,
+    from: u32,
+) -> Result<u32, LastingError> {
+    same(
+        rt,
+        "opened",
+        queue.open_place(rt, alloc, 1, slots, true),
+        Ok(()),
+    );
+    fill(rt, queue, from)
+}
+
+// The values below one come out, each once.
+fn gives_each<A: Allocator, R: Abort + Wait>(
+    rt: &R,
+    queue: &Numbers<A>,
+    count: u32,
+) -> Result<(), LastingError> {
+    let none = Out { count: 0, bits: 0 };
+    let some = take_all(rt, queue, 0, none)?;
+    let all = take_all(rt, queue, 1, some)?;
+    let bits = !u64::MAX.wrapping_shl(count);
+    same(rt, "all", all, Out { count, bits });
+    Ok(())
+}
+
 // A queue is full of entries at its first place, and its other one isn't open. Once that opens it takes as many more as it
-// has slots, an old key is good as before, and all come out. No place opens while it holds an entry.
+// has slots, an old key is good as before, and all come out.
 fn grows<A: Allocator + Clone + Drop, R: Abort + Wait>(
     rt: &R,
     alloc: A,
@@ -63,24 +110,11 @@ fn grows<A: Allocator + Clone + Drop, R: Abort + Wait>(
     let key = queue.insert_or_drop(rt, 0, 0, 5)?;
     let full = fill(rt, &queue, 1)?;
     same(rt, "full", full as usize, small);
-    let refused = queue.open_place(rt, alloc.clone()?, 0, large, true);
-    let linked = OpenError::StillLinked { linked: small };
-    same(rt, "refused", refused, Err(linked));
-
-    let opened = queue.open_place(rt, alloc, 1, large, true);
-    same(rt, "opened", opened, Ok(()));
-    let grown = fill(rt, &queue, full)?;
+    refuses(rt, &queue, alloc.clone()?, small);
+    let grown = opens(rt, &queue, alloc, large, full)?;
     same(rt, "grown", grown as usize, small.wrapping_add(large));
     same(rt, "deadline", queue.deadline(rt, &key.entry()), Ok(5));
-    let none = Out { count: 0, bits: 0 };
-    let some = take_all(rt, &queue, 0, none)?;
-    let all = take_all(rt, &queue, 1, some)?;
-    let each = Out {
-        count: grown,
-        bits: !u64::MAX.wrapping_shl(grown),
-    };
-    same(rt, "all", all, each);
-    Ok(())
+    Ok(gives_each(rt, &queue, grown)?)
 }
 
 // promise: lasting.place-opens
