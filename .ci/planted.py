@@ -20,7 +20,7 @@ import tomllib
 TOP = pathlib.Path(__file__).resolve().parent.parent
 # A function that isn't proved with the second text.
 LEN, WRONG_LEN = "self.handles.len()\n", "let most = self.most; most\n"
-REFUSED_TOO = "test-edits: small: a right body is refused too, as idle::Idle::len_right: nothing is known of its edits"
+REFUSED_TOO = "test-edits: small: a right body is refused too, as idle::Idle::len_right1: nothing is known of its edits"
 
 
 def script(path, says, status):

@@ -37,7 +37,7 @@ use {0}.Goals as goal
 pub {1} : goal.{1}
 {1} = tried.{1}
 """
-# That file, if nobody wrote an answer: what rattle tries on each goal. Only that it finds no proof is a reason.
+# That file, if nobody wrote an answer: what rattle tries on each goal.
 SEARCHED = """use Rattle.std.proofs.Common.{{rules}}
 use Rattle.std.proofs.lemmas.Grind.{{common_steps, elements}}
 use native.Mathlib.Omega.{{arith}}
@@ -50,7 +50,8 @@ pub {1} : goal.{1}
     grind (arith, common_steps) steps 4000000,
   )
 """
-SEARCHED_FOR = re.compile(r"/Answers/Searched\.antt:(?!.*: no proof of )")
+# What is said of that file and is no reason, since it isn't what one of these tactics came to.
+UNSEARCHED = re.compile(r"/Answers/Searched\.antt:(?!\S+ error: `[^`]+`: `(?:search|grind|omega)`: )")
 # A goal for which an answer is written.
 WRITTEN = re.compile(r"^pub (\S+) : goal\.", re.M)
 # The proof of a function that was proved before, in a check that only has to take its contract: it is refused at once.
@@ -119,7 +120,7 @@ class Answer:
         """The lines that the check has on a function's proof."""
         folder = re.escape(name.replace("::", "/"))
         found = re.findall(rf"^(?:note: )?(?:\./)?(?:proofs/{folder}/\S+: error.*)$", self.text, re.M)
-        return [it for it in found if OURS not in it and not SEARCHED_FOR.search(it)]
+        return [it for it in found if OURS not in it and not UNSEARCHED.search(it)]
 
     def name_of(self, function):
         """The name that the check gives a function."""
@@ -236,6 +237,9 @@ def judge(crate, edits, answer):
         own = answer.reason_of(edit)
         if own:
             edit.came_to, edit.why = "refused", own
+        elif edit.fails:
+            # its goal is proved, or isn't there any more: next all are tried
+            edit.fails = {}
         else:
             edit.tries += 1
             waits = any(answer.functions.get(answer.name_of(it), ("",))[0].startswith("no") for it in edit.wrong())

@@ -77,7 +77,7 @@ def read(path, crate=""):
         elif word == "error":
             edit.error = rest.strip()
         elif word == "fails":
-            name, goal = rest.split()
+            name, _, goal = rest.strip().partition(" ")
             edit.fails[name] = goal
     return edit
 
