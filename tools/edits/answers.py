@@ -157,7 +157,8 @@ class Answer:
         whose written answer it refused."""
         found = {}
         for name in map(self.name_of, edit.wrong()):
-            goals = [goal for goal, _ in self.unproved(name)] or REFUSED_ANSWER.findall("\n".join(self.errors_of(name)))
+            errors = "\n".join(it for it in self.errors_of(name) if not NAMES.search(it))
+            goals = [goal for goal, _ in self.unproved(name)] or REFUSED_ANSWER.findall(errors)
             if goals:
                 found[name] = goals[0]
         return found

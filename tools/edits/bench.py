@@ -86,6 +86,9 @@ class Bench:
         folder = self.begin(crate.name)
         at, takes_contracts = folder.parent.parent, all(it.is_searched() for it in edits) and any(it.copy for it in edits)
         controls = crate.right([it for it in edits if it.pairs])[:1] if takes_contracts else []
+        for it in controls:
+            # it is proved as a whole
+            it.fails = {}
         edits = [*edits, *controls]
         try:
             kept = self.room / "kept" / crate.name
