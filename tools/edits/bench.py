@@ -116,7 +116,7 @@ class Bench:
 
     def search(self, crate, folder, edits):
         """Has a check only tell what isn't proved of the functions of these edits, where that may do: which they are. If a
-        goal is noted of one, the check tries that goal alone."""
+        goal is noted of a copy, which nothing calls, the check tries that goal alone."""
         found = []
         for edit, function in ((edit, it) for edit in edits if edit.is_searched() for it in edit.bodies):
             its = crate.name_of(edit.wrong()[0] if edit.copy else function)
@@ -124,7 +124,7 @@ class Bench:
             if not (at / "Proof.antt").exists():
                 found.append(its)
                 at.mkdir(parents=True, exist_ok=True)
-                if goal and not self.notes_goals and not crate.has_tactics(function):
+                if goal and edit.copy and not self.notes_goals and not crate.has_tactics(function):
                     try_alone(at, f"Rattle.{crate.name}.proofs.{its.replace('::', '.')}", goal, crate.has_types(function))
                 else:
                     offer_nothing(at)
