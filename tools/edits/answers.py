@@ -65,7 +65,7 @@ WORDS = {"proved": "NOT REFUSED", "bad": "BAD EDIT", "elsewhere": "REFUSED ELSEW
 def alone(text, goal):
     """The text of a function's answers without those for other goals."""
     others = set(WRITTEN.findall(text)) - {goal}
-    parts = re.split(r"^(?=\S)", text, flags=re.M)
+    parts = re.split(r"^(?=[^\s})\]])", text, flags=re.M)
     return "".join(it for it in parts if re.match(r"(?:pub )?(\S*)", it)[1] not in others)
 
 
