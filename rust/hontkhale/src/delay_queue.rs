@@ -406,11 +406,16 @@ impl<T> DelayQueue<T> {
     }
 
     /// The number of entries that wait, or are due and didn't come out yet.
+    ///
+    /// While other threads change the queue it is about that number, and never too small: each entry that stays there during
+    /// the call is counted. One that comes or ends meanwhile may be counted too, and one that the queue moves meanwhile, from
+    /// a shard that it renews, may be counted twice.
     pub fn len(&self) -> usize {
         self.shared.waiting()
     }
 
-    /// Whether no entry waits.
+    /// Whether no entry waits. While other threads change the queue it tells that about as [`len`](DelayQueue::len) does: it may
+    /// be false though none is left, and is never true while an entry stays there.
     pub fn is_empty(&self) -> bool {
         self.len() == 0
     }

@@ -1,5 +1,6 @@
 //! What the clones of a queue share: its segments, and the calls by key.
 
+mod counting;
 mod due;
 mod reserve;
 mod sweep;
@@ -20,8 +21,8 @@ use crate::ticks::LAST_TICK;
 use crate::ticks::{self, EntryId, CAPACITY_LIMIT};
 use std::mem;
 use std::sync::atomic::{
-    AtomicU64, AtomicUsize,
-    Ordering::{Relaxed, SeqCst},
+    fence, AtomicU64, AtomicUsize,
+    Ordering::{Relaxed, Release, SeqCst},
 };
 use std::sync::{Arc, Mutex, MutexGuard, OnceLock, PoisonError};
 use std::thread;
@@ -235,16 +236,6 @@ impl<T> Shared<T> {
     pub fn segments(&self) -> impl Iterator<Item = (usize, &Segment<T>)> {
         let open = self.open.load(SeqCst);
         (0..open).filter_map(|at| Some((at, self.segment(at)?)))
-    }
-
-    /// How many entries wait. While others change the queue it is a number of about then.
-    pub fn waiting(&self) -> usize {
-        if let Some(bound) = &self.front.bound {
-            return bound.waiting();
-        }
-        let rows = self.segments().flat_map(|(_, segment)| segment.rows.iter());
-        let left: u64 = rows.map(Row::left).sum();
-        left.saturating_sub(self.front.cancels()) as usize
     }
 
     /// The least hint: nothing is due before it.
@@ -629,6 +620,8 @@ impl<T> Shared<T> {
             Ok((to, Moved::To { key: present, .. })) => {
                 moves.note(key, self.key(*to, present));
                 self.moves_made.fetch_add(1, SeqCst);
+                // Before the source's row says that it has gone, for whoever counts meanwhile.
+                fence(Release);
             }
             Ok((_, Moved::Out(_))) => drop(moves.end(place)),
             Err(_) => {}

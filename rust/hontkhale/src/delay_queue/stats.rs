@@ -15,7 +15,8 @@ const SHARD_BYTES: usize = 10_000;
 #[derive(Clone, Copy, Debug, PartialEq, Eq)]
 #[non_exhaustive]
 pub struct Stats {
-    /// The entries that wait, or are due and didn't come out yet.
+    /// The entries that wait, or are due and didn't come out yet: about so many while other threads change the queue, and
+    /// never too few, as [`len`](crate::DelayQueue::len) tells.
     pub waiting: usize,
     /// The entries that were cancelled and whose values aren't dropped yet.
     pub cancelled: usize,
