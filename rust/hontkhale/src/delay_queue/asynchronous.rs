@@ -6,10 +6,11 @@
 
 use crate::delay_queue::receive::Step;
 use crate::delay_queue::shared::Shared;
+use crate::delay_queue::waking;
 use crate::delay_queue::{DelayQueue, Expired};
 use std::fmt;
 use std::mem;
-use std::panic::{catch_unwind, resume_unwind, AssertUnwindSafe};
+use std::panic::resume_unwind;
 use std::sync::atomic::{AtomicU64, Ordering::SeqCst};
 use std::sync::{Arc, Mutex, MutexGuard, PoisonError};
 use std::task::{Context, Poll, Waker};
@@ -97,15 +98,15 @@ impl Tasks {
 
 /// Wakes each of them. Where a waker panics, those behind it are woken before the panic goes on.
 fn wake_each(tasks: &[Arc<Task>]) {
-    let woken = tasks.iter().map(|task| catch_unwind(AssertUnwindSafe(|| task.wake())));
-    if let Err(panic) = woken.fold(Ok(()), Result::and) {
-        resume_unwind(panic);
-    }
+    waking::wake_each(tasks, |task| task.wake()).unwrap_or_else(|panic| resume_unwind(panic));
 }
 
 /// Receives from a [`DelayQueue`] in a task, under any runtime that has timers.
 ///
 /// It keeps the queue alive as a clone does. Any number of tasks and threads may receive from one queue.
+///
+/// A waker that panics keeps nobody asleep: all whom the call wakes are woken, and then the panic goes on to whoever made it. An
+/// insert's entry is in then, but its key is lost with the panic.
 ///
 /// ```
 /// use hontkhale::DelayQueue;

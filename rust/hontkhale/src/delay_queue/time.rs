@@ -1,7 +1,9 @@
 //! From where a queue has the time.
 
+use crate::delay_queue::waking::wake_each;
 use crate::ticks::LAST_TICK;
 use std::fmt;
+use std::panic::resume_unwind;
 use std::sync::atomic::{AtomicU64, Ordering::SeqCst};
 use std::sync::{Arc, Mutex, MutexGuard, PoisonError};
 use std::time::{Duration, Instant};
@@ -50,6 +52,9 @@ impl ManualClock {
     }
 
     /// Goes on by that much, at most to 584 years after its start, and wakes the receivers that wait for it.
+    ///
+    /// # Panics
+    /// If a task's waker panics. The receivers of all queues are woken before, and of several panics the first goes on.
     pub fn advance(&self, by: Duration) {
         let by = u64::try_from(by.as_nanos()).unwrap_or(u64::MAX);
         let _ = self
@@ -57,11 +62,17 @@ impl ManualClock {
             .passed
             .fetch_update(SeqCst, SeqCst, |passed| Some(passed.saturating_add(by)));
         let queues = self.queues().clone();
-        let gone: Vec<_> = queues.into_iter().filter(|wakes| !wakes()).collect();
+        let mut gone = Vec::new();
+        let woken = wake_each(&queues, |wakes| {
+            if !wakes() {
+                gone.push(Arc::clone(wakes));
+            }
+        });
         if !gone.is_empty() {
             self.queues()
                 .retain(|wakes| !gone.iter().any(|other| Arc::ptr_eq(wakes, other)));
         }
+        woken.unwrap_or_else(|panic| resume_unwind(panic));
     }
 
     fn queues(&self) -> MutexGuard<'_, Vec<Arc<Wakes>>> {

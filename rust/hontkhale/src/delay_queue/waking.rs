@@ -9,8 +9,11 @@
 //! What is here are the steps, each of which touches once what threads share. `tests` tries every order of them.
 
 use std::collections::VecDeque;
+use std::mem;
+use std::panic::{catch_unwind, AssertUnwindSafe};
 use std::sync::atomic::{AtomicBool, AtomicU64, Ordering::SeqCst};
 use std::sync::{Mutex, MutexGuard, PoisonError};
+use std::thread;
 
 /// The tick of what never comes.
 pub(crate) const NEVER: u64 = u64::MAX;
@@ -199,6 +202,21 @@ impl Wait {
     pub fn leave<W: Clone>(self, bell: &Bell<W>) -> Option<W> {
         bell.leave(self.seat)
     }
+}
+
+/// Makes a call with each of them, all of which it makes though some panic, and gives the first panic.
+pub(crate) fn wake_each<W>(all: &[W], mut wake: impl FnMut(&W)) -> thread::Result<()> {
+    let mut woken = Ok(());
+    for one in all {
+        let called = catch_unwind(AssertUnwindSafe(|| wake(one)));
+        if woken.is_ok() {
+            woken = called;
+        } else if let Err(within) = catch_unwind(AssertUnwindSafe(|| drop(called))) {
+            // A panic's value may panic as it is dropped, and so may that of this panic.
+            mem::forget(within);
+        }
+    }
+    woken
 }
 
 #[cfg(test)]

@@ -2,7 +2,7 @@
 
 use hontkhale::delay_queue::{AsyncReceiver, Expired, ManualClock};
 use hontkhale::DelayQueue;
-use std::panic::{catch_unwind, AssertUnwindSafe};
+use std::panic::{catch_unwind, panic_any, AssertUnwindSafe};
 use std::sync::atomic::{AtomicUsize, Ordering::SeqCst};
 use std::sync::Arc;
 use std::task::{Context, Poll, RawWaker, RawWakerVTable, Wake, Waker};
@@ -180,6 +180,65 @@ fn a_waker_that_panics_keeps_no_other_task_asleep() {
         assert!(poll(&mut other, &wakes).is_pending());
         assert!(catch_unwind(AssertUnwindSafe(|| call(&queue))).is_err());
         assert_eq!(wakes.take(), 1);
+    }
+}
+
+#[test]
+fn a_waker_that_panics_keeps_nobody_of_another_queue_asleep() {
+    let clock = ManualClock::new();
+    let queues: Vec<DelayQueue<String>> = (0..3).map(|_| DelayQueue::builder().clock(&clock).build()).collect();
+    let wakes = Arc::<Wakes>::default();
+    let panics = Waker::from(Arc::new(Panics));
+    let mut receivers: Vec<_> = queues.iter().map(DelayQueue::receiver).collect();
+    for receiver in &mut receivers[..2] {
+        assert!(receiver.poll_recv(&mut Context::from_waker(&panics)).is_pending());
+    }
+    assert!(poll(&mut receivers[2], &wakes).is_pending());
+    let panic = catch_unwind(AssertUnwindSafe(|| clock.advance(SECOND))).expect_err("a waker's panic");
+    assert_eq!(panic.downcast_ref(), Some(&"a waker that panics"));
+    assert_eq!(wakes.take(), 1);
+}
+
+/// A waker that panics with what panics itself as it is dropped.
+struct PanicsToo(Arc<AtomicUsize>);
+
+impl Wake for PanicsToo {
+    fn wake(self: Arc<Self>) {
+        panic_any(Bomb(Arc::clone(&self.0)));
+    }
+}
+
+struct Bomb(Arc<AtomicUsize>);
+
+impl Drop for Bomb {
+    fn drop(&mut self) {
+        self.0.fetch_add(1, SeqCst);
+        panic!("a panic's value that panics");
+    }
+}
+
+#[test]
+fn a_panic_that_panics_as_it_is_dropped_keeps_nobody_asleep() {
+    let calls: [fn(&ManualClock, &DelayQueue<String>); 3] = [
+        |_, queue| _ = queue.insert("sooner".to_string(), SECOND),
+        |_, queue| queue.close(),
+        |clock, _| clock.advance(SECOND),
+    ];
+    for call in calls {
+        let clock = ManualClock::new();
+        let queue = DelayQueue::builder().clock(&clock).build();
+        let (drops, wakes) = (Arc::<AtomicUsize>::default(), Arc::<Wakes>::default());
+        let panics = Waker::from(Arc::new(PanicsToo(Arc::clone(&drops))));
+        let mut receivers = [queue.receiver(), queue.receiver(), queue.receiver()];
+        for receiver in &mut receivers[..2] {
+            assert!(receiver.poll_recv(&mut Context::from_waker(&panics)).is_pending());
+        }
+        assert!(poll(&mut receivers[2], &wakes).is_pending());
+        let panic = catch_unwind(AssertUnwindSafe(|| call(&clock, &queue))).expect_err("a waker's panic");
+        assert_eq!((wakes.take(), drops.load(SeqCst)), (1, 1));
+        assert!(panic.is::<Bomb>());
+        assert!(catch_unwind(AssertUnwindSafe(|| drop(panic))).is_err());
+        assert_eq!(drops.load(SeqCst), 2);
     }
 }
 
