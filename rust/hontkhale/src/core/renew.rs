@@ -104,6 +104,7 @@ impl<T, W: Words> DelayCore<T, W> {
     }
 
     // Notes a tick, where nothing is linked, and goes to it. Constant time.
+    #[cfg(feature = "std")]
     fn come_to(&mut self, tick: u64) {
         // requires linked_in self.old ≡ 0
         // requires self.old.noted ≤ tick
@@ -123,6 +124,7 @@ impl<T, W: Words> DelayCore<T, W> {
     /// `fresh` comes back, and nothing changes. In this order:
     /// - `StillLinked` if an entry is in the queue, even a cancelled one.
     /// - `UsedNumber` if the number of `fresh` isn't higher than the queue's.
+    #[cfg(feature = "std")]
     #[allow(clippy::result_large_err)]
     pub(crate) fn renew_as(
         &mut self,
