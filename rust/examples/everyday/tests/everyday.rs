@@ -12,6 +12,8 @@ mod retries;
 use hontkhale::delay_queue::ManualClock;
 use hontkhale::DelayQueue;
 use request_deadlines::Reply;
+#[cfg(target_os = "linux")]
+use std::fs;
 use std::io::{Read, Write};
 use std::net::{TcpListener, TcpStream};
 use std::thread;
@@ -34,6 +36,26 @@ fn a_connection_that_is_idle_is_closed_and_one_that_talks_is_not() {
     }
     assert_eq!(ended.join().unwrap(), 0);
     assert_eq!(talks.read(&mut [0]).unwrap(), 0, "it idles now");
+}
+
+/// A server may open so many descriptors at most.
+#[cfg(target_os = "linux")]
+#[test]
+fn a_connection_takes_one_descriptor() {
+    let listener = TcpListener::bind("127.0.0.1:0").unwrap();
+    let address = listener.local_addr().unwrap();
+    thread::spawn(move || idle_timeouts::serve(listener, Duration::from_secs(600)));
+    let mut client = TcpStream::connect(address).unwrap();
+    client.write_all(b"ping").unwrap();
+    client.read_exact(&mut [0; 4]).unwrap();
+    let links = fs::read_dir("/proc/self/fd").unwrap().flatten();
+    let mut sockets: Vec<_> = links.filter_map(|link| fs::read_link(link.path()).ok()).collect();
+    sockets.retain(|to| to.to_string_lossy().starts_with("socket:"));
+    let count = sockets.len();
+    sockets.sort();
+    sockets.dedup();
+    assert!(sockets.len() >= 3, "a listener and a connection's two ends");
+    assert_eq!(count, sockets.len(), "descriptors, and sockets that they lead to");
 }
 
 #[test]

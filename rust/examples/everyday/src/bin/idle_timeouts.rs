@@ -4,12 +4,13 @@ use hontkhale::DelayQueue;
 use std::error::Error;
 use std::io::{Read, Write};
 use std::net::{Shutdown, TcpListener, TcpStream};
+use std::sync::Arc;
 use std::thread;
 use std::time::Duration;
 
 pub fn serve(listener: TcpListener, idle: Duration) {
     let queue = DelayQueue::new();
-    let idle_ones: DelayQueue<TcpStream> = queue.clone();
+    let idle_ones: DelayQueue<Arc<TcpStream>> = queue.clone();
     thread::spawn(move || {
         for expired in &idle_ones {
             let _ = expired.value.shutdown(Shutdown::Both);
@@ -22,8 +23,10 @@ pub fn serve(listener: TcpListener, idle: Duration) {
 }
 
 /// When the connection ends, whatever ends it, the guard removes the entry.
-fn echo(mut stream: TcpStream, queue: &DelayQueue<TcpStream>, idle: Duration) -> Result<(), Box<dyn Error>> {
-    let timeout = queue.guard(stream.try_clone()?, idle)?;
+fn echo(stream: TcpStream, queue: &DelayQueue<Arc<TcpStream>>, idle: Duration) -> Result<(), Box<dyn Error>> {
+    let stream = Arc::new(stream);
+    let timeout = queue.guard(Arc::clone(&stream), idle)?;
+    let mut stream = &*stream;
     let mut buffer = [0; 4_096];
     loop {
         match stream.read(&mut buffer)? {
