@@ -12,7 +12,7 @@ import threading
 import time
 
 from cluster import EFFECT, HANG, cluster, end, free_port, wait_for
-from holder import Connection, Holder, Refusal, packed, replaced
+from holder import GONE, Connection, Holder, Refusal, packed, replaced
 from hostile import LONG, WAIT, empty, exactly_once
 
 
@@ -237,11 +237,16 @@ def frozen_host(it):
         holder.take(1, also=lambda: holder.beat(holder.jobs.values()))
     assert not replaced(holder.jobs.values(), 6), "a holder that beats is replaced"
     worker.send_signal(signal.SIGCONT)
-    late = asks.reply()
+    try:
+        late = asks.reply()
+    except GONE:
+        # After so long it gives up whoever hasn't read its answer.
+        late, asks = [], Connection(frozen)
     late = [] if isinstance(late, Refusal) else late
-    words = [asks.call("JOBS.DONE", id, attempt) for id, attempt, *_ in late]
+    first = {(id, attempt) for id, attempt, *_ in late} | {(job.id, 1) for job in holder.jobs.values() if job.attempt > 1}
+    words = [asks.call("JOBS.DONE", *it) for it in first]
     assert all(isinstance(word, Refusal) for word in words), words
-    words = [holder.connection(other).call("JOBS.DONE", id, attempt) for id, attempt, *_ in late]
+    words = [holder.connection(other).call("JOBS.DONE", *it) for it in first]
     assert all(word.startswith("FENCED") for word in words), words
     holder.end()
     assert done(it) == 100, done(it)
