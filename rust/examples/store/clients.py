@@ -12,14 +12,14 @@ import redis
 
 def sessions(store):
     """A session store: made, looked at, prolonged, ended."""
-    assert store.set("session:1", "ann", px=60_000, nx=True)
-    assert not store.set("session:1", "bob", px=60_000, nx=True)
-    assert store.get("session:1") == "ann" and 59_000 < store.pttl("session:1") <= 60_000
-    assert store.expire("session:1", 120, gt=True) and not store.expire("session:1", 90, gt=True)
-    assert store.getex("session:1", ex=30) == "ann" and store.ttl("session:1") == 30
+    assert store.set("session:1", "ann", px=6_000_000, nx=True)
+    assert not store.set("session:1", "bob", px=6_000_000, nx=True)
+    assert store.get("session:1") == "ann" and 5_900_000 < store.pttl("session:1") <= 6_000_000
+    assert store.expire("session:1", 12_000, gt=True) and not store.expire("session:1", 9_000, gt=True)
+    assert store.getex("session:1", ex=3_000) == "ann" and 2_900 < store.ttl("session:1") <= 3_000
     assert store.persist("session:1") and store.ttl("session:1") == -1
     assert store.getdel("session:1") == "ann" and store.get("session:1") is None
-    store.setex("short", 1, "x")
+    store.setex("short", 600, "x")
     store.psetex("shorter", 30, "x")
     time.sleep(0.05)
     assert store.exists("short", "shorter") == 1 and store.type("short") == "string" and store.type("shorter") == "none"
@@ -30,7 +30,7 @@ def limits(store):
     """A limit of rates, by counters that expire."""
     for count in range(1, 6):
         assert store.incr("limit:ann") == count
-    store.expire("limit:ann", 60)
+    store.expire("limit:ann", 600)
     assert store.incrby("limit:ann", 10) == 15 and store.decr("limit:ann") == 14 and store.decrby("limit:ann", 4) == 10
     assert store.get("limit:ann") == "10" and store.delete("limit:ann") == 1
 
@@ -39,7 +39,7 @@ def locks(store):
     """A lease that one of eight threads has at a time, which raises a counter that nobody else changes meanwhile."""
     def work():
         for _ in range(20):
-            while not store.set("lock", threading.get_ident(), nx=True, px=30_000):
+            while not store.set("lock", threading.get_ident(), nx=True, px=600_000):
                 time.sleep(0.001)
             store.set("count", int(store.get("count") or 0) + 1)
             store.delete("lock")
@@ -54,24 +54,25 @@ def locks(store):
 def leases(store):
     """The same by redis-py's Lock, which lets go and prolongs by scripts what it holds and nothing else."""
     def lives(seconds):
-        return seconds - 2 <= store.ttl("lease") <= seconds
+        return seconds - 100 < store.ttl("lease") <= seconds
 
-    lock = store.lock("lease", timeout=30)
-    assert lock.acquire(blocking=False) and lock.owned() and not store.lock("lease", timeout=30).acquire(blocking=False)
-    assert lock.extend(10) and lives(40) and lock.extend(20, replace_ttl=True) and lives(20) and lock.reacquire() and lives(30)
-    store.set("lease", "another", px=50_000)
-    for step in (lock.release, lambda: lock.extend(10), lock.reacquire):
+    lock = store.lock("lease", timeout=3_000)
+    assert lock.acquire(blocking=False) and lock.owned() and not store.lock("lease", timeout=3_000).acquire(blocking=False)
+    assert lock.extend(1_000) and lives(4_000) and lock.extend(2_000, replace_ttl=True) and lives(2_000)
+    assert lock.reacquire() and lives(3_000)
+    store.set("lease", "another", px=5_000_000)
+    for step in (lock.release, lambda: lock.extend(1_000), lock.reacquire):
         lock.local.token = lock.local.token or b"mine"
         try:
             step()
             sys.exit("clients.py: a lock that another has is let go or prolonged")
         except redis.exceptions.LockError:
-            assert store.get("lease") == "another" and lives(50)
+            assert store.get("lease") == "another" and lives(5_000)
     store.delete("lease")
 
     def work():
         for _ in range(10):
-            with store.lock("lease", timeout=30, sleep=0.001):
+            with store.lock("lease", timeout=600, sleep=0.001):
                 store.set("count", int(store.get("count") or 0) + 1)
 
     threads = [threading.Thread(target=work) for _ in range(8)]
@@ -141,7 +142,7 @@ def itself(store):
 
 
 def web_page(port, store):
-    page = http.client.HTTPConnection("127.0.0.1", port, timeout=20)
+    page = http.client.HTTPConnection("127.0.0.1", port, timeout=120)
     try:
         page.request("POST", "/", "SET evil written\r\n", {"Content-Type": "text/plain"})
         page.getresponse()

@@ -4,7 +4,8 @@
 First those of cases.txt, byte by byte, but for the numbers of connections. Then random commands.
 
 Commands go to both at once, in batches that are sent in one piece. Short lives end between two batches, which waits for
-them; all others end after the run and seconds apart, so that the order of deadlines is the same on both.
+them; all others end after the run and seconds apart, so that the order of deadlines is the same on both. Where the machine
+was so busy that short lives may have ended within a batch it isn't compared, and the next begins with no key.
 A time that a command told since 1970 comes back the same; one that was told from now on may differ by a tick and by what
 two batches took, since the servers don't get a command at the same time. Other replies differ by nothing.
 
@@ -24,7 +25,8 @@ sys.dont_write_bytecode = True
 from resp import Client, request
 
 BATCH = 500
-SHORT = 4_000  # milliseconds; a batch has to end before
+SHORT = 4_000  # milliseconds; a batch that is compared ends before
+SLOW = 100  # as many slow batches aren't the machine's doing any more
 NAMES = [f"name:{it}" for it in range(40)]
 LIVES = range(1_000, 301_000, 1_000)
 TIMES = {"ttl": 1_000, "pttl": 1, "expiretime": 1_000, "pexpiretime": 1}
@@ -37,7 +39,7 @@ NUMBER = re.compile(rb"(?<=\$2\r\nid\r\n:)\d+")
 
 def told_all(port, sent):
     """All that is answered to what is sent, until the connection ends."""
-    with socket.create_connection(("127.0.0.1", port), timeout=20) as one:
+    with socket.create_connection(("127.0.0.1", port), timeout=120) as one:
         one.sendall(sent)
         one.shutdown(socket.SHUT_WR)
         return b"".join(iter(lambda: one.recv(1 << 16), b""))
@@ -242,16 +244,20 @@ def main():
     run([["flushall"]], clients)
     wrong_cases = cases(ports)
     run([["flushall"]], clients)
-    done = differences = 0
+    done = differences = slow = 0
     slowest, kinds = 0.0, set()
     while done < total:
-        batch = []
+        begun, batch = time.monotonic(), []
         while len(batch) < min(BATCH, total - done):
             batch += draw.commands()
         (ours, theirs), took = run(batch, clients)
+        if (time.monotonic() - begun) * 1000 > SHORT * 0.9:
+            slow += 1
+            if slow == SLOW:
+                sys.exit(f"compare.py: {slow} batches took so long that lives may have ended within them")
+            run([["flushall"]], clients)
+            continue
         slowest = max(slowest, took)
-        if took > SHORT * 0.9:
-            sys.exit(f"compare.py: a batch took {took:.0f} ms, so lives may end within it: the machine is too busy")
         for command, one, other in zip(batch, ours, theirs):
             kinds.add(str(command[0]).lower())
             if judge.differ(command, one, other, 1 + 2 * slowest):
@@ -260,7 +266,8 @@ def main():
         done += len(batch)
         time.sleep((SHORT + 100) / 1000)
     print(f"{done} commands of {len(kinds)} kinds, seed {seed}: {differences} differences;", end=" ")
-    print(f"{judge.exact} times are the same, {judge.near} within a tick and two batches, of {slowest:.0f} ms at most")
+    print(f"{judge.exact} times are the same, {judge.near} within a tick and two batches, of {slowest:.0f} ms at most;", end=" ")
+    print(f"{slow} batches were too slow to be compared")
     told = [lives(client) for client in clients]
     wrong, widest = sum(it[0] for it in told), max(it[1] for it in told)
     print(f"{len(LIVES)} lives of each: {wrong} aren't within a tick of this program's clock and the two calls, of {widest:.1f} ms at most")

@@ -10,7 +10,7 @@ import sys
 import threading
 import time
 
-from cluster import EFFECT, cluster, end, free_port
+from cluster import EFFECT, HANG, cluster, end, free_port
 from holder import GONE, Connection, Refusal
 from hostile import exactly_once
 from stalls import Apart, Wire
@@ -160,12 +160,13 @@ def holders(it, hosts, seed):
         thread.start()
     happened = trouble(it, hosts, seed)
     over = time.monotonic()
-    it.wait_for_number("SELECT count(*) FROM jobs WHERE state <> 'done'", 0, 180)
+    it.wait_for_number("SELECT count(*) FROM jobs WHERE state <> 'done'", 0)
     took = time.monotonic() - over
     for thread in holding:
         thread.ends = True
     for thread in holding:
-        thread.join(60)
+        thread.join(HANG)
+        assert not thread.is_alive(), "a holder hangs"
     rows = it.sql("SELECT job, attempt, extract(epoch FROM at) FROM given")
     given = {(int(job), int(attempt)): float(at) for job, attempt, at in rows}
     failed = set().union(*(it.failed for it in holding))

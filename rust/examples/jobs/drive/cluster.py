@@ -17,6 +17,8 @@ import time
 HERE = pathlib.Path(__file__).resolve().parent.parent
 JOBS = str(HERE / "target/release/jobs")
 EFFECT = "INSERT INTO effects (job) SELECT id FROM taken"
+# More seconds than any machine needs for what is waited for: only a hang meets it.
+HANG = 600
 
 
 def free_port():
@@ -30,15 +32,15 @@ def program(name):
     return found[-1] if found else shutil.which(name)
 
 
-def wait_for(what, seconds, every=0.05):
-    """What comes true within so many seconds."""
-    end = time.monotonic() + seconds
+def wait_for(what, every=0.05):
+    """What comes true."""
+    end = time.monotonic() + HANG
     while True:
         answer = what()
         if answer:
             return answer
         if time.monotonic() > end:
-            raise AssertionError(f"not within {seconds} s: {what.__doc__ or what.__name__}")
+            raise AssertionError(f"not within {HANG} s: {what.__doc__ or what.__name__}")
         time.sleep(every)
 
 
@@ -46,14 +48,14 @@ def end(*workers):
     """Has workers drained, which each has to do well."""
     for worker in workers:
         worker.terminate()
-    codes = [worker.wait(60) for worker in workers]
+    codes = [worker.wait(HANG) for worker in workers]
     assert codes == [0] * len(workers), codes
 
 
 def run(*words, url=None, env=None):
     """What the program says, and how it ends."""
     database = ["--database", url] if url else []
-    return subprocess.run([JOBS, *words, *database], capture_output=True, text=True, env=env, timeout=600)
+    return subprocess.run([JOBS, *words, *database], capture_output=True, text=True, env=env, timeout=HANG)
 
 
 class Cluster:
@@ -116,7 +118,7 @@ class Cluster:
     def sql(self, text):
         """Rows, as lists of texts."""
         command = ["psql", "-X", "-q", "-At", "-F", "\t", "-v", "ON_ERROR_STOP=1", self.url]
-        done = subprocess.run(command, input=text, capture_output=True, text=True)
+        done = subprocess.run(command, input=text, capture_output=True, text=True, timeout=HANG)
         if done.returncode:
             raise AssertionError(f"{text}: {done.stderr}")
         return [line.split("\t") for line in done.stdout.splitlines()]
@@ -124,14 +126,14 @@ class Cluster:
     def number(self, text):
         return float(self.sql(text)[0][0])
 
-    def wait_for_number(self, text, number, seconds=60):
+    def wait_for_number(self, text, number):
         """A query comes to a number."""
 
         def is_so():
             return self.number(text) == number
 
         is_so.__doc__ = f"{text} is {number}"
-        wait_for(is_so, seconds, every=0.2)
+        wait_for(is_so, every=0.2)
 
     def jobs(self, *words, env=None, url=None):
         done = run(*words, url=url or self.url, env=env)
@@ -161,13 +163,13 @@ class Cluster:
         rows = self.sql(f"SELECT count(*) FROM {schema}.jobs_partitions WHERE until > now() GROUP BY owner")
         return [int(it[0]) for it in rows]
 
-    def wait_for_owners(self, workers, seconds=60, partitions=64, schema="public"):
+    def wait_for_owners(self, workers, partitions=64, schema="public"):
         def all_owned():
             """each partition has an owner, by fair shares"""
             owned = self.owned(schema)
             return len(owned) == workers and sum(owned) == partitions and max(owned) - min(owned) <= 1
 
-        wait_for(all_owned, seconds)
+        wait_for(all_owned)
 
     def close(self):
         for process in self.processes:

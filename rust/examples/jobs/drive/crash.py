@@ -6,7 +6,7 @@ import random
 import sys
 import time
 
-from cluster import EFFECT, cluster, wait_for
+from cluster import EFFECT, HANG, cluster, wait_for
 
 
 def crash(seed, count, kills, workers=3):
@@ -27,7 +27,7 @@ def crash(seed, count, kills, workers=3):
         for at, moment in enumerate(moments):
             time.sleep(max(0, begun + moment - time.monotonic()))
             if at == stop_database:
-                assert enqueue.wait(300) == 0, it.logged("enqueue")
+                assert enqueue.wait(HANG) == 0, it.logged("enqueue")
             victim = draws.randrange(workers)
             running[victim].kill()
             running[victim].wait()
@@ -41,7 +41,7 @@ def crash(seed, count, kills, workers=3):
             """each job is done"""
             return enqueue.poll() == 0 and it.number("SELECT count(*) FROM jobs WHERE state = 'waiting'") == 0
 
-        wait_for(all_done, 120, every=0.5)
+        wait_for(all_done, every=0.5)
         over = time.monotonic() - begun
         judge(it, seed, count)
         late = it.sql(

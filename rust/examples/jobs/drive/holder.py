@@ -2,6 +2,8 @@
 import socket
 import time
 
+from cluster import HANG, wait_for
+
 # What a socket says when its worker is gone.
 GONE = (OSError, EOFError)
 
@@ -16,7 +18,7 @@ def packed(*words):
 
 
 class Connection:
-    def __init__(self, address, timeout=30):
+    def __init__(self, address, timeout=HANG):
         host, port = address.rsplit(":", 1)
         self.socket = socket.create_connection((host, int(port)), timeout=timeout)
         self.socket.setsockopt(socket.IPPROTO_TCP, socket.TCP_NODELAY, 1)
@@ -49,13 +51,13 @@ class Connection:
 
 
 class Job:
-    def __init__(self, id, attempt, left, address):
+    def __init__(self, id, attempt, left, address, sent):
         self.id, self.attempt, self.address = id, attempt, address
-        # By this machine's clock, which is the database's here: the last word accepted, and the lease's end by it.
-        self.said = time.time()
-        self.until = self.said + left / 1000
-        # When its last accepted word was sent: the lease ends a whole lease later, and no sooner.
-        self.sent = 0.0
+        # By this machine's clock, which is the database's here: when its last accepted word was sent, a whole lease after
+        # which the lease ends and no sooner, when its answer came, and until when it was surely told then.
+        self.sent, self.said = sent, time.time()
+        self.until = sent + left / 1000
+        # When it was heard that another has the job.
         self.refused = None
         # The longest time between two accepted words.
         self.gap = 0.0
@@ -76,14 +78,15 @@ class Holder:
         if address in self.connections:
             self.connections.pop(address).close()
 
-    def take(self, count, seconds=30, also=lambda: None):
+    def take(self, count, also=lambda: None):
         """So many jobs, from whichever worker has them."""
-        end = time.monotonic() + seconds
+        end = time.monotonic() + HANG
         got = []
         while len(got) < count:
             assert time.monotonic() < end, f"{len(got)} of {count} jobs were given"
             also()
             for address in self.addresses:
+                sent = time.time()
                 try:
                     jobs = self.connection(address).call("JOBS.TAKE", min(100, count - len(got) or 1), "WAIT", 20)
                 except GONE:
@@ -91,7 +94,7 @@ class Holder:
                     continue
                 if isinstance(jobs, list) and len(got) < count:
                     for id, attempt, left, _payload in jobs:
-                        self.jobs[id] = Job(id, attempt, left, address)
+                        self.jobs[id] = Job(id, attempt, left, address, sent)
                         got.append(self.jobs[id])
         return got
 
@@ -102,7 +105,7 @@ class Holder:
     def noted(self, job, left):
         now = time.time()
         job.gap = max(job.gap, now - job.said)
-        job.said, job.until = now, now + left / 1000
+        job.said, job.until = now, job.sent + left / 1000
 
     def say(self, jobs, word, accepted):
         by_address = {}
@@ -129,7 +132,7 @@ class Holder:
         elif reply.startswith("MOVED "):
             job.address = reply.split()[2]
         elif reply.startswith("FENCED "):
-            job.refused = sent
+            job.refused = time.time()
         else:
             assert reply.startswith("TRYAGAIN "), reply
 
@@ -140,3 +143,22 @@ class Holder:
             self.beat(jobs)
             also()
             time.sleep(max(0, every - (time.monotonic() - begun)))
+
+    def end(self):
+        """Has its jobs done. One whose lease the machine let end is given again, and done then."""
+        wanted, ended = set(self.jobs), set()
+
+        def all_ended():
+            """each job is done"""
+            mine = [job for job in self.jobs.values() if job.id not in ended]
+            self.say(mine, "JOBS.DONE", lambda job, _: ended.add(job.id))
+            if any(job.refused for job in mine):
+                self.take(1)
+            return wanted <= ended
+
+        wait_for(all_ended, every=0.2)
+
+
+def replaced(jobs, lease):
+    """The jobs that another has within a lease of their last accepted word, which isn't the machine's doing."""
+    return [job for job in jobs if job.refused and job.refused < job.sent + lease]

@@ -15,10 +15,12 @@ import tempfile
 import threading
 import time
 
-from cluster import EFFECT, cluster, end, free_port, wait_for
-from holder import Connection, Holder, Refusal, packed
+from cluster import EFFECT, HANG, cluster, end, free_port, wait_for
+from holder import Connection, Holder, Refusal, packed, replaced
 
 MEBIBYTE = 1 << 20
+# A lease of so many milliseconds ends in no test, nor does a wait.
+LONG, WAIT = str(1000 * HANG), "60000"
 
 
 def empty(it):
@@ -26,7 +28,7 @@ def empty(it):
 
 
 def exactly_once(it, count):
-    it.wait_for_number("SELECT count(*) FROM jobs WHERE state = 'done'", count, 120)
+    it.wait_for_number("SELECT count(*) FROM jobs WHERE state = 'done'", count)
     rows = it.sql(
         "SELECT count(*), count(DISTINCT job), (SELECT count(*) FROM effects e JOIN jobs j ON j.id = e.job WHERE "
         "e.at < j.due) "
@@ -80,10 +82,11 @@ def stepped_clock():
             for shift in ("-20s", "+3s", "-3600s", "+5s", "+0s", "+60s"):
                 time.sleep(2)
                 step(shift)
-                ahead = it.number("SELECT extract(epoch FROM clock_timestamp())") - time.time()
-                assert abs(ahead - float(shift[:-1])) < 1, (shift, ahead)
+                before = time.time()
+                ours = it.number("SELECT extract(epoch FROM clock_timestamp())") - float(shift[:-1])
+                assert before - 1 < ours < time.time() + 1, (shift, ours - before)
                 seen.append(f"{it.number('SELECT count(*) FROM effects'):.0f}")
-            it.wait_for_number("SELECT count(*) FROM jobs WHERE state = 'done'", 4000, 60)
+            it.wait_for_number("SELECT count(*) FROM jobs WHERE state = 'done'", 4000)
             rows = it.sql("SELECT count(*), count(DISTINCT job) FROM effects")
             assert rows == [["4000", "4000"]], f"effects, of jobs: {rows}"
             end(*workers)
@@ -111,7 +114,7 @@ def wrong_clock(it):
 def great_payload(it):
     empty(it)
     port = free_port()
-    worker = it.spawn("worker", "--listen", f"127.0.0.1:{port}")
+    worker = it.spawn("worker", "--listen", f"127.0.0.1:{port}", "--lease", LONG)
     it.wait_for_owners(1)
     it.sql(
         "INSERT INTO jobs (payload) SELECT string_agg(chr(97 + (i * 7) % 26), '') FROM generate_series(1, "
@@ -123,7 +126,7 @@ def great_payload(it):
     except AssertionError as error:
         assert "violates check constraint" in str(error), error
     connection = Connection(f"127.0.0.1:{port}")
-    ((id, attempt, _left, payload),) = connection.call("JOBS.TAKE", 1, "WAIT", 10000)
+    ((id, attempt, _left, payload),) = connection.call("JOBS.TAKE", 1, "WAIT", WAIT)
     assert payload == "".join(chr(97 + (i * 7) % 26) for i in range(1, MEBIBYTE + 1)), "the payload comes as it was"
     assert connection.call("JOBS.BEAT", id, attempt) > 0
     assert connection.call("JOBS.DONE", id, attempt) == "OK"
@@ -148,7 +151,7 @@ def nonsense(port):
         (b"JOBS.DONE -5 1\r\n", b"-FENCED"),
         (b"*3\r\n$9\r\nJOBS.BEAT\r\n$1\r\n", None),
     ]:
-        with socket.create_connection(("127.0.0.1", port), timeout=10) as it:
+        with socket.create_connection(("127.0.0.1", port), timeout=HANG) as it:
             it.sendall(text)
             if said:
                 got = b""
@@ -174,17 +177,14 @@ def lost_lock(it):
         it.sql("SELECT pg_terminate_backend(pid) FROM pg_stat_activity WHERE application_name LIKE 'jobs %'")
         holder.beat_for(jobs, 1, 0.25)
     it.wait_for_owners(2)
-    starved = [job for job in jobs if job.gap > 4]
-    replaced = [job for job in jobs if job.refused]
-    assert not replaced or starved, f"{len(replaced)} holders that beat were replaced"
-    done = []
-    for _ in range(3):
-        holder.say([job for job in jobs if job.id not in done], "JOBS.DONE", lambda job, _: done.append(job.id))
-    rows = it.sql("SELECT state, attempt, count(*) FROM jobs GROUP BY 1, 2")
-    assert rows == [["done", "1", "200"]] or starved, rows
+    holder.end()
+    wrong, lost = replaced(jobs, 5), sum(bool(job.refused) for job in jobs)
+    assert not wrong, f"{len(wrong)} holders that beat were replaced"
+    kept = it.number("SELECT count(*) FROM jobs WHERE state = 'done' AND attempt = 1")
+    assert kept == 200 - lost, kept
     end(*workers)
     print(
-        f"hostile: the owners' sessions were ended 5 times while 200 jobs ran; {200 - len(replaced)} kept their "
+        f"hostile: the owners' sessions were ended 5 times while 200 jobs ran; {kept:.0f} kept their "
         "leases and are done",
         flush=True,
     )
@@ -243,7 +243,7 @@ def bad_job(it):
             ["done", "1", "good", "990"],
         ]
 
-    wait_for(settled, 60)
+    wait_for(settled)
     assert it.sql("SELECT DISTINCT error FROM jobs WHERE state = 'dead'") == [["division by zero (22012)"]]
     assert it.number("SELECT count(DISTINCT job) FROM effects") == it.number("SELECT count(*) FROM effects") == 990
     end(worker)
@@ -259,7 +259,7 @@ def selected_effect(it):
         it.jobs("enqueue", "100")
         exactly_once(it, 100)
         process.terminate()
-        assert process.wait(30) == 0
+        assert process.wait(HANG) == 0
     print("hostile: an effect that is a SELECT was had of 100 jobs, by a worker and by a poller", flush=True)
 
 
@@ -276,7 +276,7 @@ def row_without_lease(it):
             raise AssertionError(f"{row} is accepted")
     it.sql(f"ALTER TABLE jobs DROP CONSTRAINT jobs_lease_ends; {bad}")
     worker = it.spawn("worker", "--effect", EFFECT)
-    assert worker.wait(30) != 0, "a worker that has lost a task ends"
+    assert worker.wait(HANG) != 0, "a worker that has lost a task ends"
     it.sql(
         "TRUNCATE jobs; ALTER TABLE jobs ADD CONSTRAINT jobs_lease_ends CHECK (state <> 'running' OR lease_until IS "
         "NOT NULL AND isfinite(lease_until))"
@@ -289,7 +289,7 @@ def broken_effect(it):
     empty(it)
     it.jobs("enqueue", "200")
     worker = it.spawn("worker", "--effect", EFFECT.replace("effects", "efects"), "--attempts", "1")
-    assert worker.wait(20) == 1 and "efects" in it.logged(), "an effect that can't be prepared is refused at the start"
+    assert worker.wait(HANG) == 1 and "efects" in it.logged(), "an effect that can't be prepared is refused at the start"
     worker = it.spawn("worker", "--effect", EFFECT, "--attempts", "1")
     exactly_once(it, 200)
     it.sql("ALTER TABLE effects RENAME TO gone; TRUNCATE jobs")
@@ -300,7 +300,7 @@ def broken_effect(it):
     exactly_once(it, 100)
     it.sql("UPDATE jobs SET state = 'dead' WHERE id % 2 = 0")
     assert it.jobs("retry", "all", "--attempts", "1") == "50 dead jobs wait again\n"
-    it.wait_for_number("SELECT count(*) FROM effects", 150, 20)
+    it.wait_for_number("SELECT count(*) FROM effects", 150)
     assert it.number("SELECT count(*) FROM jobs WHERE state = 'done' AND attempt = 2") == 50
     end(worker)
     print("hostile: a slip in an effect costs no job an attempt; 50 dead jobs were brought back by a word", flush=True)
@@ -316,7 +316,7 @@ def web_page(it):
     time.sleep(2)
     body = b"JOBS.TAKE 10\r\n" + b"".join(b"JOBS.DONE %d 1\r\n" % id for id in range(1, 11))
     for head in (b"POST / HTTP/1.1\r\n", b"PUT / HTTP/1.1\r\nHost: 127.0.0.1\r\n"):
-        with socket.create_connection(("127.0.0.1", port), timeout=10) as it_sends:
+        with socket.create_connection(("127.0.0.1", port), timeout=HANG) as it_sends:
             it_sends.sendall(head + b"Content-Type: text/plain\r\n\r\n" + body)
             with contextlib.suppress(ConnectionError):
                 while it_sends.recv(1000):
@@ -341,9 +341,13 @@ def silent_clients(it):
     # A worker has 900 places. A shell may have limited this program's own sockets for good.
     count = min(1100, resource.getrlimit(resource.RLIMIT_NOFILE)[0] - 64)
     silent = [socket.create_connection(("127.0.0.1", port)) for _ in range(count)]
-    holder.beat_for(jobs, 4, 0.5)
-    later = it.number("SELECT extract(epoch FROM min(lease_until)) FROM jobs")
-    assert later > before + 2, f"leases are written for {later - before:.1f} s more"
+
+    def written():
+        """the leases of holders that beat are written"""
+        holder.beat(jobs)
+        return it.number("SELECT extract(epoch FROM min(lease_until)) FROM jobs WHERE attempt = 1") > before + 2
+
+    wait_for(written, every=0.5)
     refused = Connection(f"127.0.0.1:{port}").reply()
     assert refused == "ERR max number of clients reached", refused
     for it_is in silent:
@@ -361,7 +365,7 @@ def jobs_elsewhere(it):
     it.wait_for_owners(2)
     it.jobs("enqueue", "100")
     address, given, moved = f"127.0.0.1:{ports[0]}", set(), 0
-    until = time.monotonic() + 20
+    until = time.monotonic() + HANG
     while len(given) < 100:
         assert time.monotonic() < until, f"{len(given)} of 100 jobs were given"
         reply = Connection(address).call("JOBS.TAKE", 10, "WAIT", 2000)
@@ -379,13 +383,12 @@ def great_payloads(it):
     """Ten holders take 100 jobs of a mebibyte each: the worker gives them out a piece at a time."""
     empty(it)
     port = free_port()
-    worker = it.spawn("worker", "--listen", f"127.0.0.1:{port}", "--lease", "60000")
+    worker = it.spawn("worker", "--listen", f"127.0.0.1:{port}", "--lease", LONG)
     it.wait_for_owners(1)
     it.sql("INSERT INTO jobs (payload) SELECT repeat(md5(i::text), 32768) FROM generate_series(1, 300) i")
-    time.sleep(2)
     asks = [Connection(f"127.0.0.1:{port}") for _ in range(10)]
     for it_asks in asks:
-        it_asks.socket.sendall(b"JOBS.TAKE 100\r\n")
+        it_asks.socket.sendall(packed("JOBS.TAKE", 100, "WAIT", WAIT))
     counts = [len(it_asks.reply()) for it_asks in asks]
     assert 1 <= max(counts) <= 5, counts
     most = memory(worker)
@@ -398,7 +401,7 @@ def taken_away(it):
     """Another has a worker's partitions without its knowing: no word of its holders changes a job any more."""
     empty(it)
     port = free_port()
-    worker = it.spawn("worker", "--listen", f"127.0.0.1:{port}", "--sessions", "2")
+    worker = it.spawn("worker", "--listen", f"127.0.0.1:{port}", "--sessions", "2", "--lease", LONG)
     it.wait_for_owners(1)
     it.jobs("enqueue", "30")
     jobs = Holder([f"127.0.0.1:{port}"]).take(30)
@@ -444,14 +447,13 @@ def full_table(it, count):
             """the first job is done"""
             return it.number("SELECT count(*) FROM (SELECT FROM effects LIMIT 1) it") == 1
 
-        wait_for(first, 120)
+        wait_for(first)
         after = it.number("SELECT extract(epoch FROM min(at)) FROM effects") - begun
-        assert after < 5, f"the first job was done {after:.1f} s after the worker was started"
         time.sleep(5)
         rate = ""
         if "ago" in name:
 
-            it.wait_for_number("SELECT count(*) FROM effects", count + 1, 600)
+            it.wait_for_number("SELECT count(*) FROM effects", count + 1)
             took = it.number("SELECT extract(epoch FROM max(at) - min(at)) FROM effects")
             assert it.number("SELECT count(DISTINCT job) FROM effects") == count + 1
             rate = f", all done once within {took:.0f} s, {count / took:.0f} a second"

@@ -105,7 +105,7 @@ def load(it, mode, rate, seconds, enqueue):
     cost = Cost(it, workers)
     enqueue(it, rate, seconds)
     time.sleep(seconds)
-    it.wait_for_number("SELECT count(*) FROM jobs WHERE state = 'waiting'", 0, 300)
+    it.wait_for_number("SELECT count(*) FROM jobs WHERE state = 'waiting'", 0)
     worker, database = cost.cores()
     rows = it.sql(
         "SELECT count(*), array_to_string(percentile_disc(ARRAY[0.5, 0.99, 1]) WITHIN GROUP (ORDER BY late), ' ') "
@@ -223,7 +223,7 @@ def hold(it, seconds, write_every):
     words = ["--listen", f"127.0.0.1:{port}", "--metrics", f"127.0.0.1:{metrics}"]
     worker = it.spawn("worker", *words, "--lease", "30000", "--write-every", str(write_every * 1000))
     it.wait_for_owners(1)
-    wait_for(lambda: metric(metrics, "jobs_leases") == LEASES, 60)
+    wait_for(lambda: metric(metrics, "jobs_leases") == LEASES)
     ids = list(range(1, LEASES + 1))
     beaters = [Beater(f"127.0.0.1:{port}", ids[number::CONNECTIONS]) for number in range(CONNECTIONS)]
     for beater in beaters:

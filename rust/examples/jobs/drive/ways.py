@@ -6,9 +6,9 @@ import shutil
 import subprocess
 import time
 
-from cluster import EFFECT, JOBS, Cluster, cluster, end, free_port, program, run, wait_for
+from cluster import EFFECT, HANG, JOBS, Cluster, cluster, end, free_port, program, run, wait_for
 from holder import Connection, Holder, Refusal
-from hostile import empty, exactly_once
+from hostile import WAIT, empty, exactly_once
 from measure import Cost
 
 
@@ -34,8 +34,9 @@ def tls(it):
     (it.data / "pg_hba.conf").write_text("hostssl all all 127.0.0.1/32 trust\n")
     it.sql("ALTER SYSTEM SET ssl = on")
     it.sql("SELECT pg_reload_conf()")
-    time.sleep(1)
     here = f"127.0.0.1:{it.port}/postgres"
+    # It reads its settings again some time later.
+    wait_for(lambda: run("status", url=f"postgres://jobs@{here}?sslmode=require").returncode == 0)
     for words, said in [
         (f"{here}?sslmode=disable", "no encryption"),
         (f"{here}?sslmode=prefer", None),
@@ -73,7 +74,6 @@ def password(it):
     worker = it.spawn("worker", "--listen", f"127.0.0.1:{port}", "--password-file", str(file))
     it.wait_for_owners(1)
     it.jobs("enqueue", "3")
-    time.sleep(2)
     asks = Connection(f"127.0.0.1:{port}")
     for words, said in [
         (["JOBS.TAKE", 1], "NOAUTH"),
@@ -84,7 +84,7 @@ def password(it):
         (["PING"], "PONG"),
     ]:
         assert asks.call(*words).startswith(said), words
-    assert len(asks.call("JOBS.TAKE", 3)) >= 1
+    assert len(asks.call("JOBS.TAKE", 3, "WAIT", WAIT)) >= 1
     # What comes with the password in one go is done after it.
     both = Connection(f"127.0.0.1:{port}").calls([("PING",), ("AUTH", "open sesame"), ("PING",)])
     assert isinstance(both[0], Refusal) and both[1:] == ["OK", "PONG"], both
@@ -151,19 +151,19 @@ def pooler(it):
         it.processes.append(between)
         url = f"postgres://jobs@127.0.0.1:{port}/postgres"
         if mode == "session":
-            wait_for(lambda: run("status", url=url).returncode == 0, 10)
+            wait_for(lambda: run("status", url=url).returncode == 0)
             worker = it.spawn("worker", "--effect", EFFECT, url=url)
             it.wait_for_owners(1)
             it.jobs("enqueue", "2000", "--spread", "2000", url=url)
             exactly_once(it, 2000)
             end(worker)
         else:
-            time.sleep(1)
+            wait_for(lambda: "Connection refused" not in run("status", url=url).stderr)
             for verb in (["setup"], ["worker", "--effect", EFFECT]):
                 done = run(*verb, url=url)
                 assert done.returncode == 1 and "pooler in transaction mode" in done.stderr, done
         between.terminate()
-        between.wait(30)
+        between.wait(HANG)
     print("ways: 2,000 jobs were done through a pooler in session mode; in transaction mode it was refused", flush=True)
 
 
@@ -176,7 +176,7 @@ def many(it):
     words = ["worker", "--schema", "many", "--sessions", "2", "--effect", EFFECT, "--name"]
     begun = time.monotonic()
     workers = [it.spawn(*words, f"w{number}") for number in range(64)]
-    it.wait_for_owners(64, 120, 200, "many")
+    it.wait_for_owners(64, 200, "many")
     took = time.monotonic() - begun
     cost = Cost(it, workers)
     time.sleep(5)
@@ -188,9 +188,9 @@ def many(it):
     for worker in workers[:16]:
         worker.kill()
     begun = time.monotonic()
-    it.wait_for_owners(48, 60, 200, "many")
+    it.wait_for_owners(48, 200, "many")
     moved = time.monotonic() - begun
-    it.wait_for_number("SELECT count(*) FROM many.jobs WHERE state <> 'done'", 0, 120)
+    it.wait_for_number("SELECT count(*) FROM many.jobs WHERE state <> 'done'", 0)
     counts = it.sql("SELECT count(*), count(DISTINCT job) FROM effects")
     assert counts == [["20000", "20000"]], counts
     end(*workers[16:])
@@ -214,7 +214,7 @@ def standby(first, room):
     second.start()
     first.sql("ALTER SYSTEM SET synchronous_standby_names = 'second'")
     first.sql("SELECT pg_reload_conf()")
-    wait_for(lambda: first.sql("SELECT sync_state FROM pg_stat_replication") == [["sync"]], 30)
+    wait_for(lambda: first.sql("SELECT sync_state FROM pg_stat_replication") == [["sync"]])
     return second
 
 

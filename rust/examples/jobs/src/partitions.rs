@@ -380,8 +380,22 @@ mod tests {
         partitions
     }
 
-    fn running(id: i64) -> Running {
-        Running { id, attempt: 1, lease_until: 50_000 }
+    /// More than any machine needs for a test.
+    const LONG: Duration = Duration::from_secs(600);
+
+    /// The leases of two jobs, of which the first was extended before it ended: they live longer where the machine is slow.
+    fn extended_once() -> Partitions {
+        for millis in (0..12).map(|it| 50 << it) {
+            let (begun, it) = (Instant::now(), partitions(2));
+            it.own(1, 7, &[1, 3, 2].map(|id| Running { id, attempt: 1, lease_until: 1_000 * millis }));
+            assert_eq!(it.counts(), (0, 2), "leases of another partition aren't held");
+            let beat = it.beat(1, 1, LONG);
+            if begun.elapsed() < Duration::from_millis(millis as u64) {
+                assert_eq!(beat, Beat::Doubtful);
+                return it;
+            }
+        }
+        panic!("the machine is too slow for this test");
     }
 
     #[test]
@@ -392,20 +406,17 @@ mod tests {
 
     #[test]
     fn a_lease_that_was_extended_comes_out_later_and_is_written_once() {
-        let it = partitions(2);
-        it.own(1, 7, &[running(1), running(3), running(2)]);
-        assert_eq!(it.counts(), (0, 2), "leases of another partition aren't held");
-        assert_eq!(it.beat(1, 1, Duration::from_secs(60)), Beat::Doubtful);
-        it.renew(1, 7, Instant::now() + Duration::from_secs(1));
-        assert_eq!(it.beat(1, 2, Duration::from_secs(60)), Beat::Fenced);
-        assert_eq!(it.beat(2, 1, Duration::from_secs(60)), Beat::Foreign);
-        assert_eq!(it.beat(5, 1, Duration::from_secs(60)), Beat::Unknown);
+        let it = extended_once();
+        it.renew(1, 7, Instant::now() + LONG);
+        assert_eq!(it.beat(1, 2, LONG), Beat::Fenced);
+        assert_eq!(it.beat(2, 1, LONG), Beat::Foreign);
+        assert_eq!(it.beat(5, 1, LONG), Beat::Unknown);
         assert_eq!(it.queue.recv().unwrap().value, Due::Lease { id: 3, attempt: 1 });
         let extended = it.extended(&[0, 1]);
         assert_eq!((extended.len(), extended[0].id), (1, 1));
-        it.note_written(&extended[0], 60_000_000);
+        it.note_written(&extended[0], 600_000_000);
         assert!(it.extended(&[1]).is_empty());
-        assert!(matches!(it.beat(1, 1, Duration::ZERO), Beat::Extended(50_000..=60_000)));
+        assert!(matches!(it.beat(1, 1, Duration::ZERO), Beat::Extended(500_000..=600_000)));
         it.lose(1);
         assert!(it.queue.is_empty());
     }

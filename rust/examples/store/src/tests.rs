@@ -16,6 +16,18 @@ use std::time::{Duration, Instant, SystemTime};
 
 mod commands;
 
+/// More than any machine needs for what is waited for: only a hang meets it. In milliseconds.
+const LONG: u64 = 120_000;
+
+/// Waits until something is so.
+fn wait_until(what: &str, mut is_so: impl FnMut() -> bool) {
+    let begun = Instant::now();
+    while !is_so() {
+        assert!(begun.elapsed() < Duration::from_millis(LONG), "{what}");
+        thread::sleep(Duration::from_millis(1));
+    }
+}
+
 fn keyspace() -> Arc<Keyspace> {
     Arc::new(Keyspace::new(10_000, Room::new(64 << 20)).unwrap())
 }
@@ -24,6 +36,7 @@ fn keyspace() -> Arc<Keyspace> {
 struct Asker {
     desk: Desk,
     session: Session,
+    begun: Instant,
 }
 
 fn client(keyspace: &Arc<Keyspace>) -> Asker {
@@ -33,10 +46,10 @@ fn client(keyspace: &Arc<Keyspace>) -> Asker {
 fn client_by(keyspace: &Arc<Keyspace>, settings: Settings) -> Asker {
     let seats = Arc::new(Seats::new(10, 1 << 20));
     let desk = Desk::new(keyspace.clone(), seats, Arc::new(settings));
-    Asker { session: desk.session(&Guest::new(7, ([127, 0, 0, 1], 7).into())), desk }
+    Asker { session: desk.session(&Guest::new(7, ([127, 0, 0, 1], 7).into())), desk, begun: Instant::now() }
 }
 
-fn ask(Asker { desk, session }: &mut Asker, line: &str) -> Reply {
+fn ask(Asker { desk, session, .. }: &mut Asker, line: &str) -> Reply {
     Client { desk, session }.answer(&line.split(' ').map(str::as_bytes).collect::<Vec<_>>())
 }
 
@@ -48,15 +61,15 @@ fn is_ok(client: &mut Asker, line: &str) {
 fn a_later_deadline_takes_no_lock() {
     let keyspace = keyspace();
     let mut client = client(&keyspace);
-    is_ok(&mut client, "SET lease ann PX 60000");
-    assert_eq!(ask(&mut client, "PEXPIRE lease 70000 GT"), Reply::Integer(1));
+    is_ok(&mut client, "SET lease ann PX 6000000");
+    assert_eq!(ask(&mut client, "PEXPIRE lease 7000000 GT"), Reply::Integer(1));
     let (told, heard) = mpsc::channel();
     keyspace.while_held(b"lease", || {
         thread::spawn(move || {
-            let later = ask(&mut client, "PEXPIRE lease 80000 GT");
-            told.send((later, ask(&mut client, "PEXPIRE lease 75000 GT"))).unwrap();
+            let later = ask(&mut client, "PEXPIRE lease 8000000 GT");
+            told.send((later, ask(&mut client, "PEXPIRE lease 7500000 GT"))).unwrap();
         });
-        let answers = heard.recv_timeout(Duration::from_secs(20));
+        let answers = heard.recv_timeout(Duration::from_millis(LONG));
         assert_eq!(answers, Ok((Reply::Integer(1), Reply::Integer(0))), "an extend waits for a lock");
     });
 }
@@ -71,7 +84,7 @@ fn the_number_of_keys_takes_no_lock_where_none_is_over() {
     let (told, heard) = mpsc::channel();
     keyspace.while_held(b"a", || {
         thread::spawn(move || told.send(ask(&mut client, "DBSIZE")));
-        assert_eq!(heard.recv_timeout(Duration::from_secs(20)), Ok(Reply::Integer(2)), "DBSIZE waits for a lock");
+        assert_eq!(heard.recv_timeout(Duration::from_millis(LONG)), Ok(Reply::Integer(2)), "DBSIZE waits for a lock");
     });
 }
 
@@ -149,13 +162,16 @@ fn kept() -> Arc<Keyspace> {
 
 #[test]
 fn the_clock_is_the_machines() {
-    let now = || SystemTime::now().duration_since(SystemTime::UNIX_EPOCH).unwrap().as_millis() as Tick;
+    let now = || SystemTime::now().duration_since(SystemTime::UNIX_EPOCH).unwrap();
     for pause in 0..500 {
+        let begun = Instant::now();
         let clock = Clock::new();
+        // It reads two clocks, one after the other, and is behind by what passes between.
+        let behind = begun.elapsed();
         thread::sleep(Duration::from_micros(pause));
-        let before = now();
+        let before = (now() - behind).as_millis() as Tick;
         let told = clock.now();
-        assert!((before..=now()).contains(&told), "{told} at {before}");
+        assert!((before..=now().as_millis() as Tick).contains(&told), "{told} at {before}");
         assert_eq!(clock.tick(clock.moment(told + pause)), told + pause);
     }
 }
@@ -195,16 +211,16 @@ fn changed_at_the_end(request: &str, change: impl Fn(&mut Place<'_, '_>) -> bool
     let keyspace = kept();
     let mut client = client(&keyspace);
     for round in 0..5 {
-        is_ok(&mut client, "SET key value PX 20");
+        is_ok(&mut client, "SET key value PX 6000000");
         let is_done = keyspace.change(b"key", |place| {
-            assert!(place.life().is_some(), "{request}: it is gone too soon");
-            thread::sleep(Duration::from_millis(25));
+            assert_eq!(place.expire(place.now() + 1), Ok(true), "{request}");
+            wait_until("no keeper takes its entry out", || place.is_out());
             change(place)
         });
         assert_eq!(is_done, is_there, "{request}");
-        // So that the keeper has its turn at the shard.
-        thread::sleep(Duration::from_millis(5));
+        // It waits for a keeper that has taken an entry out.
         let count = i64::from(is_there);
+        assert_eq!(ask(&mut client, "DBSIZE"), Reply::Integer(count), "{request}");
         assert_eq!(ask(&mut client, "EXISTS key"), Reply::Integer(count), "{request}");
         let held = keyspace.held();
         assert_eq!((held.keys as i64, held.expired), (count, if is_there { 0 } else { round + 1 }), "{request}");
@@ -215,9 +231,9 @@ fn changed_at_the_end(request: &str, change: impl Fn(&mut Place<'_, '_>) -> bool
 
 #[test]
 fn a_key_that_ends_while_it_is_changed_is_gone_or_stays() {
-    let later = |place: &Place<'_, '_>| Lifetime::Until(place.now() + 60_000);
+    let later = |place: &Place<'_, '_>| Lifetime::Until(place.now() + 6_000_000);
     changed_at_the_end("PERSIST", |place| place.persist(), false);
-    changed_at_the_end("PEXPIRE", |place| place.expire(place.now() + 60_000) == Ok(true), false);
+    changed_at_the_end("PEXPIRE", |place| place.expire(place.now() + 6_000_000) == Ok(true), false);
     changed_at_the_end("SET KEEPTTL", |place| place.set(b"other", Lifetime::Kept).is_err(), false);
     changed_at_the_end("SET PX", |place| place.set(b"other", later(place)).is_ok(), true);
     changed_at_the_end("SET", |place| place.set(b"other", Lifetime::Endless).is_ok(), true);
@@ -267,15 +283,13 @@ fn keepers_give_back_what_nobody_asks_for() {
     }
     // The keepers sleep until far ahead now.
     thread::sleep(Duration::from_millis(50));
+    let mut last = 0;
     for at in 0..1_000 {
+        last = keyspace.clock.now() + 100;
         is_ok(&mut client, &format!("SET near:{at} value PX 100"));
     }
-    let begun = Instant::now();
-    while keyspace.held().keys > 1_000 {
-        assert!(begun.elapsed() < Duration::from_secs(10), "{} keys are held", keyspace.held().keys);
-        thread::sleep(Duration::from_millis(5));
-    }
-    assert!(begun.elapsed() >= Duration::from_millis(90));
+    wait_until("keys are held whose deadlines are over", || keyspace.held().keys == 1_000);
+    assert!(keyspace.clock.now() >= last, "a key is gone before its deadline");
     assert_eq!(ask(&mut client, "DBSIZE"), Reply::Integer(1_000));
 }
 
@@ -416,7 +430,7 @@ fn replies_are_sent_in_pieces_of_any_size() {
     let wanted = format!("*5\r\n$5\r\nvalue\r\n{0}$-1\r\n{0}$5\r\nvalue\r\n", format_args!("$20000\r\n{long}\r\n"));
     for size in [1, 2, 3, 1_000, 16_384, 20_000, 100_000] {
         let (mut slow, mut output, mut told) = (Slow(Vec::new(), size, false), Output::default(), 0);
-        let Asker { desk, session } = &mut client;
+        let Asker { desk, session, .. } = &mut client;
         while (Client { desk, session }).serve(&words, &mut told, &mut output) == Served::Begun {
             while output.is_full() {
                 output.send(&mut slow).unwrap();

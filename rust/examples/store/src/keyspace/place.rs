@@ -127,3 +127,12 @@ impl Place<'_, '_> {
         entry.is_some_and(|entry| self.keyspace.queue.remove(&entry).is_ok())
     }
 }
+
+#[cfg(test)]
+impl Place<'_, '_> {
+    /// Whether somebody has taken the entry out of the queue that has its deadline.
+    pub fn is_out(&self) -> bool {
+        let record = self.names.records.get(self.name);
+        record.and_then(Record::entry).is_some_and(|entry| self.keyspace.deadline(&entry).is_none())
+    }
+}
