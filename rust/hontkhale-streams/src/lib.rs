@@ -93,13 +93,22 @@ impl<T, S: TickSource> PollNext for LastingPacedStream<'_, T, S> {
 pub trait IntoStream: PollNext + Sized {
     /// The same stream, as futures know one.
     fn into_stream(self) -> Streamed<Self> {
-        Streamed { inner: self }
+        Streamed {
+            inner: self,
+            in_a_row: 0,
+        }
     }
 }
 
 impl<P: PollNext> IntoStream for P {}
 
-/// A stream of hontkhale as a [`Stream`]: each poll is one `poll_next` of it.
+/// The most items that a task is given in a row, as many as tokio lets a task have of its own resources.
+const MOST_IN_A_ROW: u32 = 128;
+
+/// A stream of hontkhale as a [`Stream`]: each poll is one `poll_next` of it, or gives way to other tasks.
+///
+/// After 128 items in a row, with no pending poll between them, a poll is pending and wakes its task at once. Without that a
+/// task whose stream always has an item that is due is never pending, so no other task of its thread runs.
 ///
 /// Whether it ends, what it gives as a fault and what it costs is as its own stream says. An [`ExpiredStream`] returns
 /// `None` whenever nothing is in its shard, also for a moment, and may be polled again then: it isn't fused, and a
@@ -107,6 +116,8 @@ impl<P: PollNext> IntoStream for P {}
 #[derive(Debug)]
 pub struct Streamed<P> {
     inner: P,
+    /// The items that were given with no pending poll between them.
+    in_a_row: u32,
 }
 
 impl<P> Streamed<P> {
@@ -133,7 +144,19 @@ impl<P: PollNext> Stream for Streamed<P> {
     type Item = P::Item;
 
     fn poll_next(self: Pin<&mut Self>, cx: &mut Context<'_>) -> Poll<Option<P::Item>> {
-        self.get_mut().inner.poll_next_item(cx)
+        let stream = self.get_mut();
+        if stream.in_a_row == MOST_IN_A_ROW {
+            stream.in_a_row = 0;
+            cx.waker().wake_by_ref();
+            return Poll::Pending;
+        }
+        let answer = stream.inner.poll_next_item(cx);
+        match &answer {
+            Poll::Ready(Some(_)) => stream.in_a_row += 1,
+            Poll::Ready(None) => {}
+            Poll::Pending => stream.in_a_row = 0,
+        }
+        answer
     }
 }
 

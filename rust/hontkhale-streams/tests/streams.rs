@@ -174,7 +174,11 @@ fn a_paced_lasting_stream_wakes_for_the_rest() {
         match task.poll(&mut stream) {
             Poll::Ready(item) => outs.push(item.unwrap().unwrap().value),
             Poll::Pending => {
-                assert_eq!((queue.parked(1), task.woken()), (Ok(ParkedPoller::Nobody), 1), "a piece parks nobody");
+                assert_eq!(
+                    (queue.parked(1), task.woken()),
+                    (Ok(ParkedPoller::Nobody), 1),
+                    "a piece parks nobody"
+                );
                 pieces += 1;
             }
         }
@@ -196,6 +200,45 @@ fn a_paced_lasting_stream_wakes_for_the_rest() {
         Poll::Ready(Some(Err(StreamFault::TickTooLarge { limit: LAST_TICK })))
     ));
     drop(stream.into_inner().into_inner());
+}
+
+/// Each item that is given is put in again, due at once.
+#[test]
+fn a_task_that_always_has_an_item_gives_way_to_others() {
+    let queue = SharedDelayQueue::new(QueueConfig::of(1, 8)).unwrap();
+    let (tick, ticks) = told();
+    let (task, mut stream) = (
+        Task::new(),
+        ExpiredStream::new(&queue, 0, ticks).ok().unwrap().into_stream(),
+    );
+    tick.set(9);
+    queue.insert_or_drop(0, "again".to_string(), 5).unwrap();
+    for _ in 0..3 {
+        let mut in_a_row = 0;
+        while let Poll::Ready(item) = task.poll(&mut stream) {
+            let value = item.expect("an item").unwrap().value;
+            queue.insert_or_drop(0, value, 5).unwrap();
+            in_a_row += 1;
+            assert!(in_a_row <= 128, "no other task runs");
+        }
+        assert_eq!((in_a_row, task.woken()), (128, 1));
+    }
+    // A poll that waits begins anew.
+    for _ in 0..3 {
+        for _ in 0..100 {
+            let item = task.poll(&mut stream);
+            let Poll::Ready(Some(Ok(expired))) = item else {
+                panic!("it is due")
+            };
+            queue.insert_or_drop(0, expired.value, 5).unwrap();
+        }
+        let Poll::Ready(Some(Ok(expired))) = task.poll(&mut stream) else {
+            panic!("it is due")
+        };
+        queue.insert_or_drop(0, expired.value, tick.get() + 10).unwrap();
+        assert_eq!((task.poll(&mut stream).is_pending(), task.woken()), (true, 0));
+        tick.set(tick.get() + 10);
+    }
 }
 
 /// What futures_util adds to a stream works of these.

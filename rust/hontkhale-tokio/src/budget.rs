@@ -1,4 +1,7 @@
-//! How much a poll of a task may do: so many steps of the wheels, each in constant time but for a value's drop.
+//! How much a poll of a task may do: so many steps of the wheels, each in constant time but for a value's drop. And how many
+//! entries the task may have in a row.
+
+use std::task::Poll;
 
 /// The steps of a poll where no other number is set, as many as tokio lets a task have of its own resources.
 pub(crate) const DEFAULT_BUDGET: u32 = 128;
@@ -73,5 +76,32 @@ impl Budget {
     #[inline]
     pub fn grow(&mut self) {
         self.piece = self.piece.saturating_mul(2);
+    }
+}
+
+/// The entries that a task was given in a row, with no pending poll between them.
+///
+/// Without a limit a task whose queue always has an entry that is due is never pending, so no other task of its thread runs.
+/// tokio lets only its own resources charge a task's budget, so a poll counts for itself.
+#[derive(Default)]
+pub(crate) struct Streak {
+    entries: u32,
+}
+
+impl Streak {
+    /// Whether the next poll has to be pending, and to wake its task at once.
+    #[inline]
+    pub fn is_over(&self) -> bool {
+        self.entries >= DEFAULT_BUDGET
+    }
+
+    /// Notes what a poll answers.
+    #[inline]
+    pub fn note<E>(&mut self, answer: &Poll<Option<E>>) {
+        match answer {
+            Poll::Ready(Some(_)) => self.entries += 1,
+            Poll::Ready(None) => {}
+            Poll::Pending => self.entries = 0,
+        }
     }
 }

@@ -12,10 +12,11 @@ use tokio::time::Instant;
 /// polls, or waits. It serves entries that came after it, too, and may outlive its queue, whose entries have ended then.
 ///
 /// A call is one atomic step beside a few loads, by a caller that the thread keeps for each segment of the queue. A lock is
-/// taken in three cases: at the first call of a thread at each segment; for an entry that
-/// [`compact`](crate::DelayQueue::compact) or a worn slot moved; and where more threads come than there are callers, until
-/// the owner's next poll issues more. There are 16 at first, and 1,000 at most. The owner holds that lock while it adds, moves
-/// or drops a segment, and not in a poll.
+/// taken in three cases: at the first call of a thread at each segment; for an entry that was moved; and where more threads
+/// come than there are callers, until the owner's next poll issues more. There are 16 at first, and 1,000 at most.
+/// [`compact`](crate::DelayQueue::compact) and a worn slot move entries. So does a poll, if a handle extends the entry that
+/// [`peek`](crate::DelayQueue::peek) named just as the poll is about to give it. The owner holds that lock while it adds, moves
+/// or drops a segment, and in the poll after a `peek` or [`numbers`](crate::DelayQueue::numbers) for a moment.
 ///
 /// A thread keeps callers of eight queues at most. It gives them back when it ends, when it calls a handle of a ninth, or of
 /// one that has gone; until then it holds on to 16 bytes for each slot of the segments that it called at.

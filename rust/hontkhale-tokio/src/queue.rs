@@ -1,4 +1,4 @@
-use crate::budget::{Budget, DEFAULT_BUDGET};
+use crate::budget::{Budget, Streak, DEFAULT_BUDGET};
 use crate::handle::{EntryError, Handle};
 use crate::key::{Expired, Key};
 use crate::numbers::{Latest, Numbers};
@@ -55,6 +55,7 @@ pub struct DelayQueue<T> {
     /// The most steps of a poll, as they were set, and as a poll begins with them.
     budget: u32,
     fresh: Budget,
+    streak: Streak,
 }
 
 // No value is ever pinned.
@@ -105,6 +106,7 @@ impl<T> DelayQueue<T> {
             latest: Latest::default(),
             budget: DEFAULT_BUDGET,
             fresh: Budget::of_or_whole(DEFAULT_BUDGET),
+            streak: Streak::default(),
         }
     }
 
@@ -118,7 +120,8 @@ impl<T> DelayQueue<T> {
     /// has more to do is pending, and wakes its task at once, so that other tasks have their turn in between. 0 is taken as 1.
     ///
     /// `u32::MAX` is no limit: a poll makes all of its steps, as the peer's does. It takes fewer instructions for each entry then,
-    /// and the longest poll is as long as what is due, or has to move, at once.
+    /// and the longest poll is as long as what is due, or has to move, at once. How many entries a task is given in a row doesn't
+    /// hang on the budget: see [`poll_expired`](DelayQueue::poll_expired).
     ///
     /// ```
     /// # #[tokio::main(flavor = "current_thread", start_paused = true)]
@@ -177,10 +180,19 @@ impl<T> DelayQueue<T> {
         self.insert_at(value, Instant::now() + timeout)
     }
 
-    /// Takes out the first entry whose deadline is reached. Pending where none is, and the task is woken for the next, and
-    /// where the [budget](DelayQueue::set_budget) is spent, and the task is woken at once; none where the queue is empty, and
-    /// the task is woken by an insert.
+    /// Takes out the first entry whose deadline is reached. It returns none if the queue is empty; the task is woken by an
+    /// insert then. It is pending in three cases:
+    /// - No deadline is reached. The task is woken for the next one.
+    /// - The [budget](DelayQueue::set_budget) is spent. The task is woken at once.
+    /// - It was given 128 entries in a row, with no pending poll between them. The task is woken at once.
     pub fn poll_expired(&mut self, cx: &mut Context<'_>) -> Poll<Option<Expired<T>>> {
+        let answer = if self.streak.is_over() { self.give_way(cx) } else { self.poll_segments(cx) };
+        self.streak.note(&answer);
+        answer
+    }
+
+    #[inline(always)]
+    fn poll_segments(&mut self, cx: &mut Context<'_>) -> Poll<Option<Expired<T>>> {
         if self.armed > 0 && self.armed < NEVER {
             // The task waited, so what is due came due since the clock was looked at.
             self.look();
@@ -201,17 +213,21 @@ impl<T> DelayQueue<T> {
                     self.arm(NEVER, cx);
                     return Poll::Ready(None);
                 }
-                Found::Working => {
-                    // It is woken already, so nothing that comes sooner has to. Other tasks run before it comes again.
-                    self.armed = 0;
-                    self.has_looked = false;
-                    cx.waker().wake_by_ref();
-                    return Poll::Pending;
-                }
+                Found::Working => return self.give_way(cx),
                 Found::Waiting(wake) if self.has_looked => ready!(self.poll_sleep(wake, cx)),
                 Found::Waiting(_) => self.look(),
             }
         }
+    }
+
+    /// Wakes the task at once: other tasks run before it comes again.
+    #[cold]
+    fn give_way(&mut self, cx: &mut Context<'_>) -> Poll<Option<Expired<T>>> {
+        // It is woken already, so nothing that comes sooner has to.
+        self.armed = 0;
+        self.has_looked = false;
+        cx.waker().wake_by_ref();
+        Poll::Pending
     }
 
     /// Looks at the clock, on behalf of the task.

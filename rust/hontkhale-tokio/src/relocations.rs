@@ -11,6 +11,8 @@ use std::collections::HashMap;
 pub(crate) struct Relocations {
     /// The names of the places, by the number of the segment that the keys name, and by the slot there.
     places: HashMap<u64, Row<u64>>,
+    /// The names of the places of keys whose slot has another's there: its entry went on before, and left the slot to this one.
+    later: HashMap<Key, u64>,
     /// By the index of the segment where entries are now: its number, and their keys' segments and names by the slot there.
     keys: HashMap<usize, (u64, Row<(u64, u64)>)>,
 }
@@ -52,7 +54,13 @@ impl<V: Copy + Default + PartialEq> Row<V> {
 impl Relocations {
     /// Where the entry of a key is, if it was moved.
     pub fn place(&self, key: &Key) -> Option<Key> {
-        let name = self.places.get(&key.segment())?.get(key.slot())?;
+        let name = self.places.get(&key.segment()).and_then(|row| row.get(key.slot()));
+        let mut names = name.into_iter().chain(self.later.get(key).copied());
+        names.find_map(|name| self.place_named(key, name))
+    }
+
+    /// The place of a name, if the entry of the key is there.
+    fn place_named(&self, key: &Key, name: u64) -> Option<Key> {
         let (segment, keys) = self.keys.get(&Key::named(0, name).index())?;
         let place = Key::named(*segment, name);
         (keys.get(place.slot()) == Some(key.parts())).then_some(place)
@@ -75,7 +83,11 @@ impl Relocations {
         let gone = [self.place(&key), self.key_at(&place).and_then(|key| self.place(&key))];
         gone.iter().flatten().for_each(|place| _ = self.end(place));
         let (segment, name) = key.parts();
-        self.places.entry(segment).or_default().set(key.slot(), place.parts().1);
+        let places = self.places.entry(segment).or_default();
+        match places.get(key.slot()) {
+            Some(_) => drop(self.later.insert(key, place.parts().1)),
+            None => places.set(key.slot(), place.parts().1),
+        }
         let (_, keys) = self.keys.entry(place.index()).or_insert_with(|| (place.segment(), Row::default()));
         keys.set(place.slot(), (segment, name));
     }
@@ -91,6 +103,9 @@ impl Relocations {
     }
 
     fn end_key(&mut self, key: &Key) {
+        if self.later.remove(key).is_some() {
+            return;
+        }
         if self.places.get_mut(&key.segment()).is_some_and(|places| !places.unset(key.slot())) {
             self.places.remove(&key.segment());
         }
@@ -120,6 +135,7 @@ impl Relocations {
     pub fn shrink_to_fit(&mut self) {
         self.places.values_mut().for_each(|places| places.values.shrink_to_fit());
         self.keys.values_mut().for_each(|(_, keys)| keys.values.shrink_to_fit());
+        self.later.shrink_to_fit();
     }
 
     pub fn is_empty(&self) -> bool {
@@ -155,6 +171,28 @@ mod tests {
         assert_eq!((relocations.place(&key), relocations.key(&Key::of(8, 1, 2, 6))), (None, Some(later)));
         relocations.leave(1);
         assert!(relocations.is_empty() && relocations.places.is_empty());
+    }
+
+    #[test]
+    fn entries_that_left_one_slot_are_found_each_by_its_key() {
+        let keys = [3, 4, 5].map(|born| Key::of(7, 0, 9, born));
+        for order in [[0, 1, 2], [2, 1, 0], [1, 0, 2]] {
+            let mut relocations = Relocations::default();
+            let mut places = [1, 2, 3].map(|slot| Some(Key::of(7, 0, slot, 1)));
+            let find = |relocations: &Relocations| keys.map(|key| relocations.place(&key));
+            (0..3).for_each(|at| relocations.note(keys[at], places[at].unwrap()));
+            assert_eq!(find(&relocations), places);
+            // One of them goes on once more, to the slot that all have left.
+            places[order[2]] = Some(Key::of(7, 0, 9, 6));
+            relocations.note(keys[order[2]], places[order[2]].unwrap());
+            assert_eq!(find(&relocations), places);
+            for at in order {
+                assert_eq!(relocations.end(&places[at].unwrap()), Some(keys[at]));
+                places[at] = None;
+                assert_eq!(find(&relocations), places);
+            }
+            assert!(relocations.is_empty() && relocations.places.is_empty() && relocations.later.is_empty());
+        }
     }
 
     #[test]

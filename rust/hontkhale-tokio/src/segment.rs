@@ -124,6 +124,11 @@ impl<T> Segment<T> {
         self.slots() - self.queue.len()
     }
 
+    /// Whether a slot is free once the entry at a place has left it.
+    pub fn has_room_without(&self, place: &Key) -> bool {
+        self.free() > 0 || self.stamp(place).is_some_and(|stamp| stamp < self.queue.last_stamp())
+    }
+
     /// Whether half the slots are worn.
     pub fn is_worn(&self) -> bool {
         2 * self.queue.worn() >= self.queue.capacity()

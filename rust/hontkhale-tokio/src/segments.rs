@@ -1,7 +1,7 @@
 //! The queue without its clock: a row of segments that grows, in ticks of one millisecond.
 //!
-//! An entry stays in its segment until it ends, but that `compact` or a worn slot moves it. What comes out is merged by the
-//! segments' wakes: no segment is polled beyond the tick at which another may have something.
+//! An entry stays at its place until it ends, but that `compact`, a worn slot, or an extend amid the poll after a peek moves it.
+//! What comes out is merged by the segments' wakes: no segment is polled beyond the tick at which another may have something.
 //!
 //! No value is dropped while a lock is held, nor where a key is in hand that its panic would take along: a segment that goes
 //! with cancelled entries in it stays aside until a poll drops their values.
@@ -19,6 +19,8 @@ mod polls;
 mod room;
 
 pub(crate) use polls::Found;
+#[cfg(test)]
+pub(crate) use polls::AFTER_LOOK;
 
 /// As many segments as a key can tell apart.
 const SEGMENTS_LIMIT: usize = 65_536;
@@ -202,11 +204,18 @@ impl<T> Segments<T> {
     #[inline]
     fn take_out(&mut self, place: Key, out: &mut Option<Expired<T>>) -> bool {
         let is_out = self.segment_mut(&place).is_some_and(|segment| segment.remove(&place, out));
+        self.note_out(place.index(), out);
+        is_out
+    }
+
+    /// Notes what was taken out of a segment, if anything was, and gives it the user's key.
+    #[inline]
+    fn note_out(&mut self, index: usize, out: &mut Option<Expired<T>>) -> bool {
         if let Some(out) = out {
-            self.left = place.index();
+            self.left = index;
             self.end(&mut out.key);
         }
-        is_out
+        out.is_some()
     }
 
     /// Notes that the entry at a place has ended, and gives the user's key.

@@ -15,6 +15,8 @@ pub(crate) struct SharedState {
     /// A bit for each slot: whether a handle cancelled an entry there that the owner hasn't looked at yet.
     cancelled: Box<[AtomicU64]>,
     has_cancels: AtomicBool,
+    /// Whether an entry went to another place from a slot that is filled anew.
+    has_left_slots: AtomicBool,
     /// Whether the queue has gone, whose entries have ended with it.
     is_over: AtomicBool,
     /// The callers that no thread has.
@@ -35,7 +37,7 @@ pub(crate) enum Step {
 #[derive(Clone, Copy, Debug, PartialEq, Eq)]
 pub(crate) enum Refusal {
     Ended,
-    /// The entry went to another place, which only the queue's relocations tell.
+    /// The entry went to another place, or may have, which only the queue's relocations tell.
     Moved,
     /// The queue has gone.
     Over,
@@ -78,6 +80,7 @@ impl SharedState {
             stamps: (0..slots).map(|_| StampWord(AtomicU64::new(0))).collect(),
             cancelled: (0..(slots + BITS - 1) / BITS).map(|_| AtomicU64::new(0)).collect(),
             has_cancels: AtomicBool::new(false),
+            has_left_slots: AtomicBool::new(false),
             is_over: AtomicBool::new(false),
             spare: Mutex::default(),
             issued: AtomicUsize::new(0),
@@ -93,6 +96,11 @@ impl SharedState {
     /// The owner's note that an entry is about to be moved.
     pub fn note_moved(&self, key: &Key) {
         self.note(key.slot(), key.born(), MOVED);
+    }
+
+    /// The owner's note, before it is so, that an entry goes to another place and leaves its slot to others.
+    pub fn note_left_slot(&self) {
+        self.has_left_slots.store(true, Ordering::SeqCst);
     }
 
     /// The stamp of the birth at a slot, none where nothing was ever put there.
@@ -145,10 +153,10 @@ impl SharedState {
         let word = self.stamps.get(key.slot()).ok_or(Refusal::Ended)?;
         loop {
             let seen = word.load();
-            if seen.born != key.born() {
+            if seen.born != key.born() && !self.has_left_slots.load(Ordering::SeqCst) {
                 return Err(Refusal::Ended);
             }
-            if seen.stamp == MOVED {
+            if seen.born != key.born() || seen.stamp == MOVED {
                 return Err(Refusal::Moved);
             }
             match step.make(caller, &key.stamped(seen.stamp)) {

@@ -1,3 +1,4 @@
+use crate::budget::Streak;
 use crate::timer::Timer;
 use futures_core::{ready, Stream};
 use hontkhale::delay_queue::{AsyncReceiver, Builder, Expired};
@@ -30,7 +31,7 @@ pub trait QueueExt<T> {
 
 impl<T> QueueExt<T> for DelayQueue<T> {
     fn stream(&self) -> QueueStream<T> {
-        QueueStream { receiver: self.receiver(), timer: Timer::default(), task: None }
+        QueueStream { receiver: self.receiver(), timer: Timer::default(), task: None, streak: Streak::default() }
     }
 }
 
@@ -59,6 +60,9 @@ pub fn builder<T>() -> Builder<T> {
 /// in the queue. Any number of streams and of threads may receive from one queue. It gives none once the queue is
 /// [closed](DelayQueue::close) and nothing is due.
 ///
+/// After 128 entries in a row, with no pending poll between them, a poll is pending and wakes its task at once, so that other
+/// tasks have their turn.
+///
 /// The values of entries that were cancelled are dropped in its polls, while no lock is held and before an entry is in hand: a
 /// drop may call the queue, and one that panics is lost alone. Wakers are called, cloned and dropped so, too.
 #[must_use = "a stream does nothing until it is polled"]
@@ -67,6 +71,7 @@ pub struct QueueStream<T> {
     timer: Timer,
     /// The task that polled last, in whose runtime the timer is.
     task: Option<Waker>,
+    streak: Streak,
 }
 
 // No value is ever pinned.
@@ -90,6 +95,21 @@ impl<T> QueueStream<T> {
             self.timer.leave();
         }
     }
+
+    fn poll_received(&mut self, cx: &mut Context<'_>) -> Poll<Option<Expired<T>>> {
+        for _ in 0..2 {
+            if let Poll::Ready(received) = self.receiver.poll_recv(cx) {
+                self.timer.leave();
+                return Poll::Ready(received);
+            }
+            match self.receiver.wake_at() {
+                Some(when) => ready!(self.timer.poll_until(Instant::from_std(when), cx)),
+                None => return Poll::Pending,
+            }
+        }
+        // The queue's clock isn't tokio's, and is behind it: whoever advances it may be a task of this thread.
+        give_way(cx)
+    }
 }
 
 impl<T> Stream for QueueStream<T> {
@@ -98,20 +118,16 @@ impl<T> Stream for QueueStream<T> {
     fn poll_next(self: Pin<&mut Self>, cx: &mut Context<'_>) -> Poll<Option<Expired<T>>> {
         let stream = self.get_mut();
         stream.note_task(cx.waker());
-        for _ in 0..2 {
-            if let Poll::Ready(received) = stream.receiver.poll_recv(cx) {
-                stream.timer.leave();
-                return Poll::Ready(received);
-            }
-            match stream.receiver.wake_at() {
-                Some(when) => ready!(stream.timer.poll_until(Instant::from_std(when), cx)),
-                None => return Poll::Pending,
-            }
-        }
-        // The queue's clock isn't tokio's, and is behind it: whoever advances it may be a task of this thread.
-        cx.waker().wake_by_ref();
-        Poll::Pending
+        let answer = if stream.streak.is_over() { give_way(cx) } else { stream.poll_received(cx) };
+        stream.streak.note(&answer);
+        answer
     }
+}
+
+/// Wakes the task at once: other tasks run before it comes again.
+fn give_way<E>(cx: &mut Context<'_>) -> Poll<E> {
+    cx.waker().wake_by_ref();
+    Poll::Pending
 }
 
 impl<T> fmt::Debug for QueueStream<T> {

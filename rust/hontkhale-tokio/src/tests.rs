@@ -3,11 +3,17 @@
 use crate::budget::Budget;
 use crate::handle::{EntryError, Handle};
 use crate::key::{Expired, Key};
-use crate::segments::{Found, Segments};
+use crate::queue::DelayQueue;
+use crate::segments::{Found, Segments, AFTER_LOOK};
 use crate::shared::Shared;
+use hontkhale::owner::LAST_STAMP;
 use std::cell::Cell;
 use std::collections::HashMap;
 use std::rc::Rc;
+use std::sync::Arc;
+use std::task::{Context, Poll, Wake, Waker};
+use std::time::Duration;
+use tokio::time::{advance, Instant};
 
 /// Marsaglia's xorshift.
 struct Dice(u64);
@@ -118,6 +124,19 @@ impl Twin {
         assert_eq!(deadline, self.segments.shared().clock.moment(entry.0));
     }
 
+    /// After the next look a handle extends an entry, that which comes first or any. What it extended, and to when.
+    fn extend_after_look(&mut self) -> Rc<Cell<Option<(Key, u64)>>> {
+        let extended = Rc::<Cell<Option<(Key, u64)>>>::default();
+        let key = if self.dice.below(2) == 0 { self.segments.peek() } else { self.draw() };
+        if let Some(key) = key.filter(|_| self.has_handle) {
+            let (handle, when, told) = (self.handle.clone(), self.tick_ahead(), extended.clone());
+            let moment = self.segments.shared().clock.moment(when);
+            let call = move || told.set(handle.extend_at(&key, moment).ok().map(|_| (key, when)));
+            AFTER_LOOK.with(|it| it.set(Some(Box::new(call))));
+        }
+        extended
+    }
+
     fn cancel(&mut self, key: Key) {
         let given_up = self.handle.cancel(&key).unwrap();
         let (deadline, value) = self.end(key);
@@ -145,7 +164,18 @@ impl Twin {
                 steps => steps,
             });
             let mut out = None;
-            match self.segments.poll(self.now, &mut budget, &mut out) {
+            let extended = self.extend_after_look();
+            let found = self.segments.poll(self.now, &mut budget, &mut out);
+            AFTER_LOOK.with(Cell::take);
+            let least = match extended.take() {
+                Some((key, when)) => {
+                    let entry = self.entries.get_mut(&key).expect("an entry that is in");
+                    entry.0 = entry.0.max(when);
+                    self.entries.values().map(|entry| entry.0).min()
+                }
+                None => least,
+            };
+            match found {
                 Found::Out => {
                     let out = out.expect("what came out");
                     let (deadline, value) = self.end(out.key);
@@ -266,4 +296,164 @@ fn a_worn_segment_goes_in_no_insert_or_reset_with_the_values_that_were_cancelled
             assert_eq!((drops_in_calls.get(), Rc::strong_count(&is_in_call), segments.len()), (0, 1, 0), "{by_reset}");
         }
     }
+}
+
+struct Nobody;
+
+impl Wake for Nobody {
+    fn wake(self: Arc<Self>) {}
+}
+
+fn ms(millis: u64) -> Duration {
+    Duration::from_millis(millis)
+}
+
+fn paused() -> tokio::runtime::Runtime {
+    tokio::runtime::Builder::new_current_thread().enable_time().start_paused(true).build().expect("a runtime")
+}
+
+/// A queue whose handle extends entries between a look at them and what rests on the look.
+struct Overtaken {
+    queue: DelayQueue<String>,
+    handle: Handle,
+}
+
+impl Overtaken {
+    fn new(last_stamp: u32) -> Overtaken {
+        let mut queue = DelayQueue::with_last_stamp(0, last_stamp);
+        queue.set_budget(u32::MAX);
+        let handle = queue.handle();
+        Overtaken { queue, handle }
+    }
+
+    fn insert(&mut self, value: &str, when: u64) -> Key {
+        self.queue.insert(value.to_string(), ms(when))
+    }
+
+    /// After the next look the handle extends an entry, to so many milliseconds from then. Where it is told the deadline.
+    fn extend_after_look(&self, key: Key, by: u64) -> Rc<Cell<Option<Instant>>> {
+        let (handle, accepted) = (self.handle.clone(), Rc::<Cell<Option<Instant>>>::default());
+        let told = accepted.clone();
+        let call = move || told.set(handle.extend(&key, ms(by)).ok());
+        AFTER_LOOK.with(|it| it.set(Some(Box::new(call))));
+        accepted
+    }
+
+    /// The value that a poll gives, which isn't early; none where it is pending.
+    fn polled(&mut self) -> Option<String> {
+        match self.queue.poll_expired(&mut Context::from_waker(&Waker::from(Arc::new(Nobody)))) {
+            Poll::Ready(Some(out)) => {
+                assert!(
+                    out.deadline() <= Instant::now(),
+                    "{} is early by {:?}",
+                    out.get_ref(),
+                    out.deadline() - Instant::now()
+                );
+                Some(out.into_inner())
+            }
+            Poll::Ready(None) => panic!("the queue isn't empty"),
+            Poll::Pending => None,
+        }
+    }
+}
+
+/// An entry that is due is extended after `look` has told that it comes first, and waits until then.
+fn extended_after(look: fn(&DelayQueue<String>)) {
+    for last_stamp in [1, 2, LAST_STAMP] {
+        paused().block_on(async {
+            let mut it = Overtaken::new(last_stamp);
+            let key = it.insert("extended", 10);
+            it.insert("beside", 10);
+            it.insert("later", 20);
+            advance(ms(30)).await;
+            look(&it.queue);
+            let accepted = it.extend_after_look(key, 500);
+            assert_eq!(it.polled().as_deref(), Some("beside"));
+            let deadline = accepted.take().expect("the entry waits, so an extend is accepted");
+            assert_eq!((it.queue.deadline(&key), it.queue.len()), (deadline, 2));
+            assert_eq!(it.polled().as_deref(), Some("later"));
+            assert_eq!((it.polled(), it.queue.peek()), (None, Some(key)));
+            // Its handle finds it as before.
+            let deadline = it.handle.extend(&key, ms(700)).expect("a live entry");
+            assert_eq!(it.queue.deadline(&key), deadline);
+            advance(ms(699)).await;
+            assert_eq!(it.polled(), None);
+            advance(ms(1)).await;
+            assert_eq!((it.polled().as_deref(), it.queue.len()), (Some("extended"), 0));
+        });
+    }
+}
+
+#[test]
+fn an_entry_that_a_peek_named_and_a_handle_extends_stays_until_then() {
+    extended_after(|queue| _ = queue.peek());
+}
+
+#[test]
+fn an_entry_that_the_numbers_looked_at_and_a_handle_extends_stays_until_then() {
+    extended_after(|queue| _ = queue.numbers());
+}
+
+#[test]
+fn an_entry_that_is_cancelled_after_a_look_at_it_never_comes_out() {
+    paused().block_on(async {
+        let mut it = Overtaken::new(LAST_STAMP);
+        let key = it.insert("cancelled", 10);
+        it.insert("beside", 10);
+        advance(ms(30)).await;
+        assert_eq!(it.queue.peek(), Some(key));
+        let handle = it.handle.clone();
+        AFTER_LOOK.with(|call| call.set(Some(Box::new(move || assert!(handle.cancel(&key).is_ok())))));
+        assert_eq!(it.polled().as_deref(), Some("beside"));
+        assert!(it.queue.try_remove(&key).is_none() && it.handle.extend(&key, ms(9)).is_err());
+    });
+}
+
+/// Each of them leaves its slot, which the next one fills, and waits elsewhere under its key.
+#[test]
+fn entries_that_are_extended_one_after_the_other_keep_their_keys() {
+    paused().block_on(async {
+        let mut it = Overtaken::new(LAST_STAMP);
+        let mut keys = Vec::new();
+        advance(ms(5)).await;
+        for round in 0..100 {
+            let key = it.insert(&round.to_string(), 0);
+            assert_eq!(it.queue.peek(), Some(key));
+            let accepted = it.extend_after_look(key, 1_000 + round);
+            assert_eq!(it.polled(), None);
+            assert!(accepted.take().is_some(), "{round}");
+            keys.push(key);
+            if round == 60 {
+                it.queue.compact();
+            }
+        }
+        for (round, key) in keys.iter().enumerate() {
+            let deadline = it.handle.extend(key, ms(2_000 + round as u64)).expect("a live entry");
+            assert_eq!(it.queue.deadline(key), deadline, "{round}");
+        }
+        for key in keys.iter().step_by(3) {
+            it.handle.cancel(key).expect("a live entry");
+        }
+        advance(ms(2_100)).await;
+        for round in (0..100).filter(|round| round % 3 != 0) {
+            assert_eq!(it.polled(), Some(round.to_string()));
+            assert!(it.handle.extend(&keys[round], ms(1)).is_err());
+        }
+        assert!(it.queue.poll_expired(&mut Context::from_waker(&Waker::from(Arc::new(Nobody)))).is_ready());
+        assert!(it.queue.is_empty());
+    });
+}
+
+#[test]
+fn the_numbers_tell_how_late_the_first_is_though_a_handle_extends_it_meanwhile() {
+    paused().block_on(async {
+        let mut it = Overtaken::new(LAST_STAMP);
+        let key = it.insert("extended", 10);
+        it.insert("beside", 11);
+        advance(ms(30)).await;
+        let accepted = it.extend_after_look(key, 500);
+        let late = it.queue.numbers().late;
+        assert!(accepted.take().is_some() && late >= ms(19), "{late:?}");
+        assert_eq!(it.queue.numbers().late, ms(19));
+    });
 }

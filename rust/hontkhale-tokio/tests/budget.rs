@@ -3,14 +3,20 @@
 
 mod common;
 
-use common::{ends, ms, paused, Dice};
+use common::{ends, ms, paused, running, Dice};
+use futures_core::Stream;
 use hontkhale_tokio::{builder, DelayQueue, QueueExt};
+use std::cell::Cell;
 use std::future::poll_fn;
+use std::pin::Pin;
 use std::rc::Rc;
 use std::sync::atomic::{AtomicUsize, Ordering::SeqCst};
 use std::sync::Arc;
 use std::task::{Context, Poll, Wake, Waker};
+use std::time::Duration;
+use tokio::task::LocalSet;
 use tokio::time::{advance, timeout, Instant};
+use tokio_util::time::delay_queue as peer;
 
 const BUDGETS: [u32; 7] = [0, 1, 8, 13, 128, 1_000, u32::MAX];
 
@@ -143,31 +149,156 @@ fn a_poll_in_pieces_forgets_a_deadline_that_has_gone() {
     });
 }
 
+/// Whatever the shards are over which the entries are spread, by the thread that puts them in.
 #[test]
-fn other_tasks_have_their_turn() {
+fn a_streams_poll_makes_so_many_steps() {
     ends(|| {
         paused().block_on(async {
             let queue = builder().build();
             let mut stream = queue.stream();
             for value in 0..50_000 {
                 let key = queue.insert(value, ms(5_000)).unwrap();
-                // A poll at 5 s files it anew, unless it is the last.
-                assert!(value == 49_999 || queue.extend(&key, ms(10_000)).is_ok());
+                // A poll at 5 s files it anew.
+                queue.extend(&key, ms(10_000)).unwrap();
             }
-            let turns = Arc::new(AtomicUsize::new(0));
-            let counted = turns.clone();
-            let other = tokio::spawn(async move {
-                for _ in 0..100_000 {
-                    counted.fetch_add(1, SeqCst);
-                    tokio::task::yield_now().await;
+            advance(ms(5_000)).await;
+            let wakes = Arc::<Wakes>::default();
+            let waker = Waker::from(wakes.clone());
+            let mut turns = 0;
+            loop {
+                assert!(Pin::new(&mut stream).poll_next(&mut Context::from_waker(&waker)).is_pending());
+                if wakes.0.swap(0, SeqCst) == 0 {
+                    break;
+                }
+                turns += 1;
+            }
+            assert!(turns >= 50_000 / 1_024, "{turns} turns");
+            assert!(timeout(ms(6_000), stream.next()).await.expect("the task is woken").is_some());
+        });
+    });
+}
+
+/// More entries than a loop is given until a timeout of 50 ms ends it, however fast the machine is.
+const ENDLESS: u32 = 5_000_000;
+
+/// Each entry that comes out is put in again, due at once: the task never comes to wait for one.
+#[test]
+fn a_timeout_ends_a_loop_over_a_stream_that_always_has_an_entry() {
+    ends(|| {
+        running().block_on(async {
+            let queue = hontkhale::DelayQueue::new();
+            queue.insert("again".to_string(), Duration::ZERO).unwrap();
+            let (mut stream, mut given) = (queue.stream(), 0);
+            let looped = timeout(ms(50), async {
+                while let Some(out) = stream.next().await {
+                    queue.insert(out.value, Duration::ZERO).unwrap();
+                    given += 1;
+                    assert!(given < ENDLESS, "it goes on and on");
                 }
             });
-            advance(ms(5_000)).await;
-            let before = turns.load(SeqCst);
-            assert!(timeout(ms(1_000), stream.next()).await.expect("the task is woken").is_some());
-            let turns = turns.load(SeqCst) - before;
-            assert!(turns >= 50_000 / 1_024, "{turns} turns");
-            other.abort();
+            assert!(looped.await.is_err());
+        });
+    });
+}
+
+#[test]
+fn a_timeout_ends_a_loop_over_a_queue_that_always_has_an_entry() {
+    ends(|| {
+        running().block_on(async {
+            for budget in [1, 128, u32::MAX] {
+                let (mut queue, start) = (DelayQueue::new(), Instant::now());
+                queue.set_budget(budget);
+                queue.insert_at("again".to_string(), start);
+                let mut given = 0;
+                let looped = timeout(ms(50), async {
+                    while let Some(out) = poll_fn(|cx| queue.poll_expired(cx)).await {
+                        queue.insert_at(out.into_inner(), start);
+                        given += 1;
+                        assert!(given < ENDLESS, "it goes on and on");
+                    }
+                });
+                assert!(looped.await.is_err());
+            }
+        });
+    });
+}
+
+/// The most entries that a task takes of `next` while another task, which is ready all the time, waits for its turn.
+async fn most_between_turns<E>(mut next: impl FnMut(&mut Context<'_>) -> Poll<Option<E>>, entries: usize) -> usize {
+    let turns = Rc::new(Cell::new(0));
+    let counted = turns.clone();
+    let local = LocalSet::new();
+    let other = local.spawn_local(async move {
+        loop {
+            counted.set(counted.get() + 1);
+            tokio::task::yield_now().await;
+        }
+    });
+    let taken = local.run_until(async {
+        tokio::task::yield_now().await;
+        let (mut most, mut row, mut turn) = (0, 0, turns.get());
+        for _ in 0..entries {
+            assert!(poll_fn(&mut next).await.is_some());
+            if turn != turns.get() {
+                (row, turn) = (0, turns.get());
+            }
+            row += 1;
+            most = most.max(row);
+        }
+        assert!(turns.get() > 0, "the other task is ready");
+        most
+    });
+    let most = taken.await;
+    other.abort();
+    most
+}
+
+#[test]
+fn many_that_are_due_keep_another_task_waiting_no_longer_than_the_peers() {
+    const ENTRIES: usize = 500_000;
+    ends(|| {
+        paused().block_on(async {
+            let (mut ours, mut peers, shared) = (DelayQueue::new(), peer::DelayQueue::new(), builder().build());
+            for at in 0..ENTRIES {
+                let when = ms(1 + at as u64 % 1_000);
+                ours.insert(Box::new(at), when);
+                peers.insert(Box::new(at), when);
+                shared.insert(Box::new(at), when).unwrap();
+            }
+            advance(ms(2_000)).await;
+            let mut stream = shared.stream();
+            let by_peer = most_between_turns(|cx| peers.poll_expired(cx), ENTRIES).await;
+            let by_stream = most_between_turns(|cx| Pin::new(&mut stream).poll_next(cx), ENTRIES).await;
+            let ours = most_between_turns(|cx| ours.poll_expired(cx), ENTRIES).await;
+            println!("{by_peer} by the peer, {ours} by the queue, {by_stream} by the stream");
+            assert!(ours <= by_peer && by_stream <= by_peer && by_peer <= 128, "{ours}, {by_stream}, {by_peer}");
+        });
+    });
+}
+
+/// A poll that waits for an entry, or has more steps to make, begins the count anew.
+#[test]
+fn a_row_of_entries_ends_where_a_poll_is_pending() {
+    ends(|| {
+        paused().block_on(async {
+            let (mut queue, shared) = (DelayQueue::new(), builder().build());
+            let mut stream = shared.stream();
+            let waker = Waker::from(Arc::<Wakes>::default());
+            let mut cx = Context::from_waker(&waker);
+            for _ in 0..5 {
+                for at in 0..100 {
+                    queue.insert(at.to_string(), ms(10));
+                    shared.insert(at.to_string(), ms(10)).unwrap();
+                }
+                assert!(
+                    queue.poll_expired(&mut cx).is_pending() && Pin::new(&mut stream).poll_next(&mut cx).is_pending()
+                );
+                advance(ms(11)).await;
+                for at in 0..100 {
+                    assert!(queue.poll_expired(&mut cx).is_ready(), "{at}");
+                    assert!(Pin::new(&mut stream).poll_next(&mut cx).is_ready(), "{at}");
+                }
+            }
         });
     });
 }

@@ -20,6 +20,21 @@ pub(crate) enum Found {
     Working,
 }
 
+#[cfg(test)]
+thread_local! {
+    /// What a test does once, in this thread, between a look at the entry that comes first and what rests on the look.
+    pub(crate) static AFTER_LOOK: std::cell::Cell<Option<Box<dyn FnOnce()>>> = const { std::cell::Cell::new(None) };
+}
+
+/// Where a handle's call may come between: see `AFTER_LOOK`.
+#[inline(always)]
+fn after_look() {
+    #[cfg(test)]
+    if let Some(call) = AFTER_LOOK.with(std::cell::Cell::take) {
+        call();
+    }
+}
+
 /// Notes that there is more to heed, where it is dropped.
 struct Again<'a>(&'a Shared);
 
@@ -85,8 +100,9 @@ impl<T> Segments<T> {
             return found;
         }
         self.forget_peek();
-        if !self.remove(&key, out) {
-            // A handle cancelled it just now.
+        after_look();
+        if !self.take_unless_extended(&key, deadline, out) {
+            // A handle extended or cancelled it just now.
             return self.poll_segments(reached, budget, out);
         }
         self.tick = self.tick.max(deadline);
@@ -158,16 +174,30 @@ impl<T> Segments<T> {
 
     /// The key of the entry that comes out next.
     pub fn peek(&self) -> Option<Key> {
+        self.first().map(|(key, _)| key)
+    }
+
+    /// The least deadline of all entries.
+    pub fn least(&self) -> Option<u64> {
+        let first = self.first();
+        after_look();
+        first.map(|(_, deadline)| deadline)
+    }
+
+    /// The key of the entry that comes out next, and the deadline that it was seen to have.
+    fn first(&self) -> Option<(Key, u64)> {
         let mut peeked = self.peeked.lock().unwrap_or_else(PoisonError::into_inner);
-        let known = peeked.filter(|key| self.deadline(key) == Some(self.peeked_at.load(Ordering::Relaxed)));
+        let deadline = self.peeked_at.load(Ordering::Relaxed);
+        let known = peeked.filter(|key| self.deadline(key) == Some(deadline));
         // Nothing sooner was put in since, and no deadline was lowered.
-        if known.is_some() {
-            return known;
+        if let Some(key) = known {
+            return Some((key, deadline));
         }
         let first = self.segments().filter_map(Segment::first).min_by_key(|first| first.0);
-        *peeked = first.map(|(_, place)| self.shared.states().relocations.key(&place).unwrap_or(place));
-        self.peeked_at.store(first.map_or(0, |(deadline, _)| deadline), Ordering::Relaxed);
-        *peeked
+        let first = first.map(|(at, place)| (self.shared.states().relocations.key(&place).unwrap_or(place), at));
+        *peeked = first.map(|(key, _)| key);
+        self.peeked_at.store(first.map_or(0, |(_, deadline)| deadline), Ordering::Relaxed);
+        first
     }
 
     pub(super) fn forget_peek(&mut self) {
@@ -181,11 +211,5 @@ impl<T> Segments<T> {
         if when < *self.peeked_at.get_mut() {
             self.forget_peek();
         }
-    }
-
-    /// The least deadline of all entries.
-    pub fn least(&self) -> Option<u64> {
-        let key = self.peek()?;
-        self.deadline(&key)
     }
 }

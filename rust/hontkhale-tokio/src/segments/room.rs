@@ -1,7 +1,7 @@
 //! Room for entries: segments that are added, worn out, compacted and let go, and entries that are moved between them.
 
 use super::{Segments, NEVER, SEGMENTS_LIMIT};
-use crate::key::Key;
+use crate::key::{Expired, Key};
 use crate::segment::{Segment, FIRST_SLOTS};
 use hontkhale::owner::{CoreError, CAPACITY_LIMIT};
 use std::sync::Arc;
@@ -122,6 +122,38 @@ impl<T> Segments<T> {
         if !self.takes_moved(self.open) {
             self.open = self.find_room(Segment::is_roomy);
         }
+        self.take_or_carry(place, self.open, |found| Some(when.unwrap_or(found))).map(drop)
+    }
+
+    /// Takes the entry of a key out if that deadline is in force as it leaves, and writes it to `out`. Where a handle extended it
+    /// before, it goes on at another place. False where it isn't out.
+    #[cold]
+    pub(super) fn take_unless_extended(&mut self, key: &Key, deadline: u64, out: &mut Option<Expired<T>>) -> bool {
+        let place = self.place(key);
+        let Some(segment) = self.segment(&place).filter(|_| self.has_handles) else {
+            return self.take_out(place, out);
+        };
+        let state = Arc::clone(&segment.state);
+        let has_room = segment.has_room_without(&place);
+        let to = if has_room { place.index() } else { self.find_room(|segment| segment.free() > 0) };
+        let goes_on = |found| {
+            (found != deadline).then(|| {
+                state.note_left_slot();
+                found
+            })
+        };
+        *out = self.take_or_carry(place, to, goes_on).unwrap_or(None);
+        self.note_out(place.index(), out)
+    }
+
+    /// Takes an entry out of its slot. Where `goes_on` makes a deadline of the one that it leaves with, it goes on under that and
+    /// under the same user's key, in a segment that has a free slot by then. Else it is the answer, under the key of its place.
+    fn take_or_carry(
+        &mut self,
+        place: Key,
+        to: usize,
+        goes_on: impl FnOnce(u64) -> Option<u64>,
+    ) -> Result<Option<Expired<T>>, CoreError> {
         let shared = Arc::clone(&self.shared);
         // A handle that finds the entry moved waits until its new place is noted. No value is dropped meanwhile, since the room
         // was found before.
@@ -131,12 +163,14 @@ impl<T> Segments<T> {
         let mut taken = None;
         segment.remove(&place, &mut taken);
         let taken = taken.ok_or(CoreError::Missing)?;
+        let Some(deadline) = goes_on(taken.tick) else {
+            return Ok(Some(taken));
+        };
         let key = states.relocations.key(&place).unwrap_or(place);
-        let deadline = when.unwrap_or(taken.tick);
-        let new = self.put(self.open, &mut Some(taken.data), deadline).expect("a segment that has a free slot");
+        let new = self.put(to, &mut Some(taken.data), deadline).expect("a segment that has a free slot");
         states.relocations.note(key, new);
         self.has_moved = true;
-        Ok(())
+        Ok(None)
     }
 
     /// The slots that aren't worn, those among them whose segments are yet to be added.
