@@ -16,12 +16,16 @@ impl<T> Shared<T> {
         }
     }
 
-    /// The same of a queue without a bound. `others` stands for what others do once a row is read. It isn't inlined, so that a
-    /// queue with a bound saves none of the registers that it takes.
-    #[inline(never)]
-    fn waiting_while(&self, mut others: impl FnMut()) -> usize {
+    /// The same of a queue without a bound. `others` stands for what others do once a row is read.
+    fn waiting_while(&self, others: impl FnMut()) -> usize {
         // These are read first. A row counts an entry that was cancelled for good, so each cancel is among what is left.
         let before = self.front.cancels() + self.moves_made.load(SeqCst);
+        self.left_since(before, others)
+    }
+
+    /// What is left, beyond so many cancels and moves. It isn't inlined, so that a queue with a bound saves no registers for it.
+    #[inline(never)]
+    fn left_since(&self, before: u64, mut others: impl FnMut()) -> usize {
         let segments = self.segments.iter().map_while(|one| one.get()?.first());
         let left: u64 = segments
             .flat_map(|segment| segment.rows.iter())
