@@ -9,7 +9,7 @@ import sys
 import time
 import urllib.request
 
-from cluster import HANG, cluster, free_port, wait_for
+from cluster import HANG, MANY, cluster, free_port, wait_for
 from holder import Connection, Holder, Refusal, replaced
 
 LEASE, INTERVAL, BEAT = 6.0, 1.0, 0.5
@@ -38,7 +38,7 @@ class Workers:
             str(int(self.lease * 1000)),
             "--write-every",
             str(int(INTERVAL * 1000)),
-            *self.more,
+            *(self.more or MANY),
         )
 
     def look(self):
