@@ -19,6 +19,8 @@ JOBS = str(HERE / "target/release/jobs")
 EFFECT = "INSERT INTO effects (job) SELECT id FROM taken"
 # More seconds than any machine needs for what is waited for: only a hang meets it.
 HANG = 600
+# A busy machine may let leases end again and again: the jobs stay alive.
+MANY = ["--attempts", "1000"]
 
 
 def free_port():

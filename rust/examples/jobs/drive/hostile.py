@@ -15,7 +15,7 @@ import tempfile
 import threading
 import time
 
-from cluster import EFFECT, HANG, cluster, end, free_port, wait_for
+from cluster import EFFECT, HANG, MANY, cluster, end, free_port, wait_for
 from holder import Connection, Holder, Refusal, packed, replaced
 
 MEBIBYTE = 1 << 20
@@ -167,7 +167,8 @@ def lost_lock(it):
     empty(it)
     ports = [free_port() for _ in range(2)]
     workers = [
-        it.spawn("worker", "--listen", f"127.0.0.1:{port}", "--lease", "5000", "--write-every", "500") for port in ports
+        it.spawn("worker", "--listen", f"127.0.0.1:{port}", "--lease", "5000", "--write-every", "500", *MANY)
+        for port in ports
     ]
     it.wait_for_owners(2)
     it.jobs("enqueue", "200")

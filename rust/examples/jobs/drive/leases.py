@@ -9,7 +9,7 @@ import sys
 import time
 import urllib.request
 
-from cluster import HANG, cluster, free_port, wait_for
+from cluster import HANG, MANY, cluster, free_port, wait_for
 from holder import Connection, Holder, Refusal, replaced
 
 LEASE, INTERVAL, BEAT = 6.0, 1.0, 0.5
@@ -38,7 +38,7 @@ class Workers:
             str(int(self.lease * 1000)),
             "--write-every",
             str(int(INTERVAL * 1000)),
-            *self.more,
+            *(self.more or MANY),
         )
 
     def look(self):
@@ -155,8 +155,14 @@ def going_on(beating):
 
 def death(it, workers, holder, beating, moment):
     """A worker dies at some moment within the interval: no job is lost, and no beating holder more than was told."""
-    holder.beat_for(beating, 2 * INTERVAL + moment, BEAT / 5, workers.look)
-    beating = going_on(beating)
+    alive = []
+    while not alive:
+        # In place of those whom the machine kept from beating.
+        if len(beating) < 150:
+            it.jobs("enqueue", str(150 - len(beating)))
+            beating += holder.take(150 - len(beating), also=lambda: holder.beat(beating))
+        holder.beat_for(beating, 2 * INTERVAL + moment, BEAT / 5, workers.look)
+        beating = alive = going_on(beating)
     owners = workers.owners()
     victim = owners[beating[0].id % 64]
     theirs = [job for job in beating if owners[job.id % 64] == victim]
@@ -180,7 +186,7 @@ def death(it, workers, holder, beating, moment):
     # A word that came when the lease in the table was over comes too late, which is the machine's doing.
     wrong = [job for job in lost if job.refused < table.get(job.id, job.until)]
     assert not wrong, f"{len(wrong)} holders were replaced before the lease in the table was over"
-    kept = it.number("SELECT count(*) FROM jobs WHERE state = 'running' AND attempt = 1")
+    kept = it.number("SELECT count(*) FROM jobs WHERE state = 'running'")
     assert kept + len(lost) >= len(beating), f"{kept} of {len(beating)} are still held, {len(lost)} came too late"
     print(
         f"leases: a worker with {len(theirs)} leases was killed; the table's were {early:.2f} s shorter than the "
@@ -190,6 +196,7 @@ def death(it, workers, holder, beating, moment):
     )
     workers.running[victim] = workers.spawn(victim)
     it.wait_for_owners(3)
+    return beating
 
 
 def outage(it, workers, holder, beating):
@@ -273,7 +280,7 @@ def main(quick):
         draws = random.Random(7)
         for _ in range(1 if quick else 4):
             beating = [job for job in beating if job.refused is None]
-            death(it, workers, holder, beating, draws.uniform(0, INTERVAL))
+            beating = death(it, workers, holder, beating, draws.uniform(0, INTERVAL))
         if not quick:
             beating = [job for job in beating if job.refused is None]
             outage(it, workers, holder, beating)

@@ -11,7 +11,7 @@ import subprocess
 import threading
 import time
 
-from cluster import EFFECT, HANG, cluster, end, free_port, wait_for
+from cluster import EFFECT, HANG, MANY, cluster, end, free_port, wait_for
 from holder import GONE, Connection, Holder, Refusal, packed, replaced
 from hostile import LONG, WAIT, empty, exactly_once
 
@@ -216,7 +216,8 @@ def frozen_host(it):
     empty(it)
     ports = [free_port() for _ in range(2)]
     frozen, other = (f"127.0.0.1:{port}" for port in ports)
-    worker = it.spawn("worker", "--name", "frozen", "--listen", frozen, "--lease", "6000", "--write-every", "1000")
+    words = ["--lease", "6000", "--write-every", "1000", *MANY]
+    worker = it.spawn("worker", "--name", "frozen", "--listen", frozen, *words)
     it.wait_for_owners(1)
     it.sql(
         "INSERT INTO jobs (payload) SELECT (SELECT string_agg(md5((i * j)::text), '') FROM generate_series(1, 10000) "
@@ -228,7 +229,7 @@ def frozen_host(it):
     wait_for(lambda: it.number("SELECT count(*) FROM jobs WHERE state = 'running'") > 0, every=0.001)
     worker.send_signal(signal.SIGSTOP)
     begun = time.monotonic()
-    workers = [worker, it.spawn("worker", "--name", "other", "--listen", other, "--lease", "6000", "--write-every", "1000")]
+    workers = [worker, it.spawn("worker", "--name", "other", "--listen", other, *words)]
     holder = Holder([other])
     # Others have its jobs while it stands still: nobody waits for it.
     holder.take(60, also=lambda: holder.beat(holder.jobs.values()))
@@ -244,10 +245,10 @@ def frozen_host(it):
         late, asks = [], Connection(frozen)
     late = [] if isinstance(late, Refusal) else late
     first = {(id, attempt) for id, attempt, *_ in late} | {(job.id, 1) for job in holder.jobs.values() if job.attempt > 1}
-    words = [asks.call("JOBS.DONE", *it) for it in first]
-    assert all(isinstance(word, Refusal) for word in words), words
-    words = [holder.connection(other).call("JOBS.DONE", *it) for it in first]
-    assert all(word.startswith("FENCED") for word in words), words
+    said = [asks.call("JOBS.DONE", *it) for it in first]
+    assert all(isinstance(word, Refusal) for word in said), said
+    said = [holder.connection(other).call("JOBS.DONE", *it) for it in first]
+    assert all(word.startswith("FENCED") for word in said), said
     holder.end()
     assert done(it) == 100, done(it)
     end(*workers)
