@@ -247,7 +247,13 @@ def frozen_host(it):
     first = {(id, attempt) for id, attempt, *_ in late} | {(job.id, 1) for job in holder.jobs.values() if job.attempt > 1}
     said = [asks.call("JOBS.DONE", *it) for it in first]
     assert all(isinstance(word, Refusal) for word in said), said
-    said = [holder.connection(other).call("JOBS.DONE", *it) for it in first]
+
+    def answered():
+        """the other worker knows whose the jobs are"""
+        said = [holder.connection(other).call("JOBS.DONE", *it) for it in first]
+        return [] if any(word.startswith("TRYAGAIN") for word in said) else [said]
+
+    (said,) = wait_for(answered)
     assert all(word.startswith("FENCED") for word in said), said
     holder.end()
     assert done(it) == 100, done(it)

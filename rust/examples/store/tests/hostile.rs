@@ -535,11 +535,11 @@ fn is_told_why(store: &Store, whole: &[u8]) -> bool {
     let (mut stream, begun) = (store.connect(), Instant::now());
     let is_sent = stream.write_all(whole).is_ok();
     let mut told = String::new();
-    let _ = stream.read_to_string(&mut told);
+    let is_ended = stream.read_to_string(&mut told).is_ok();
     if begun.elapsed() >= HEARD {
         return false;
     }
-    assert!(is_sent, "it isn't heard");
+    assert!(is_sent && is_ended, "it is cut off");
     assert_eq!(told, "-ERR Protocol error: invalid bulk length\r\n", "and nothing more is said");
     true
 }
