@@ -1,45 +1,54 @@
-//! How values are dropped, of which each may call the queue: one after the other, so that no drop stands on another's stack.
+//! How values are dropped, of which each may call the queue: one after the other, so that no drop of a queue stands on the
+//! stack of another one of it. A drop of another queue is made where it stands: the stack holds one for each queue.
 
-use std::cell::Cell;
-use std::sync::atomic::{AtomicBool, Ordering::SeqCst};
+use std::cell::{Cell, RefCell};
+use std::mem::ManuallyDrop;
+use std::sync::atomic::{AtomicBool, AtomicUsize, Ordering::SeqCst};
 use std::sync::{Mutex, MutexGuard, PoisonError};
 
+// They have no destructors, so that those of a thread's other values may drop values of a queue.
 thread_local! {
-    static DROPS: Cell<bool> = const { Cell::new(false) };
+    /// The queue of this thread's outermost drop, by its address, and 0 outside of drops.
+    static OUTERMOST: Cell<usize> = const { Cell::new(0) };
+    /// The other queues of which a drop stands within that one.
+    static WITHIN: ManuallyDrop<RefCell<Vec<usize>>> = const { ManuallyDrop::new(RefCell::new(Vec::new())) };
 }
 
 /// Held while this thread drops values of a queue.
-pub(crate) struct Dropping(());
-
-impl Dropping {
-    /// None within a drop.
-    pub fn begin() -> Option<Dropping> {
-        let is_within = DROPS.with(|drops| drops.replace(true));
-        if is_within {
-            None
-        } else {
-            Some(Dropping(()))
-        }
-    }
-
-    /// Whether the thread is within a drop.
-    pub fn is_begun() -> bool {
-        DROPS.with(Cell::get)
-    }
+struct Dropping {
+    is_outermost: bool,
 }
 
 impl Drop for Dropping {
+    #[inline]
     fn drop(&mut self) {
-        DROPS.with(|drops| drops.set(false));
+        if self.is_outermost {
+            OUTERMOST.with(|outermost| outermost.set(0));
+        } else {
+            end_within();
+        }
     }
 }
 
-/// Values that were let go within a drop. They are dropped after it.
+/// Ends the last drop that was begun within the outermost one.
+#[cold]
+fn end_within() {
+    WITHIN.with(|within| {
+        let mut within = within.borrow_mut();
+        within.pop();
+        if within.is_empty() {
+            // Nobody drops the memory at the thread's end.
+            *within = Vec::new();
+        }
+    });
+}
+
+/// Values of a queue that were let go within a drop of another one of its values. They are dropped after it.
 pub(crate) struct LetGo<T> {
     values: Mutex<Vec<T>>,
     has_some: AtomicBool,
-    /// Whether values are set aside in a shard of the queue.
-    pub has_aside: AtomicBool,
+    /// In how many shards of the queue values are set aside.
+    pub shards_with_aside: AtomicUsize,
 }
 
 impl<T> LetGo<T> {
@@ -47,7 +56,7 @@ impl<T> LetGo<T> {
         LetGo {
             values: Mutex::default(),
             has_some: AtomicBool::new(false),
-            has_aside: AtomicBool::new(false),
+            shards_with_aside: AtomicUsize::new(0),
         }
     }
 
@@ -59,7 +68,15 @@ impl<T> LetGo<T> {
         self.has_some.load(SeqCst)
     }
 
-    pub fn push(&self, value: T) {
+    pub fn has_aside(&self) -> bool {
+        self.shards_with_aside.load(SeqCst) > 0
+    }
+
+    pub fn len(&self) -> usize {
+        self.values().len()
+    }
+
+    fn push(&self, value: T) {
         let mut values = self.values();
         values.push(value);
         self.has_some.store(true, SeqCst);
@@ -75,23 +92,61 @@ impl<T> LetGo<T> {
         value
     }
 
-    /// Drops them, and those that are let go meanwhile. Nothing within a drop.
+    /// What tells the queue from others.
+    fn address(&self) -> usize {
+        self as *const LetGo<T> as usize
+    }
+
+    /// Whether the thread is within a drop of the queue.
+    pub fn is_dropping(&self) -> bool {
+        let outermost = OUTERMOST.with(Cell::get);
+        outermost == self.address() || outermost != 0 && WITHIN.with(|within| within.borrow().contains(&self.address()))
+    }
+
+    /// None within a drop of the queue.
+    #[inline]
+    fn begin(&self) -> Option<Dropping> {
+        let is_outermost = OUTERMOST.with(|outermost| {
+            let is_outermost = outermost.get() == 0;
+            if is_outermost {
+                outermost.set(self.address());
+            }
+            is_outermost
+        });
+        if is_outermost {
+            return Some(Dropping { is_outermost });
+        }
+        self.begin_within()
+    }
+
+    /// The same within a drop of any queue.
+    #[cold]
+    fn begin_within(&self) -> Option<Dropping> {
+        if self.is_dropping() {
+            return None;
+        }
+        WITHIN.with(|within| within.borrow_mut().push(self.address()));
+        Some(Dropping { is_outermost: false })
+    }
+
+    /// Drops them, and those that are let go meanwhile. Nothing within a drop of the queue.
     pub fn drop_all(&self) {
-        if let Some(dropping) = Dropping::begin() {
+        if let Some(dropping) = self.begin() {
             self.drop_rest(&dropping);
         }
     }
 
     /// The same where the turn is begun.
-    pub fn drop_rest(&self, _dropping: &Dropping) {
+    fn drop_rest(&self, _dropping: &Dropping) {
         while self.has_some() {
             drop(self.pop());
         }
     }
 
-    /// Drops a value, or lets it go within a drop.
+    /// Drops a value, or lets it go within a drop of the queue.
+    #[inline]
     pub fn drop_value(&self, value: T) {
-        match Dropping::begin() {
+        match self.begin() {
             None => self.push(value),
             Some(dropping) => {
                 drop(value);
