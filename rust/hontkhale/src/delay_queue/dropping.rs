@@ -1,5 +1,5 @@
-//! How values are dropped, of which each may call the queue: one after the other, so that no drop of a queue stands on the
-//! stack of another one of it. A drop of another queue is made where it stands: the stack holds one for each queue.
+//! How values are dropped, of which each may call the queue: one after the other, so that no drop of a queue stands on
+//! another one's stack. Another queue's drop is made where it stands: the stack holds one for each queue.
 
 use std::cell::{Cell, RefCell};
 use std::mem::ManuallyDrop;
@@ -47,8 +47,8 @@ fn end_within() {
 pub(crate) struct LetGo<T> {
     values: Mutex<Vec<T>>,
     has_some: AtomicBool,
-    /// In how many shards of the queue values are set aside.
-    pub shards_with_aside: AtomicUsize,
+    /// In how many places values wait for their drop: here, and in the shards where some are set aside.
+    places: AtomicUsize,
 }
 
 impl<T> LetGo<T> {
@@ -56,7 +56,7 @@ impl<T> LetGo<T> {
         LetGo {
             values: Mutex::default(),
             has_some: AtomicBool::new(false),
-            shards_with_aside: AtomicUsize::new(0),
+            places: AtomicUsize::new(0),
         }
     }
 
@@ -64,12 +64,23 @@ impl<T> LetGo<T> {
         self.values.lock().unwrap_or_else(PoisonError::into_inner)
     }
 
-    pub fn has_some(&self) -> bool {
+    fn has_some(&self) -> bool {
         self.has_some.load(SeqCst)
     }
 
-    pub fn has_aside(&self) -> bool {
-        self.shards_with_aside.load(SeqCst) > 0
+    /// Whether values of the queue wait for their drop, here or in a shard.
+    #[inline]
+    pub fn has_values(&self) -> bool {
+        self.places.load(SeqCst) > 0
+    }
+
+    /// Counts a place at which values wait for their drop.
+    pub fn count_place(&self) {
+        self.places.fetch_add(1, SeqCst);
+    }
+
+    pub fn uncount_place(&self) {
+        self.places.fetch_sub(1, SeqCst);
     }
 
     pub fn len(&self) -> usize {
@@ -79,15 +90,17 @@ impl<T> LetGo<T> {
     fn push(&self, value: T) {
         let mut values = self.values();
         values.push(value);
-        self.has_some.store(true, SeqCst);
+        if !self.has_some.swap(true, SeqCst) {
+            self.count_place();
+        }
     }
 
     fn pop(&self) -> Option<T> {
         let mut values = self.values();
         let value = values.pop();
-        if values.is_empty() {
+        if values.is_empty() && self.has_some.swap(false, SeqCst) {
             *values = Vec::new();
-            self.has_some.store(false, SeqCst);
+            self.uncount_place();
         }
         value
     }
@@ -137,6 +150,7 @@ impl<T> LetGo<T> {
     }
 
     /// The same where the turn is begun.
+    #[inline(always)]
     fn drop_rest(&self, _dropping: &Dropping) {
         while self.has_some() {
             drop(self.pop());
@@ -144,7 +158,7 @@ impl<T> LetGo<T> {
     }
 
     /// Drops a value, or lets it go within a drop of the queue.
-    #[inline]
+    #[inline(always)]
     pub fn drop_value(&self, value: T) {
         match self.begin() {
             None => self.push(value),

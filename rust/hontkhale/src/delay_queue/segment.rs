@@ -137,7 +137,8 @@ impl<T> Segment<T> {
         let mut shard = self.queue.lock(place);
         let takes = shard.takes;
         let core = &mut shard.attended.core;
-        let is_crowded = core.aside() > 0 && free(core) == 0;
+        // Without drops nothing is set aside, and the core tells whether a slot is free.
+        let is_crowded = needs_drop::<T>() && free(core) == 0;
         let inserted = match takes && !is_crowded {
             true => core.insert_deferring(value, tick).0.map_err(|(_, value)| value),
             false => Err(value),
@@ -154,7 +155,8 @@ impl<T> Segment<T> {
         row.lower_hint(tick);
         row.left.store(row.left() + 1, Relaxed);
         row.linked.store(core.len(), Relaxed);
-        if free(core) == 0 {
+        // Where those that are left have a value set aside, it's noted by the next insert.
+        if core.slots.free_count == 0 {
             row.has_room.store(false, SeqCst);
         }
         inserted
@@ -167,11 +169,11 @@ impl<T> Segment<T> {
         let mut shard = self.queue.lock(place);
         let value = shard.attended.core.remove(entry)?.value;
         let core = &shard.attended.core;
-        let (len, free) = (core.len(), core.slots.free_count);
+        let (len, free) = (core.len(), free(core));
         row.left.store(row.left() - 1, Relaxed);
         row.linked.store(len, Relaxed);
-        if !row.has_room() || len + free <= core.capacity() / 2 {
-            // Its slot is the first that is free, or many are worn.
+        if free == 1 || len + free <= core.capacity() / 2 {
+            // Its slot is the first that is free, or many are worn or have a value set aside.
             drop(Locked {
                 shard,
                 segment: self,
@@ -204,7 +206,7 @@ impl<T> Segment<T> {
         let mut shard = self.enter(place);
         let value = shard.core_mut().take_aside();
         if shard.core().aside() == 0 && shard.row.has_aside.swap(false, SeqCst) {
-            self.let_go.shards_with_aside.fetch_sub(1, SeqCst);
+            self.let_go.uncount_place();
         }
         value
     }
@@ -463,7 +465,7 @@ impl<T> Drop for Locked<'_, T> {
             self.row.has_room.store(has_room, SeqCst);
         }
         if core.aside() > 0 && !self.row.has_aside.swap(true, SeqCst) {
-            self.segment.let_go.shards_with_aside.fetch_add(1, SeqCst);
+            self.segment.let_go.count_place();
         }
         // Half of the slots are worn, and no stamp is left there.
         if len + free <= capacity / 2 && self.shard.takes {

@@ -367,7 +367,7 @@ impl<T> Shared<T> {
         for (at, segment) in self.segments() {
             if segment.is_worn.load(SeqCst) {
                 self.renew(segment, at);
-                if self.let_go.has_aside() {
+                if self.let_go.has_values() {
                     self.tidy();
                     self.renew(segment, at);
                 }
@@ -677,17 +677,15 @@ impl<T> Shared<T> {
 impl<T> Shared<T> {
     /// Drops the values that were let go and that nobody dropped yet. No lock is held meanwhile.
     pub fn tidy(&self) {
-        if self.let_go.has_some() {
+        if self.let_go.has_values() {
             self.let_go.drop_all();
-        }
-        if self.let_go.has_aside() {
             self.segments().for_each(|(_, segment)| segment.drop_all_aside());
         }
     }
 
     /// Whether there are no such values that this thread may drop now.
     pub fn is_tidy(&self) -> bool {
-        !(self.let_go.has_some() || self.let_go.has_aside()) || self.let_go.is_dropping()
+        !self.let_go.has_values() || self.let_go.is_dropping()
     }
 
     /// A bounded part of what is done where nothing is due: cancelled entries are freed and their values dropped, and worn

@@ -16,8 +16,8 @@ fn dropped(drops: &Drops, values: u64) -> usize {
     (0..values).map(|number| drops.count(number)).sum()
 }
 
-/// A queue with cancelled values, in the shard to which this thread's next insert goes, and a receiver that is within the
-/// drop of the first of them, each of which makes a call.
+/// A queue with cancelled values, in the shard to which this thread's next insert goes, and a receiver that is within
+/// the drop of the first of them, each of which makes a call.
 fn within_a_drop(call: impl Fn() + Send + Sync + 'static) -> (DelayQueue<Value>, Drops, JoinHandle<()>) {
     let (clock, drops, call) = (ManualClock::new(), Drops::default(), Arc::new(call));
     let queue = DelayQueue::builder().clock(&clock).build();
@@ -96,8 +96,8 @@ fn an_insert_that_has_room_drops_nothing() {
     assert_eq!((dropped(&drops, 1_000), queue.stats().cancelled), (1_000, 0));
 }
 
-/// Puts as many values in as there are slots at first, and takes them out again: the first and the last three, which are of
-/// different shards, by cancels.
+/// Puts as many values in as there are slots at first, and takes them out again: the first and the last three, which are
+/// of different shards, by cancels.
 fn uses_each_slot(queue: &DelayQueue<Value>, drops: &Drops) {
     let insert = |number| queue.insert(drops.value(number), FAR).expect("room");
     let keys: Vec<_> = (0..128).map(insert).collect();
