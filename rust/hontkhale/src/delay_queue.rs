@@ -73,11 +73,19 @@ use waking::NEVER;
 /// for constant time. An insert may do a bounded part of what keeps the queue going besides, and takes memory where the queue
 /// grows.
 ///
+/// # Who drops values
+/// The values of entries that were cancelled are dropped by whoever receives, before an entry is in hand, by
+/// [`drain`](DelayQueue::drain) and [`clear`](DelayQueue::clear), and with the last clone, as are those that are left then.
+/// No insert drops a value, or waits for a drop, while a *slot* is free, which is the room for one entry: so its caller may
+/// hold a lock that a drop takes. Where none is free an insert first frees cancelled entries and drops their values. So does
+/// a call by key for an entry whose slot is worn, by a million inserts and resets.
+///
 /// # What a value's drop may do
-/// The queue drops the values of entries that were cancelled, and those that are left as its last clone is dropped. It holds
-/// no lock meanwhile, so a drop may call the queue. What these calls let go in their turn is dropped after it, so that the
-/// stack holds one drop at a time. A drop that panics passes through the call that made it; no entry but the dropped one is
-/// lost, though a value that was handed to [`insert`](DelayQueue::insert) is dropped with the call.
+/// The queue holds no lock while it drops a value, so a drop may call the queue. What these calls let go in their turn is
+/// dropped after it, so that the stack holds one drop of the queue at a time. If the drop calls another queue, that one's
+/// values are dropped within that call. A drop that panics passes through the call that made it; no entry but the dropped one
+/// is lost, though a value that was handed to [`insert`](DelayQueue::insert) is dropped with the call. A later call drops
+/// what was to be dropped after the one that panicked.
 ///
 /// # A suspended machine, and `fork`
 /// The clock is [`Instant`], which stands while Linux is suspended (`CLOCK_MONOTONIC`, and not `CLOCK_BOOTTIME`): what is due
@@ -118,7 +126,9 @@ impl<T> DelayQueue<T> {
 
     /// Puts a value in, to come out after `after`, and returns its key. A receiver that waits for a later one is woken.
     ///
-    /// It reads the clock, and takes the lock of one shard for constant time.
+    /// It reads the clock, and takes the lock of one shard for constant time. While a slot is free it drops nobody's value and
+    /// waits for nobody's drop. Where none is free it frees cancelled entries and drops their values, before its own entry is
+    /// in, or takes memory for more slots.
     ///
     /// # Errors
     /// The value comes back. In this order:
@@ -145,7 +155,8 @@ impl<T> DelayQueue<T> {
     }
 
     /// Puts a value in, to come out at `when`, or at once if that is over, and returns its key. A receiver that waits for a
-    /// later one is woken. It reads no clock, and takes the lock of one shard for constant time.
+    /// later one is woken. It reads no clock, and takes the lock of one shard for constant time. Of others' values it drops
+    /// what [`insert`](DelayQueue::insert) does.
     ///
     /// # Errors
     /// The value comes back. In this order:
@@ -162,7 +173,8 @@ impl<T> DelayQueue<T> {
     }
 
     /// Puts a value in, to come out after `after`, and returns a guard. If the guard is dropped before the value came out,
-    /// the value is taken out and dropped. It reads the clock, and takes the lock of one shard for constant time.
+    /// the value is taken out and dropped. It reads the clock, and takes the lock of one shard for constant time. Of others'
+    /// values it drops what [`insert`](DelayQueue::insert) does.
     ///
     /// # Errors
     /// The value comes back. In this order:
@@ -268,8 +280,9 @@ impl<T> DelayQueue<T> {
     }
 
     /// Cancels an entry, so that it won't come out, and returns the deadline that it gave up. Its value is dropped later: by
-    /// a receiver in a quiet moment or when the entry would have been due, by an insert that finds no room, or with the
-    /// queue. [`remove`](DelayQueue::remove) returns the value at once, and takes a lock.
+    /// a receiver in a quiet moment or when the entry would have been due, by [`drain`](DelayQueue::drain) or
+    /// [`clear`](DelayQueue::clear), by an insert for which no slot is free, or with the queue.
+    /// [`remove`](DelayQueue::remove) returns the value at once, and takes a lock.
     ///
     /// # Errors
     /// In this order:
@@ -336,7 +349,8 @@ impl<T> DelayQueue<T> {
 
     /// Takes an entry out that is due, and waits until one is. It returns none once the queue is closed and nothing is due.
     ///
-    /// Any number of threads may receive. One of them sleeps until the next deadline, the others until they are next.
+    /// Any number of threads may receive. One of them sleeps until the next deadline, the others until they are next. The
+    /// values of cancelled entries are dropped here, before an entry is in hand.
     ///
     /// ```
     /// use hontkhale::DelayQueue;
@@ -472,7 +486,8 @@ impl<T> DelayQueue<T> {
         self.shared.reserve(entries)
     }
 
-    /// Takes out all that waits, and drops it. It returns how many entries these were.
+    /// Takes out all that waits, and drops it, with the values of cancelled entries. It returns how many entries waited. Within
+    /// the drop of another value of the queue these are dropped after it.
     pub fn clear(&self) -> usize {
         self.drain()
             .map(|(.., value)| self.shared.let_go.drop_value(value))

@@ -8,6 +8,8 @@ mod draw;
 #[path = "delay_queue/kit.rs"]
 mod kit;
 
+#[path = "delay_queue/drops.rs"]
+mod drops;
 #[path = "delay_queue/due.rs"]
 mod due;
 #[path = "delay_queue/ends.rs"]

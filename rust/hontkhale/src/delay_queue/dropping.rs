@@ -1,45 +1,54 @@
-//! How values are dropped, of which each may call the queue: one after the other, so that no drop stands on another's stack.
+//! How values are dropped, of which each may call the queue: one after the other, so that no drop of a queue stands on
+//! another one's stack. Another queue's drop is made where it stands: the stack holds one for each queue.
 
-use std::cell::Cell;
-use std::sync::atomic::{AtomicBool, Ordering::SeqCst};
+use std::cell::{Cell, RefCell};
+use std::mem::ManuallyDrop;
+use std::sync::atomic::{AtomicBool, AtomicUsize, Ordering::SeqCst};
 use std::sync::{Mutex, MutexGuard, PoisonError};
 
+// They have no destructors, so that those of a thread's other values may drop values of a queue.
 thread_local! {
-    static DROPS: Cell<bool> = const { Cell::new(false) };
+    /// The queue of this thread's outermost drop, by its address, and 0 outside of drops.
+    static OUTERMOST: Cell<usize> = const { Cell::new(0) };
+    /// The other queues of which a drop stands within that one.
+    static WITHIN: ManuallyDrop<RefCell<Vec<usize>>> = const { ManuallyDrop::new(RefCell::new(Vec::new())) };
 }
 
 /// Held while this thread drops values of a queue.
-pub(crate) struct Dropping(());
-
-impl Dropping {
-    /// None within a drop.
-    pub fn begin() -> Option<Dropping> {
-        let is_within = DROPS.with(|drops| drops.replace(true));
-        if is_within {
-            None
-        } else {
-            Some(Dropping(()))
-        }
-    }
-
-    /// Whether the thread is within a drop.
-    pub fn is_begun() -> bool {
-        DROPS.with(Cell::get)
-    }
+struct Dropping {
+    is_outermost: bool,
 }
 
 impl Drop for Dropping {
+    #[inline]
     fn drop(&mut self) {
-        DROPS.with(|drops| drops.set(false));
+        if self.is_outermost {
+            OUTERMOST.with(|outermost| outermost.set(0));
+        } else {
+            end_within();
+        }
     }
 }
 
-/// Values that were let go within a drop. They are dropped after it.
+/// Ends the last drop that was begun within the outermost one.
+#[cold]
+fn end_within() {
+    WITHIN.with(|within| {
+        let mut within = within.borrow_mut();
+        within.pop();
+        if within.is_empty() {
+            // Nobody drops the memory at the thread's end.
+            *within = Vec::new();
+        }
+    });
+}
+
+/// Values of a queue that were let go within a drop of another one of its values. They are dropped after it.
 pub(crate) struct LetGo<T> {
     values: Mutex<Vec<T>>,
     has_some: AtomicBool,
-    /// Whether values are set aside in a shard of the queue.
-    pub has_aside: AtomicBool,
+    /// In how many places values wait for their drop: here, and in the shards where some are set aside.
+    places: AtomicUsize,
 }
 
 impl<T> LetGo<T> {
@@ -47,7 +56,7 @@ impl<T> LetGo<T> {
         LetGo {
             values: Mutex::default(),
             has_some: AtomicBool::new(false),
-            has_aside: AtomicBool::new(false),
+            places: AtomicUsize::new(0),
         }
     }
 
@@ -55,43 +64,103 @@ impl<T> LetGo<T> {
         self.values.lock().unwrap_or_else(PoisonError::into_inner)
     }
 
-    pub fn has_some(&self) -> bool {
+    fn has_some(&self) -> bool {
         self.has_some.load(SeqCst)
     }
 
-    pub fn push(&self, value: T) {
+    /// Whether values of the queue wait for their drop, here or in a shard.
+    #[inline]
+    pub fn has_values(&self) -> bool {
+        self.places.load(SeqCst) > 0
+    }
+
+    /// Counts a place at which values wait for their drop.
+    pub fn count_place(&self) {
+        self.places.fetch_add(1, SeqCst);
+    }
+
+    pub fn uncount_place(&self) {
+        self.places.fetch_sub(1, SeqCst);
+    }
+
+    pub fn len(&self) -> usize {
+        self.values().len()
+    }
+
+    fn push(&self, value: T) {
         let mut values = self.values();
         values.push(value);
-        self.has_some.store(true, SeqCst);
+        if !self.has_some.swap(true, SeqCst) {
+            self.count_place();
+        }
     }
 
     fn pop(&self) -> Option<T> {
         let mut values = self.values();
         let value = values.pop();
-        if values.is_empty() {
+        if values.is_empty() && self.has_some.swap(false, SeqCst) {
             *values = Vec::new();
-            self.has_some.store(false, SeqCst);
+            self.uncount_place();
         }
         value
     }
 
-    /// Drops them, and those that are let go meanwhile. Nothing within a drop.
+    /// What tells the queue from others.
+    fn address(&self) -> usize {
+        self as *const LetGo<T> as usize
+    }
+
+    /// Whether the thread is within a drop of the queue.
+    pub fn is_dropping(&self) -> bool {
+        let outermost = OUTERMOST.with(Cell::get);
+        outermost == self.address() || outermost != 0 && WITHIN.with(|within| within.borrow().contains(&self.address()))
+    }
+
+    /// None within a drop of the queue.
+    #[inline]
+    fn begin(&self) -> Option<Dropping> {
+        let is_outermost = OUTERMOST.with(|outermost| {
+            let is_outermost = outermost.get() == 0;
+            if is_outermost {
+                outermost.set(self.address());
+            }
+            is_outermost
+        });
+        if is_outermost {
+            return Some(Dropping { is_outermost });
+        }
+        self.begin_within()
+    }
+
+    /// The same within a drop of any queue.
+    #[cold]
+    fn begin_within(&self) -> Option<Dropping> {
+        if self.is_dropping() {
+            return None;
+        }
+        WITHIN.with(|within| within.borrow_mut().push(self.address()));
+        Some(Dropping { is_outermost: false })
+    }
+
+    /// Drops them, and those that are let go meanwhile. Nothing within a drop of the queue.
     pub fn drop_all(&self) {
-        if let Some(dropping) = Dropping::begin() {
+        if let Some(dropping) = self.begin() {
             self.drop_rest(&dropping);
         }
     }
 
     /// The same where the turn is begun.
-    pub fn drop_rest(&self, _dropping: &Dropping) {
+    #[inline(always)]
+    fn drop_rest(&self, _dropping: &Dropping) {
         while self.has_some() {
             drop(self.pop());
         }
     }
 
-    /// Drops a value, or lets it go within a drop.
+    /// Drops a value, or lets it go within a drop of the queue.
+    #[inline(always)]
     pub fn drop_value(&self, value: T) {
-        match Dropping::begin() {
+        match self.begin() {
             None => self.push(value),
             Some(dropping) => {
                 drop(value);

@@ -109,7 +109,7 @@ impl fmt::Debug for Handle {
 }
 
 /// An entry that is taken out where this is dropped, with its value, as [`DelayQueue::guard`] makes it: the deadline of a
-/// request, of a connection, of a lease.
+/// request, of a connection, of a lease. Within the drop of another value of the same queue the value is dropped after that.
 ///
 /// ```
 /// use hontkhale::DelayQueue;
@@ -170,7 +170,7 @@ impl<T> Timeout<T> {
 
 impl<T> Drop for Timeout<T> {
     fn drop(&mut self) {
-        // The value is dropped at once: what it holds, such as a socket, is wanted no longer.
+        // The value is dropped here: what it holds, such as a socket, is wanted no longer.
         if let Some(queue) = &self.queue {
             let removed = queue.remove(&self.key);
             let _ = removed.map(|value| queue.shared.let_go.drop_value(value));

@@ -268,9 +268,8 @@ impl<T> Shared<T> {
         self.tidy();
         let taken = self.take_one();
         if taken.is_none() {
-            self.use_quiet_moment();
             // What was freed is dropped while nothing is in hand.
-            self.tidy();
+            self.use_quiet_moment();
         }
         taken
     }

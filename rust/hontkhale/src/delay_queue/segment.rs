@@ -1,21 +1,21 @@
 //! A queue's rows of shards, which are made one after the other as entries come, and give their memory back once they go.
 
 use crate::core::{CoreError, DelayCore, Piece};
-use crate::delay_queue::dropping::{Dropping, LetGo};
+use crate::delay_queue::dropping::LetGo;
 use crate::delay_queue::key::Places;
 use crate::delay_queue::waking::NEVER;
-use crate::lasting::{fresh_queue, Anew, LastingConfig, LastingQueue, LastingShard, NumberedCaller};
-use crate::lasting::{move_entry, move_within, Moved, NextDeadline};
+use crate::lasting::{fresh_queue, Anew, Begun, Due, Kept, LastingConfig, LastingQueue, LastingShard, NumberedCaller};
+use crate::lasting::{move_entry, move_within, Moved, NextDeadline, ReopenError};
 use crate::locks::MutexGuard;
 use crate::memory::room_for;
 use crate::ticks::{EntryId, Key};
 use crate::words::{Keeper, WordsError};
+use std::mem::needs_drop;
 use std::sync::atomic::{
     AtomicBool, AtomicU64, AtomicUsize,
     Ordering::{Relaxed, SeqCst},
 };
 use std::sync::Arc;
-use std::thread;
 
 /// How many steps of a poll in pieces are made under one lock.
 const STEPS: u32 = 256;
@@ -29,7 +29,7 @@ pub(crate) struct Row {
     left: AtomicU64,
     /// How many entries are linked.
     linked: AtomicUsize,
-    /// Whether it took entries and had a free slot as its lock was let go last.
+    /// Whether it took entries and had a slot for one as its lock was let go last.
     has_room: AtomicBool,
     /// Whether values are set aside there, to be dropped.
     has_aside: AtomicBool,
@@ -55,18 +55,23 @@ pub(crate) struct Segment<T> {
 /// The right to change the shards of a segment, which one thread has at a time, until this is dropped.
 pub(crate) struct Claim<'s, T>(&'s Segment<T>);
 
-/// Where a drop panics, the values that are left are noted again.
-struct Left<'s, T> {
-    segment: &'s Segment<T>,
-    place: usize,
-}
-
 /// A shard while its lock is held. Nobody is parked there, so its queue is called as that of one owner, but by calls that drop
 /// no value.
 pub(crate) struct Locked<'s, T> {
     shard: MutexGuard<'s, LastingShard<T>>,
     segment: &'s Segment<T>,
     row: &'s Row,
+}
+
+/// How many slots of a shard are free in which no value is set aside.
+#[inline(always)]
+fn free<T>(core: &DelayCore<T, Keeper>) -> usize {
+    let waiting = if needs_drop::<T>() {
+        core.slots.deferred.count()
+    } else {
+        0
+    };
+    core.slots.free_count - waiting
 }
 
 impl<T> Segment<T> {
@@ -124,41 +129,37 @@ impl<T> Segment<T> {
         }
     }
 
-    /// Puts an entry in once no value is set aside at the place: what was is dropped before, while the lock is free. The value
-    /// comes back where there is no room. Only what an insert changes is noted.
+    /// Puts an entry in where a slot is free in which no value is set aside, so that nobody's value is in its way. The value
+    /// comes back where none is. Only what an insert changes is noted.
     #[inline(always)]
     pub fn insert(&self, place: usize, value: T, tick: u64) -> Result<Key, T> {
         let row = &self.rows[place];
-        loop {
-            let mut shard = self.queue.lock(place);
-            if shard.aside() > 0 {
-                drop(shard);
-                self.drop_aside(place);
-                continue;
-            }
-            let takes = shard.takes;
-            let core = &mut shard.attended.core;
-            let inserted = match takes {
-                true => core.insert_deferring(value, tick).0.map_err(|(_, value)| value),
-                false => Err(value),
-            };
-            if inserted.is_err() {
-                // That it has no room is noted.
-                drop(Locked {
-                    shard,
-                    segment: self,
-                    row,
-                });
-                return inserted;
-            }
-            row.lower_hint(tick);
-            row.left.store(row.left() + 1, Relaxed);
-            row.linked.store(core.len(), Relaxed);
-            if core.slots.free_count == 0 {
-                row.has_room.store(false, SeqCst);
-            }
+        let mut shard = self.queue.lock(place);
+        let takes = shard.takes;
+        let core = &mut shard.attended.core;
+        // Without drops nothing is set aside, and the core tells whether a slot is free.
+        let is_crowded = needs_drop::<T>() && free(core) == 0;
+        let inserted = match takes && !is_crowded {
+            true => core.insert_deferring(value, tick).0.map_err(|(_, value)| value),
+            false => Err(value),
+        };
+        if inserted.is_err() {
+            // That it has no room is noted.
+            drop(Locked {
+                shard,
+                segment: self,
+                row,
+            });
             return inserted;
         }
+        row.lower_hint(tick);
+        row.left.store(row.left() + 1, Relaxed);
+        row.linked.store(core.len(), Relaxed);
+        // Where those that are left have a value set aside, it's noted by the next insert.
+        if core.slots.free_count == 0 {
+            row.has_room.store(false, SeqCst);
+        }
+        inserted
     }
 
     /// Takes a live entry out, and gives its value, and whether it was the last of its shard.
@@ -168,11 +169,11 @@ impl<T> Segment<T> {
         let mut shard = self.queue.lock(place);
         let value = shard.attended.core.remove(entry)?.value;
         let core = &shard.attended.core;
-        let (len, free) = (core.len(), core.slots.free_count);
+        let (len, free) = (core.len(), free(core));
         row.left.store(row.left() - 1, Relaxed);
         row.linked.store(len, Relaxed);
         if free == 1 || len + free <= core.capacity() / 2 {
-            // Its slot is the first that is free, or many are worn.
+            // Its slot is the first that is free, or many are worn or have a value set aside.
             drop(Locked {
                 shard,
                 segment: self,
@@ -192,22 +193,22 @@ impl<T> Segment<T> {
         Ok(key)
     }
 
-    /// Drops the values that are set aside at a place, while its lock is free. Within a drop they are let go.
+    /// Drops the values that are set aside at a place, each while the lock is free. Within a drop of the queue they are let go.
     #[cold]
     pub fn drop_aside(&self, place: usize) {
-        self.rows[place].has_aside.store(false, SeqCst);
-        let _left = Left { segment: self, place };
-        let aside = self.queue.aside(place).expect("a shard of the segment");
-        match Dropping::begin() {
-            Some(dropping) => {
-                self.queue.drop_aside(place, aside);
-                self.let_go.drop_rest(&dropping);
-            }
-            None => {
-                let take = |_| self.queue.lock(place).attended.core.take_aside();
-                (0..aside).map_while(take).for_each(|value| self.let_go.push(value));
-            }
+        while let Some(value) = self.take_aside(place) {
+            self.let_go.drop_value(value);
         }
+    }
+
+    /// Takes out a value that is set aside at a place. Its slot is free then.
+    fn take_aside(&self, place: usize) -> Option<T> {
+        let mut shard = self.enter(place);
+        let value = shard.core_mut().take_aside();
+        if shard.core().aside() == 0 && shard.row.has_aside.swap(false, SeqCst) {
+            self.let_go.uncount_place();
+        }
+        value
     }
 
     /// The same in each shard.
@@ -232,6 +233,32 @@ impl<T> Segment<T> {
         let born = |slot: usize| Some((slot, core.slots.held(slot)?.0));
         let (slot, born) = (from..core.capacity()).find_map(born)?;
         Some((EntryId::new(core.shard(), slot as u32, born), slot + 1))
+    }
+
+    /// A step of what renews worn shards, as [`LastingQueue::keep_going`] makes it, but no value is dropped: a shard whose
+    /// entries have all ended isn't opened again while values are set aside there.
+    pub fn keep_going(&self, _claim: &Claim<'_, T>) -> Result<Kept, ReopenError> {
+        let place = match self.queue.due() {
+            Due::Made(kept) => return Ok(kept),
+            Due::At(place) => place,
+        };
+        let mut fresh = None;
+        loop {
+            // The queue that it was is dropped once the lock is free.
+            let (begun, _old) = self.enter(place).step(fresh, place);
+            let config = match begun {
+                Begun::Answered(kept) => return kept,
+                Begun::Opens(config) => config,
+            };
+            fresh = Some(fresh_queue(config).ok_or(ReopenError::NoMemory)?);
+        }
+    }
+
+    /// Has a receiver come to each shard where values are set aside, and tells whether there is one.
+    pub fn hints_at_aside(&self) -> bool {
+        let has_aside = |place: &usize| self.rows[*place].has_aside.load(SeqCst);
+        let places = (0..self.rows.len()).filter(has_aside);
+        places.map(|place| self.enter(place).row.lower_hint(0)).count() > 0
     }
 
     /// The right to change the shards; none where another thread has it.
@@ -371,22 +398,17 @@ impl<T> Locked<'_, T> {
         self.row.hint.store(next.unwrap_or(NEVER), SeqCst);
     }
 
-    /// Whether it takes an entry.
+    /// Whether it takes an entry, and a slot is free for it in which no value is set aside.
     #[inline]
     pub fn has_room(&self) -> bool {
-        self.shard.takes && self.core().slots.free_count > 0
+        self.shard.takes && free(self.core()) > 0
     }
 
-    /// Whether it takes entries, and drops no value then.
-    pub fn takes_clean(&self) -> bool {
-        self.shard.takes && self.core().aside() == 0
-    }
-
-    /// Whether it takes an entry of its own again once that is removed, and drops no value then. The slot is free for it unless
-    /// it has had its last stamp.
+    /// Whether it takes an entry of its own again once that is removed. The slot is free for it unless it has had its last
+    /// stamp.
     pub fn takes_again(&self, entry: &EntryId) -> bool {
-        let slots = &self.core().slots;
-        self.takes_clean() && (slots.free_count > 0 || slots.stamp(entry.index() as usize) < self.core().last_stamp())
+        let stamp = self.core().slots.stamp(entry.index() as usize);
+        self.has_room() || self.shard.takes && stamp < self.core().last_stamp()
     }
 
     /// Moves an entry of its own to a slot that has a stamp, where it takes it again.
@@ -395,7 +417,7 @@ impl<T> Locked<'_, T> {
         self.noted(moved)
     }
 
-    /// Moves an entry to another shard, which takes entries and in which no value is set aside.
+    /// Moves an entry to another shard, which has room: so no value that is set aside there comes out.
     pub fn move_to(
         &mut self,
         entry: &EntryId,
@@ -412,6 +434,15 @@ impl<T> Locked<'_, T> {
             self.row.lower_hint(deadline);
         }
         moved
+    }
+
+    /// A step of its renewal, with the queue that it was. Values that are set aside would go with that one.
+    fn step(&mut self, fresh: Option<DelayCore<T, Keeper>>, place: usize) -> (Begun, Option<DelayCore<T, Keeper>>) {
+        if self.core().is_empty() && self.core().aside() > 0 {
+            return (Begun::Answered(Ok(Kept::Drains { place, linked: 0 })), fresh);
+        }
+        let (begun, _nobody, old) = self.shard.step(fresh, place, self.segment.rows.len() as u32);
+        (begun, old)
     }
 
     /// How many entries of the shard were cancelled and freed.
@@ -433,9 +464,8 @@ impl<T> Drop for Locked<'_, T> {
         if has_room != self.row.has_room() {
             self.row.has_room.store(has_room, SeqCst);
         }
-        if core.aside() > 0 {
-            self.row.has_aside.store(true, SeqCst);
-            self.segment.let_go.has_aside.store(true, SeqCst);
+        if core.aside() > 0 && !self.row.has_aside.swap(true, SeqCst) {
+            self.segment.let_go.count_place();
         }
         // Half of the slots are worn, and no stamp is left there.
         if len + free <= capacity / 2 && self.shard.takes {
@@ -446,19 +476,9 @@ impl<T> Drop for Locked<'_, T> {
 
 impl<T> Drop for Claim<'_, T> {
     fn drop(&mut self) {
-        // Which shards have room is noted as their locks are let go, also after a value's drop that panicked.
+        // Which shards have room is noted as their locks are let go, also of those that were closed.
         (0..self.0.rows.len()).for_each(|place| drop(self.0.enter(place)));
         self.0.is_claimed.store(false, SeqCst);
-    }
-}
-
-impl<T> Drop for Left<'_, T> {
-    fn drop(&mut self) {
-        if thread::panicking() {
-            // The other places weren't come to, and this one is noted as its lock is let go, where values are left there.
-            self.segment.let_go.has_aside.store(true, SeqCst);
-            drop(self.segment.enter(self.place));
-        }
     }
 }
 

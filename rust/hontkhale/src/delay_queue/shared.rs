@@ -8,11 +8,11 @@ mod sweep;
 use crate::core::{CallError, CoreError};
 use crate::delay_queue::callers::{cancel_by_own, deadline_by, extend_by_own, look_by_own, route, tidy_own};
 use crate::delay_queue::callers::{Bound, Callers, Front, SegmentCallers, Told};
-use crate::delay_queue::dropping::{Dropping, LetGo};
+use crate::delay_queue::dropping::LetGo;
 use crate::delay_queue::errors::{InsertErrorKind, KeyError};
 use crate::delay_queue::key::Key;
 use crate::delay_queue::moves::Moves;
-use crate::delay_queue::segment::{Locked, Row, Segment};
+use crate::delay_queue::segment::{Claim, Locked, Row, Segment};
 use crate::delay_queue::shared::sweep::Sweep;
 use crate::delay_queue::waking::NEVER;
 use crate::lasting::{Kept, LastingConfig, Moved, NextDeadline, NumberedCaller};
@@ -319,7 +319,6 @@ impl<T> Shared<T> {
     /// An insert at a place. The value comes back where there is no room.
     #[inline(always)]
     fn insert_at(&self, at: usize, segment: &Segment<T>, place: usize, value: T, tick: u64) -> Result<Key, T> {
-        // Values may be dropped here. Where a drop panics the entry isn't in yet, and no key of it is lost.
         self.renew_where_due(segment, at);
         let key = segment.insert(place, value, tick)?;
         Ok(self.key(at, &key))
@@ -350,13 +349,19 @@ impl<T> Shared<T> {
         unreachable!("a queue has so many segments at most")
     }
 
-    /// Frees what was cancelled, where anything was, and what is worn, by a bounded number of slots.
+    /// Frees what was cancelled, where anything was, and what is worn, by a bounded number of slots. The values are dropped
+    /// here. Where a drop panics the entry that wants room isn't in yet, and no key of it is lost.
     fn make_room(&self) {
         let sweeps = if self.front.cancels() > 0 { SWEEPS } else { 0 };
         (0..sweeps).for_each(|_| self.sweep_next(self.sweep()));
+        self.tidy();
         for (at, segment) in self.segments() {
             if segment.is_worn.load(SeqCst) {
                 self.renew(segment, at);
+                if self.let_go.has_values() {
+                    self.tidy();
+                    self.renew(segment, at);
+                }
             }
         }
     }
@@ -537,7 +542,6 @@ impl<T> Shared<T> {
         if mem::replace(is_tidy, true) {
             return self.grow(grown).map_err(|_| KeyError::NoMemory);
         }
-        self.tidy();
         self.make_room();
         Ok(())
     }
@@ -632,7 +636,7 @@ impl<T> Shared<T> {
     }
 
     /// Moves an entry of a shard whose lock is held: there, or to the first shard that has room, whose segment is told. No value
-    /// is dropped meanwhile: a shard where some are set aside isn't taken.
+    /// comes out beside it.
     fn put_elsewhere(
         &self,
         source: &mut Locked<'_, T>,
@@ -650,7 +654,7 @@ impl<T> Shared<T> {
                     continue;
                 }
                 let mut other = segment.enter(place);
-                if !other.takes_clean() {
+                if !other.has_room() {
                     continue;
                 }
                 match source.move_to(entry, next, &mut other) {
@@ -666,26 +670,25 @@ impl<T> Shared<T> {
 impl<T> Shared<T> {
     /// Drops the values that were let go and that nobody dropped yet. No lock is held meanwhile.
     pub fn tidy(&self) {
-        if self.let_go.has_some() {
+        if self.let_go.has_values() {
             self.let_go.drop_all();
-        }
-        if self.let_go.has_aside.load(SeqCst) {
-            self.let_go.has_aside.store(false, SeqCst);
             self.segments().for_each(|(_, segment)| segment.drop_all_aside());
         }
     }
 
     /// Whether there are no such values that this thread may drop now.
     pub fn is_tidy(&self) -> bool {
-        Dropping::is_begun() || !(self.let_go.has_some() || self.let_go.has_aside.load(SeqCst))
+        !self.let_go.has_values() || self.let_go.is_dropping()
     }
 
-    /// A bounded part of what is done where nothing is due: cancelled entries are freed, and worn shards renewed.
+    /// A bounded part of what is done where nothing is due: cancelled entries are freed and their values dropped, and worn
+    /// shards renewed.
     pub fn use_quiet_moment(&self) {
         self.sweep_where_cancelled();
         for (at, segment) in self.segments() {
             self.renew_where_due(segment, at);
         }
+        self.tidy();
     }
 
     #[inline]
@@ -695,16 +698,19 @@ impl<T> Shared<T> {
         }
     }
 
-    /// Has worn shards closed, emptied and opened again, unless another thread does so. It holds no lock while values are
-    /// dropped.
+    /// Has worn shards closed, emptied and opened again, unless another thread does so. It drops no value: a receiver that
+    /// waits is woken to drop what is set aside, and a later call opens the shard again.
     #[cold]
     pub fn renew(&self, segment: &Segment<T>, at: usize) {
-        let Some(_dropping) = Dropping::begin() else {
-            return;
-        };
-        let Some(_claim) = segment.claim() else {
-            return;
-        };
+        if let Some(claim) = segment.claim() {
+            self.renew_claimed(segment, at, &claim);
+        }
+        if segment.hints_at_aside() {
+            self.front.ring_before(0);
+        }
+    }
+
+    fn renew_claimed(&self, segment: &Segment<T>, at: usize, claim: &Claim<'_, T>) {
         // It was worn when it was looked at, and others may have renewed it, emptied it and given its memory back since.
         if segment.is_closed() {
             return;
@@ -713,7 +719,7 @@ impl<T> Shared<T> {
             .renew_at
             .store(self.front.time.tick().saturating_add(RENEW_PAUSE), SeqCst);
         for _ in 0..4 * segment.rows.len() {
-            match segment.queue.keep_going() {
+            match segment.keep_going(claim) {
                 Ok(Kept::Fine) => return segment.is_worn.store(false, SeqCst),
                 Ok(Kept::Closed { .. } | Kept::Reopened { .. }) => {}
                 Ok(Kept::Drains { place, .. }) if self.empties(segment, at, place) => {}
@@ -723,14 +729,14 @@ impl<T> Shared<T> {
     }
 
     /// Moves a few of the last entries of a shard that drains, such as one that is extended for ever, and tells whether it is
-    /// empty then.
+    /// empty then, and no value is set aside there.
     fn empties(&self, segment: &Segment<T>, at: usize, place: usize) -> bool {
         let now = self.front.time.tick();
         for _ in 0..MOVED_AT_ONCE {
             let mut moves = self.moves();
             let mut shard = segment.enter(place);
             let Some(key) = shard.core().peek() else {
-                return true;
+                return shard.core().aside() == 0;
             };
             if shard.core().len() > shard.core().capacity() / 8 + 1 {
                 return false;

@@ -18,8 +18,10 @@ pub struct Stats {
     /// The entries that wait, or are due and didn't come out yet: about so many while other threads change the queue, and
     /// never too few, as [`len`](crate::DelayQueue::len) tells.
     pub waiting: usize,
-    /// The entries that were cancelled and whose values aren't dropped yet.
+    /// The entries that were cancelled and whose values are still in the queue.
     pub cancelled: usize,
+    /// The values, of cancelled entries and others, that were let go within the drop of another one, and are dropped after it.
+    pub let_go: usize,
     /// About how many bytes the queue takes, without what its values point to.
     pub memory: usize,
     /// By how much the oldest entry that is due is late, at most; nothing where none is due. An entry that was extended or
@@ -91,6 +93,7 @@ impl<T> Shared<T> {
         Stats {
             waiting,
             cancelled: cancels.saturating_sub(reaped) as usize,
+            let_go: self.let_go.len(),
             memory: size_of::<Shared<T>>() + self.segments().map(|(_, segment)| segment.memory()).sum::<usize>(),
             late: Duration::from_millis(late),
             latest: Duration::from_millis(self.latest.load(SeqCst).max(late)),

@@ -1,0 +1,261 @@
+//! Whose call drops a value: no insert that has room does, and a queue's values aren't kept by another queue's drop.
+
+use crate::kit::{ms, within_the_limit, Drops, Value, FAR};
+use hontkhale::delay_queue::{ManualClock, Timeout};
+use hontkhale::DelayQueue;
+use std::panic::{catch_unwind, AssertUnwindSafe};
+use std::sync::mpsc::channel;
+use std::sync::{Arc, Mutex};
+use std::thread::{self, JoinHandle};
+
+/// How many values are cancelled before a receiver drops them.
+const CANCELLED: u64 = 20;
+
+/// How many of the first values were dropped.
+fn dropped(drops: &Drops, values: u64) -> usize {
+    (0..values).map(|number| drops.count(number)).sum()
+}
+
+/// A queue with cancelled values, in the shard to which this thread's next insert goes, and a receiver that is within
+/// the drop of the first of them, each of which makes a call.
+fn within_a_drop(call: impl Fn() + Send + Sync + 'static) -> (DelayQueue<Value>, Drops, JoinHandle<()>) {
+    let (clock, drops, call) = (ManualClock::new(), Drops::default(), Arc::new(call));
+    let queue = DelayQueue::builder().clock(&clock).build();
+    let (begun, begins) = channel();
+    for number in 0..CANCELLED {
+        let (call, begun) = (Arc::clone(&call), begun.clone());
+        let value = drops.value(number).then(move || {
+            let _ = begun.send(());
+            call();
+        });
+        let key = queue.insert(value, ms(10)).expect("room");
+        queue.cancel(&key).expect("it waits");
+    }
+    clock.advance(ms(10));
+    let receiver = queue.clone();
+    let receives = thread::spawn(move || assert!(receiver.try_recv().is_none()));
+    begins.recv().expect("a drop");
+    (queue, drops, receives)
+}
+
+#[test]
+fn an_insert_does_not_wait_for_a_drop_of_another_thread() {
+    within_the_limit(|| {
+        let (ends, ended) = channel::<()>();
+        let ended = Mutex::new(ended);
+        let (queue, drops, receives) = within_a_drop(move || assert!(ended.lock().expect("no panic").recv().is_err()));
+        for number in CANCELLED..2 * CANCELLED {
+            queue.insert(drops.value(number), FAR).expect("room");
+        }
+        assert_eq!(dropped(&drops, CANCELLED), 1);
+        drop(ends);
+        receives.join().expect("the receiver ends");
+        assert_eq!((queue.clear() as u64, queue.stats().cancelled), (CANCELLED, 0));
+        assert!(drops.are_once(2 * CANCELLED));
+    });
+}
+
+#[test]
+fn an_insert_may_hold_a_mutex_that_a_drop_takes() {
+    within_the_limit(|| {
+        let mutex = Arc::new(Mutex::new(()));
+        let held = mutex.lock().expect("no panic");
+        let taken = Arc::clone(&mutex);
+        let (queue, drops, receives) = within_a_drop(move || drop(taken.lock().expect("no panic")));
+        for number in CANCELLED..2 * CANCELLED {
+            queue.insert(drops.value(number), FAR).expect("room");
+        }
+        drop(held);
+        receives.join().expect("the receiver ends");
+        assert_eq!((queue.clear() as u64, queue.stats().cancelled), (CANCELLED, 0));
+        assert!(drops.are_once(2 * CANCELLED));
+    });
+}
+
+/// They were set aside by a receiver that took an entry, which drops nothing beside it.
+#[test]
+fn an_insert_that_has_room_drops_nothing() {
+    let (clock, drops) = (ManualClock::new(), Drops::default());
+    let queue = DelayQueue::builder().clock(&clock).build();
+    let insert = |number: u64, after| queue.insert(drops.value(number), after).expect("room");
+    let keys: Vec<_> = (0..1_000).map(|number| insert(number, ms(10))).collect();
+    insert(1_000, ms(10));
+    let handle = queue.handle();
+    for key in &keys {
+        handle.cancel(key).expect("it waits");
+    }
+    insert(1_001, FAR);
+    clock.advance(ms(10));
+    assert_eq!(queue.try_recv().map(|expired| expired.value.number), Some(1_000));
+    for number in [1_002, 1_003] {
+        insert(number, FAR);
+        assert_eq!(dropped(&drops, 1_000), 0);
+    }
+    assert_eq!(queue.stats().cancelled, 1_000);
+    assert!(queue.try_recv().is_none());
+    assert_eq!((dropped(&drops, 1_000), queue.stats().cancelled), (1_000, 0));
+}
+
+/// Puts as many values in as there are slots at first, and takes them out again: the first and the last three, which are
+/// of different shards, by cancels.
+fn uses_each_slot(queue: &DelayQueue<Value>, drops: &Drops) {
+    let insert = |number| queue.insert(drops.value(number), FAR).expect("room");
+    let keys: Vec<_> = (0..128).map(insert).collect();
+    for (number, key) in keys.iter().enumerate() {
+        if (3..125).contains(&number) {
+            drop(queue.remove(key).expect("it waits"));
+        } else {
+            queue.cancel(key).expect("it waits");
+        }
+    }
+}
+
+fn uses_a_slot(queue: &DelayQueue<Value>, drops: &Drops, number: u64) {
+    let key = queue.insert(drops.value(number), FAR).expect("room");
+    drop(queue.remove(&key).expect("it waits"));
+}
+
+/// A shard is renewed by inserts, while the queue has room in another.
+#[test]
+fn an_insert_that_renews_a_shard_drops_nothing() {
+    let (clock, drops) = (ManualClock::new(), Drops::default());
+    let queue = DelayQueue::builder().clock(&clock).shards(2).last_stamp(2).build();
+    uses_each_slot(&queue, &drops);
+    let uses = |number: u64| {
+        uses_a_slot(&queue, &drops, number);
+        clock.advance(ms(100));
+    };
+    let memory = queue.stats().memory;
+    // Each wears a slot. A shard of which half are worn is closed, and what was cancelled there is freed.
+    (128..208).for_each(uses);
+    assert_eq!(
+        (dropped(&drops, 128), queue.stats().cancelled, queue.stats().memory),
+        (122, 6, memory)
+    );
+    // Whoever receives drops the values, and goes on with the renewal.
+    while dropped(&drops, 128) < 128 {
+        assert!(queue.try_recv().is_none());
+    }
+    assert_eq!(queue.stats().cancelled, 0);
+    (208..5_000).for_each(uses);
+    assert!(queue.stats().memory == memory && drops.are_once(5_000));
+}
+
+/// Nothing else is due.
+#[test]
+fn a_receiver_that_sleeps_drops_what_an_insert_set_aside() {
+    within_the_limit(|| {
+        let drops = Drops::default();
+        let queue = DelayQueue::builder().shards(2).last_stamp(2).build();
+        let receiver = queue.clone();
+        let receives = thread::spawn(move || assert!(receiver.recv().is_none()));
+        // It most likely sleeps by then.
+        thread::sleep(ms(50));
+        uses_each_slot(&queue, &drops);
+        (128..208).for_each(|number| uses_a_slot(&queue, &drops, number));
+        // The three of the shard that is renewed.
+        while dropped(&drops, 128) < 125 {
+            thread::sleep(ms(1));
+        }
+        queue.close();
+        receives.join().expect("the receiver ends");
+    });
+}
+
+#[test]
+fn a_queue_whose_values_are_dropped_within_anothers_call_drops_them_there() {
+    let (sessions, sockets) = (DelayQueue::new(), DelayQueue::new());
+    let socket = Arc::new("a socket".to_string());
+    let guard: Timeout<_> = sockets.guard(Arc::clone(&socket), FAR).expect("room");
+    sessions.insert(guard, FAR).expect("room");
+    assert_eq!((sessions.clear(), Arc::strong_count(&socket)), (1, 1));
+}
+
+/// Each value is the guard of a value of the other queue.
+#[test]
+fn no_value_of_two_queues_is_left_that_let_each_other_go() {
+    struct Link {
+        _behind: Option<Timeout<Link>>,
+        _owned: Arc<String>,
+    }
+    const LINKS: usize = 40_000;
+    let by_turns = || {
+        let owned = Arc::new("a value".to_string());
+        let queues = [DelayQueue::new(), DelayQueue::new()];
+        let mut last = None;
+        for number in 0..LINKS {
+            let link = Link {
+                _behind: last,
+                _owned: Arc::clone(&owned),
+            };
+            last = Some(queues[number % 2].guard(link, FAR).expect("room"));
+        }
+        assert_eq!(Arc::strong_count(&owned), LINKS + 1);
+        drop(last);
+        assert_eq!(Arc::strong_count(&owned), 1);
+        assert!(queues.iter().all(DelayQueue::is_empty));
+    };
+    // It holds some hundred calls.
+    let thread = thread::Builder::new().stack_size(256 * 1_024);
+    thread
+        .spawn(by_turns)
+        .expect("a thread")
+        .join()
+        .expect("the test passes");
+}
+
+/// The insert finds no free slot, and drops what was cancelled there.
+#[test]
+fn a_drop_within_another_queues_call_inserts() {
+    within_the_limit(|| {
+        let drops = Drops::default();
+        let queue = DelayQueue::builder().shards(2).build();
+        // As many as there are slots at first.
+        for number in 0..128 {
+            let key = queue.insert(drops.value(number), FAR).expect("room");
+            queue.cancel(&key).expect("it waits");
+        }
+        let memory = queue.stats().memory;
+        let other = DelayQueue::new();
+        let (clone, counts) = (queue.clone(), drops.clone());
+        let value = Drops::default().value(0).then(move || {
+            clone.insert(counts.value(128), FAR).expect("room");
+        });
+        other.insert(value, FAR).expect("room");
+        assert_eq!((other.clear(), queue.len(), dropped(&drops, 128)), (1, 1, 128));
+        assert_eq!((queue.stats().cancelled, queue.stats().memory), (0, memory));
+    });
+}
+
+#[test]
+fn after_a_panic_within_the_drops_of_two_queues_both_drop() {
+    let drops = Drops::default();
+    let (outer, inner) = (DelayQueue::new(), DelayQueue::new());
+    for number in [0, 1] {
+        let value = drops
+            .value(number)
+            .then(move || assert!(number > 0, "a drop that panics"));
+        let guard = inner.guard(value, FAR).expect("room");
+        outer.insert(guard, FAR).expect("room");
+    }
+    for _ in [0, 1] {
+        let _panic = catch_unwind(AssertUnwindSafe(|| outer.clear()));
+    }
+    assert!(outer.is_empty() && inner.is_empty());
+    assert!(drops.are_once(2));
+}
+
+#[test]
+fn what_a_drop_lets_go_is_told_until_it_is_dropped() {
+    let (queue, drops) = (DelayQueue::new(), Drops::default());
+    let guards: Vec<_> = (1..4)
+        .map(|number| queue.guard(drops.value(number), FAR).expect("room"))
+        .collect();
+    let (clone, counts) = (queue.clone(), drops.clone());
+    let value = drops.value(0).then(move || {
+        drop(guards);
+        assert_eq!((clone.stats().let_go, clone.len(), dropped(&counts, 4)), (3, 0, 1));
+    });
+    drop(queue.guard(value, FAR).expect("room"));
+    assert_eq!((queue.stats().let_go, drops.are_once(4)), (0, true));
+}
