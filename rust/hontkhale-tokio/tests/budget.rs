@@ -283,7 +283,7 @@ fn the_poll_that_ends_a_row_of_entries_drops_what_a_handle_cancelled() {
             let (mut queue, value) = (DelayQueue::new(), Rc::new(()));
             let handle = queue.handle();
             queue.set_budget(u32::MAX);
-            (0..200).for_each(|_| drop(queue.insert(value.clone(), ms(10))));
+            (0..200).for_each(|_| _ = queue.insert(value.clone(), ms(10)));
             let cancelled = queue.insert(value.clone(), ms(60_000));
             advance(ms(11)).await;
             for _ in 0..128 {
