@@ -186,9 +186,18 @@ impl<T> DelayQueue<T> {
     /// - The [budget](DelayQueue::set_budget) is spent. The task is woken at once.
     /// - It was given 128 entries in a row, with no pending poll between them. The task is woken at once.
     pub fn poll_expired(&mut self, cx: &mut Context<'_>) -> Poll<Option<Expired<T>>> {
-        let answer = if self.streak.is_over() { self.give_way(cx) } else { self.poll_segments(cx) };
+        let answer = if self.streak.is_over() { self.end_streak(cx) } else { self.poll_segments(cx) };
         self.streak.note(&answer);
         answer
+    }
+
+    /// Drops what handles cancelled, as each poll does, and lets other tasks have their turn.
+    #[cold]
+    fn end_streak(&mut self, cx: &mut Context<'_>) -> Poll<Option<Expired<T>>> {
+        let mut budget = self.fresh;
+        // Where the budget is spent before, the next poll goes on.
+        self.segments.heed_news(&mut budget);
+        self.give_way(cx)
     }
 
     #[inline(always)]

@@ -276,6 +276,27 @@ fn many_that_are_due_keep_another_task_waiting_no_longer_than_the_peers() {
     });
 }
 
+#[test]
+fn the_poll_that_ends_a_row_of_entries_drops_what_a_handle_cancelled() {
+    ends(|| {
+        paused().block_on(async {
+            let (mut queue, value) = (DelayQueue::new(), Rc::new(()));
+            let handle = queue.handle();
+            queue.set_budget(u32::MAX);
+            (0..200).for_each(|_| _ = queue.insert(value.clone(), ms(10)));
+            let cancelled = queue.insert(value.clone(), ms(60_000));
+            advance(ms(11)).await;
+            for _ in 0..128 {
+                drop(polled(|cx| queue.poll_expired(cx)).0);
+            }
+            handle.cancel(&cancelled).unwrap();
+            let waker = Waker::from(Arc::<Wakes>::default());
+            assert!(queue.poll_expired(&mut Context::from_waker(&waker)).is_pending());
+            assert_eq!((Rc::strong_count(&value), queue.len()), (73, 72));
+        });
+    });
+}
+
 /// A poll that waits for an entry, or has more steps to make, begins the count anew.
 #[test]
 fn a_row_of_entries_ends_where_a_poll_is_pending() {

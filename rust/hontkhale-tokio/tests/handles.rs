@@ -244,7 +244,7 @@ fn a_timeout_runs_from_now_where_the_queue_begins_later() {
     });
 }
 
-/// Extends and cancels race with an owner who resets, compacts, removes and polls. No entry comes out before a deadline
+/// Extends and cancels race with an owner who resets, compacts, removes, peeks and polls. No entry comes out before a deadline
 /// that was accepted for it, no cancelled one comes out, and each value is dropped once.
 #[test]
 fn races_with_the_owner() {
@@ -312,6 +312,12 @@ fn races_with_the_owner() {
                             }
                         } else if turns % 7 == 0 {
                             let _ = queue.try_reset_at(&key, Instant::now() + ms(65));
+                        }
+                        // What is looked at is extended before it comes out, or not.
+                        match turns % 4 {
+                            0 => _ = queue.peek(),
+                            1 => _ = queue.numbers(),
+                            _ => {}
                         }
                         match queue.poll_expired(&mut cx) {
                             Poll::Ready(Some(out)) => outs.push((out.deadline(), out.into_inner())),

@@ -48,7 +48,7 @@ impl<T> Segments<T> {
     /// Notes how late it is, and takes out what is due first, within a budget. It is written to `out`.
     #[inline]
     pub fn poll(&mut self, reached: u64, budget: &mut Budget, out: &mut Option<Expired<T>>) -> Found {
-        if self.shared.has_news() && !self.heed(budget) {
+        if !self.heed_news(budget) {
             return Found::Working;
         }
         match *self.peeked_at.get_mut() {
@@ -147,6 +147,12 @@ impl<T> Segments<T> {
     /// Whether a segment has a step to make before a tick.
     pub fn has_step_before(&self, tick: u64) -> bool {
         self.segments().any(|segment| segment.next_wake().is_some_and(|next| next < tick))
+    }
+
+    /// Does what handles left for the owner. False where the budget is spent before.
+    #[inline]
+    pub fn heed_news(&mut self, budget: &mut Budget) -> bool {
+        !self.shared.has_news() || self.heed(budget)
     }
 
     /// Reaps what handles cancelled, and issues the callers that are wanted. False where the budget is spent before.
