@@ -128,11 +128,12 @@ def to_try(form):
     if crates is None:
         say(f"-- wrong bodies: all {len(edits)}; this clone hasn't the commit of the last whole run ({last}), or {' or '.join(SHARED)} changed")
         return []
-    its = drawn(rows, commit) | {it for it in edits if it.partition("/")[0] in crates}
-    say(f"-- wrong bodies: {len(its)} of {len(edits)}: one for each of {len(rows)} rows of docs/PROMISES.md, drawn by {commit}, and all of"
-        f" the crates that changed since {last}, the commit of the last whole run: {' '.join(sorted(crates)) or 'none'}")
-    say(textwrap.fill(" ".join(sorted(its)), 140, initial_indent="   ", subsequent_indent="   "))
-    return sorted(its)
+    its, whole = drawn(rows, commit), {it for it in edits if it.partition("/")[0] in crates}
+    say(f"-- wrong bodies: {len(its | whole)} of {len(edits)}: all {len(whole)} of the crates that changed since {last}, the commit of the last"
+        f" whole run ({' '.join(sorted(crates)) or 'none'}), and one for each of {len(rows)} rows of docs/PROMISES.md, drawn by {commit}; beside"
+        f" those crates:")
+    say(textwrap.fill(" ".join(sorted(its - whole)), 140, initial_indent="   ", subsequent_indent="   "))
+    return sorted(its | whole)
 
 
 def shown(name, words, heard=lambda line: None, **more):
