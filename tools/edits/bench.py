@@ -175,19 +175,34 @@ def offer_nothing(folder):
         file.write(f"\n{answers.OFFERS_NOTHING}")
 
 
+def apart(goals):
+    """Goals in groups in which none is a part of another: rattle makes such a goal whole or in its parts, as the answers name it."""
+    groups = []
+    for goal in sorted(goals):
+        into = next((its for its in groups if not any(goal.startswith(f"{it}-") for it in its)), None)
+        if into is None:
+            groups.append(into := [])
+        into.append(goal)
+    return groups
+
+
 def ask_for_goals(crate, folder, edits):
-    """Has a check tell which of the goals that are tried alone the right bodies haven't, each in one more copy: these copies."""
-    copies = {crate.name_of(next(iter(it.bodies))): it for it in crate.right([it for it in edits if it.is_tried_alone(crate)], end="asked")}
-    for function, it in copies.items():
-        goals = sorted({goal for edit in edits if edit.is_tried_alone(crate) for name, goal in edit.fails.items() if name == function})
+    """Has a check tell which of the goals that are tried alone the right bodies haven't, in copies of these: the copies."""
+    goals, groups = {}, []
+    for edit in (it for it in edits if it.is_tried_alone(crate)):
+        goals.setdefault(next(iter(edit.bodies)), (edit, set()))[1].update(edit.fails.values())
+    for edit, its in goals.values():
+        groups += [(edit, group) for group in apart(its)]
+    copies = crate.right([edit for edit, _ in groups], end="asked")
+    for it, (_, group) in zip(copies, groups):
         copy_proof(crate, folder, it)
         name = crate.name_of(it.wrong()[0])
         at = folder / "proofs" / name.replace("::", "/")
         (at / "Answers").mkdir(parents=True, exist_ok=True)
         for file, head, answer in (("Answers", answers.ASKED, "asked.{0}"), ("Answers/Asked", answers.ASKED_BESIDE, "not_searched")):
-            text = "".join(answers.ASKED_GOAL.format(goal, answer.format(goal)) for goal in goals)
+            text = "".join(answers.ASKED_GOAL.format(goal, answer.format(goal)) for goal in group)
             (at / f"{file}.antt").write_text(head.format(crate.module_of_proof(name)) + text, encoding="utf-8")
-    return [*copies.values()]
+    return copies
 
 
 def try_alone(folder, module, goal, has_types):
