@@ -12,6 +12,8 @@ PROVED = re.compile(r"^(logic=proved |only=(\d+) proved=\2$)", re.M)
 REFUSED = re.compile(r"^(logic=not-proved|only=\d+ proved=)", re.M)
 # The words by which `rt must-fail` judges: an error of names says little of a contract, an unread text nothing.
 NAMES = re.compile(r"has no field|is not in scope|has no `|was not admitted")
+# Where a name in such an error is long, its words stand on the next line.
+WRAPPED = re.compile(r"\n  (?=(?:is not in scope|has no|was not admitted)\b)")
 UNREAD = re.compile(r"is not in scope|has no field|is no name|operand is missing|expected the end|cannot continue")
 ERROR = re.compile(r"(?:\./)?(src/\S+?|specs/\S+?):(\d+):\d+: error(\[[\w-]+\])?: (.*)")
 PLACED = re.compile(r"note: \S+:\d+:\d+:|\S+:\d+:\d+: error")
@@ -97,6 +99,7 @@ class Answer:
     """What a check of a round said."""
 
     def __init__(self, crate, status, text, searched=(), taken=()):
+        text = WRAPPED.sub(" ", text)
         self.status, self.text, self.searched, self.taken = status, text, searched, taken
         self.lines = text.rstrip("\n").split("\n")
         self.functions = {it[1].partition("::")[2]: (it[2], it[3] or "") for it in LINE.finditer(text)}
