@@ -126,12 +126,13 @@ def to_try(form):
     commit, last = git("rev-parse", "HEAD"), next((it[3] for it in stored() if it[:3] == [WHOLE, "run", "commit"]), "none")
     crates, rows = changed_since(last), rows_of(edits)
     if crates is None:
-        say(f"-- wrong bodies: all {len(edits)}; this clone hasn't the commit of the last whole run ({last}), or {' or '.join(SHARED)} changed")
+        say(f"-- wrong bodies: all {len(edits)}, since {' or '.join(SHARED)} changed, or this clone hasn't {last},"
+            " the commit of the last whole run")
         return []
     its, whole = drawn(rows, commit), {it for it in edits if it.partition("/")[0] in crates}
-    say(f"-- wrong bodies: {len(its | whole)} of {len(edits)}: all {len(whole)} of the crates that changed since {last}, the commit of the last"
-        f" whole run ({' '.join(sorted(crates)) or 'none'}), and one for each of {len(rows)} rows of docs/PROMISES.md, drawn by {commit}; beside"
-        f" those crates:")
+    say(f"-- wrong bodies: {len(its | whole)} of {len(edits)}: all {len(whole)} of the crates that changed since {last},"
+        f" the commit of the last whole run ({' '.join(sorted(crates)) or 'none'}), and one for each of {len(rows)} rows of"
+        f" docs/PROMISES.md, drawn by {commit}; beside those crates:")
     say(textwrap.fill(" ".join(sorted(its - whole)), 140, initial_indent="   ", subsequent_indent="   "))
     return sorted(its | whole)
 
