@@ -1,8 +1,15 @@
 #!/usr/bin/env python3
 """The gate: what the pages say, the C file's hashes, the tests of the plain Rust, `rt ci`, and the wrong bodies.
 
-  .ci/run            all of it
-  .ci/run --store    and writes to bench/results/gate.tsv what its parts took; hold it to two cores by `taskset -c 0,1`
+  .ci/run            with one wrong body for each row of docs/PROMISES.md, drawn by the commit's hash, and with all of the
+                     crates that changed since the last whole run
+  .ci/run --all      with all wrong bodies: a whole run
+  .. --store         and writes to bench/results/gate.tsv what the parts took, and the commit, if nothing failed; hold it
+                     to two cores by `taskset -c 0,1`
+
+A crate has changed if a file below its src/, specs/, proofs/ or edits/ isn't as in the commit that gate.tsv has of a whole
+run; what is only below it in the graph doesn't count. If this clone hasn't that commit, or tools/ or crates.txt changed,
+all wrong bodies are tried.
 
 The first two take seconds, and nothing else is tried where one of them fails. Where there is more than one processor, the
 others run beside each other: `tools/test-edits` begins with a crate's wrong bodies once `rt ci` has proved the crate,
@@ -12,6 +19,7 @@ passed and what failed in all. The status is that of `rt ci`, or 1 where only an
 
 import contextlib
 import datetime
+import hashlib
 import os
 import pathlib
 import re
@@ -20,6 +28,7 @@ import signal
 import subprocess
 import sys
 import tempfile
+import textwrap
 import time
 
 TOP = pathlib.Path(__file__).resolve().parent.parent
@@ -27,6 +36,12 @@ STORED = TOP / "bench" / "results" / "gate.tsv"
 # Both need Python alone, as rt does.
 FIRST = {"docs/check": ["python3", "docs/check"], "c/generate": ["python3", "c/generate", "--hash"]}
 SAID = {"cwd": TOP, "stderr": subprocess.STDOUT, "encoding": "utf-8", "errors": "replace"}
+# What each form of the gate is called in gate.tsv.
+DRAWN, WHOLE = ".ci/run", ".ci/run --all"
+OF_EDIT = re.compile(r"^promise: (.*)$", re.M)
+# A crate's files on which its wrong bodies depend, and what all of them depend on.
+OWN = re.compile(r"crates/(\w+)/(?:src|specs|proofs|edits)/")
+SHARED = ("tools/", "crates.txt")
 
 
 def say(text):
@@ -56,14 +71,70 @@ def tell_times(name, before):
     say(f"-- {name} took {clock:.1f} minutes of the clock and {processor:.1f} of a processor")
 
 
-def store(begun):
-    """Writes what the parts took."""
-    commit = subprocess.run(["git", "describe", "--always", "--dirty"], cwd=TOP, stdout=subprocess.PIPE, text=True, check=False).stdout.strip()
-    TOOK["the whole gate"] = (time.monotonic() - begun) / 60, sum(it[1] for it in TOOK.values())
-    head = (f"# What a whole run of the gate took, in minutes, as `.ci/run --store` writes it. Of {commit}, on "
-            f"{len(os.sched_getaffinity(0))} cores. Day: {datetime.date.today()}.\n")
-    rows = [f"{part}\t{what}\t{minutes:.1f}\n" for part, its in TOOK.items() for what, minutes in zip(("clock", "processor"), its)]
-    STORED.write_text(head + "".join(rows), encoding="utf-8")
+def git(*words):
+    """What git says, or None if it fails."""
+    ran = subprocess.run(["git", *words], cwd=TOP, stdout=subprocess.PIPE, stderr=subprocess.DEVNULL, text=True, check=False)
+    return None if ran.returncode else ran.stdout.strip()
+
+
+def stored():
+    """The rows of gate.tsv: the form, the part, what it is of that part, and that."""
+    return [it.split("\t") for it in STORED.read_text(encoding="utf-8").splitlines()[1:]] if STORED.is_file() else []
+
+
+def store(form, begun):
+    """Writes what the parts of this form took, and leaves the other form's rows."""
+    TOOK["in all"] = (time.monotonic() - begun) / 60, sum(it[1] for it in TOOK.values())
+    rows = [it for it in stored() if it[0] != form]
+    rows += [[form, "run", *it] for it in (("commit", git("describe", "--always", "--abbrev=40", "--exclude=*", "--dirty") or "none"),
+                                           ("cores", str(len(os.sched_getaffinity(0)))), ("day", str(datetime.date.today())))]
+    rows += [[form, part, what, f"{minutes:.1f}"] for part, its in TOOK.items() for what, minutes in zip(("clock", "processor"), its)]
+    head = "# What runs of the gate took, in minutes, as `.ci/run --store` and `.ci/run --all --store` write it.\n"
+    STORED.write_text(head + "".join("\t".join(it) + "\n" for it in sorted(rows, key=lambda it: it[0])), encoding="utf-8")
+
+
+def changed_since(commit):
+    """The crates that changed since a commit; None where all count as changed."""
+    tracked, others = git("diff", "--name-only", "--no-renames", commit, "--"), git("ls-files", "--others", "--exclude-standard")
+    paths = [] if tracked is None or others is None else [*tracked.splitlines(), *others.splitlines()]
+    if tracked is None or any(it.startswith(SHARED) for it in paths):
+        return None
+    return {found[1] for found in map(OWN.match, paths) if found}
+
+
+def rows_of(edits):
+    """The wrong bodies by the row of docs/PROMISES.md that each breaks."""
+    rows = {}
+    for name, path in edits.items():
+        for row in {it for line in OF_EDIT.findall(path.read_text(encoding="utf-8")) for it in line.split()}:
+            rows.setdefault(row, []).append(name)
+    return rows
+
+
+def drawn(rows, commit):
+    """One wrong body for each row: the same for the same commit."""
+    number = lambda row: int(hashlib.sha256(f"{commit}{row}".encode()).hexdigest(), 16)
+    return {its[number(row) % len(its)] for row, its in rows.items()}
+
+
+def to_try(form):
+    """The wrong bodies that this run tries, by their names, none for all; it says which."""
+    edits = {f"{it.parent.parent.name}/{it.stem}": it for it in sorted(TOP.glob("crates/*/edits/*.edit"))}
+    if form == WHOLE:
+        say(f"-- wrong bodies: all {len(edits)}")
+        return []
+    commit, last = git("rev-parse", "HEAD"), next((it[3] for it in stored() if it[:3] == [WHOLE, "run", "commit"]), "none")
+    crates, rows = changed_since(last), rows_of(edits)
+    if crates is None:
+        say(f"-- wrong bodies: all {len(edits)}, since {' or '.join(SHARED)} changed, or this clone hasn't {last},"
+            " the commit of the last whole run")
+        return []
+    its, whole = drawn(rows, commit), {it for it in edits if it.partition("/")[0] in crates}
+    say(f"-- wrong bodies: {len(its | whole)} of {len(edits)}: all {len(whole)} of the crates that changed since {last},"
+        f" the commit of the last whole run ({' '.join(sorted(crates)) or 'none'}), and one for each of {len(rows)} rows of"
+        f" docs/PROMISES.md, drawn by {commit}; beside those crates:")
+    say(textwrap.fill(" ".join(sorted(its - whole)), 140, initial_indent="   ", subsequent_indent="   "))
+    return sorted(its | whole)
 
 
 def shown(name, words, heard=lambda line: None, **more):
@@ -134,15 +205,16 @@ def proved(edits):
 
 def main():
     begun = time.monotonic()
-    if sys.argv[1:] not in ([], ["--store"]):
+    if not set(sys.argv[1:]) <= {"--all", "--store"}:
         print(__doc__, end="")
         return 2
+    form = WHOLE if "--all" in sys.argv else DRAWN
     if any([shown(*part)[0] for part in FIRST.items()]):
         say("0 passed, 1 failed")
         return 1
     processors = len(os.sched_getaffinity(0))
     tests = Beside("rust/test", "rust/test")
-    edits = Beside("tools/test-edits", "nice", "python3", "tools/test-edits", "--follow", "-j", str(processors))
+    edits = Beside("tools/test-edits", "nice", "python3", "tools/test-edits", "--follow", "-j", str(processors), *to_try(form))
     try:
         for it in [tests, edits] if processors > 1 else []:
             it.begin()
@@ -150,10 +222,11 @@ def main():
     finally:
         for it in (edits, tests):
             it.stop()
-    if sys.argv[1:]:
-        store(begun)
+    failed = parts[0][0] or int(any(status or it[1] for status, it in parts))
+    if "--store" in sys.argv and not failed:
+        store(form, begun)
     say(f"{sum(it[0] for _, it in parts)} passed, {sum(it[1] for _, it in parts)} failed")
-    return parts[0][0] or int(any(status or it[1] for status, it in parts))
+    return failed
 
 
 signal.signal(signal.SIGTERM, lambda *_: sys.exit(130))

@@ -1,9 +1,10 @@
 #!/usr/bin/env python3
 """Tries the gate itself: that it counts what its parts count, and that a wrong body that isn't refused fails it by name.
 
-usage: .ci/planted.py [gate | edits]     (both, if neither is named)
+usage: .ci/planted.py [gate | draw | edits]     (all, if none is named)
 
   gate    `.ci/gate.py` over parts that only say what they are told to; takes a second
+  draw    which wrong bodies `.ci/gate.py` has tried, over a repository of two crates that hold nothing else; takes seconds
   edits   `tools/test-edits` over the small crate in .ci/planted, with edits planted; takes minutes, and wants the kit
 
 Each case is told with what went wrong. The status is 1 where one did.
@@ -11,6 +12,7 @@ Each case is told with what went wrong. The status is 1 where one did.
 
 import os
 import pathlib
+import re
 import shutil
 import subprocess
 import sys
@@ -30,8 +32,8 @@ def script(path, says, status):
     path.chmod(0o755)
 
 
-def gate(folder, parts, last, status, line):
-    """What went wrong where the parts say these."""
+def lay_out_gate(folder, parts):
+    """The gate over parts that say these."""
     parts = {"docs/check": ("", 0), "c/generate": ("", 0), **parts}
     for name in ("docs/check", "c/generate", "tools/test-edits", "rust/test"):
         script(folder / name, *parts[name])
@@ -39,8 +41,17 @@ def gate(folder, parts, last, status, line):
         script(folder / "bin" / name, *parts.get(name, ("", 0)))
     (folder / ".ci").mkdir()
     shutil.copy(TOP / ".ci" / "gate.py", folder / ".ci")
+
+
+def run_gate(folder, *words):
     path = f"{folder / 'bin'}{os.pathsep}{os.environ['PATH']}"
-    ran = subprocess.run(["python3", ".ci/gate.py"], cwd=folder, env={**os.environ, "PATH": path}, **SAID)
+    return subprocess.run(["python3", ".ci/gate.py", *words], cwd=folder, env={**os.environ, "PATH": path}, **SAID)
+
+
+def gate(folder, parts, last, status, line):
+    """What went wrong where the parts say these."""
+    lay_out_gate(folder, parts)
+    ran = run_gate(folder)
     said = ran.stdout.splitlines()
     wrong = [f"the last line is {said[-1]}"] * (said[-1] != last)
     wrong += [f"the status is {ran.returncode}"] * (ran.returncode != status)
@@ -60,6 +71,93 @@ def try_gates():
         failed += bool(wrong)
         what = ", ".join(f"{name} says `{says}` and ends with {status}" for name, (says, status) in parts.items())
         print(f"gate: {what or 'all is well'}: {'; '.join(wrong) or 'as it has to be'}", flush=True)
+    return failed
+
+
+class Repository:
+    """A repository of two crates that have nothing but wrong bodies, and the gate over parts that say nothing."""
+
+    def __init__(self, folder, parts):
+        self.folder = folder
+        lay_out_gate(folder, parts)
+        # what is asked of test-edits is what it says
+        (folder / "tools" / "test-edits").write_text(
+            "import sys\nprint('asked:', *(it for it in sys.argv[1:] if '/' in it))\nprint('1 passed, 0 failed')\n", encoding="utf-8")
+        self.edits = {crate: [f"{crate}/wrong_{number}" for number in range(8)] for crate in ("one", "two")}
+        for crate, its in self.edits.items():
+            for name in its:
+                path = folder / "crates" / crate / "edits" / f"{name.partition('/')[2]}.edit"
+                path.parent.mkdir(parents=True, exist_ok=True)
+                path.write_text(f"promise: {crate}.row\n", encoding="utf-8")
+        (folder / "bench" / "results").mkdir(parents=True)
+        self.stored = folder / "bench" / "results" / "gate.tsv"
+        self.git("init", "-q")
+        self.commit()
+
+    def git(self, *words):
+        who = ["-c", "user.name=planted", "-c", "user.email=planted", "-c", "commit.gpgsign=false"]
+        subprocess.run(["git", *who, *words], cwd=self.folder, check=True, stdout=subprocess.DEVNULL)
+
+    def commit(self):
+        self.git("add", "-A")
+        self.git("commit", "-q", "--allow-empty", "-m", "planted")
+
+    def change(self, path):
+        (self.folder / path).parent.mkdir(exist_ok=True)
+        (self.folder / path).write_text("changed", encoding="utf-8")
+
+    def asked(self, *words):
+        """The wrong bodies that a run asks for, none for all."""
+        said = run_gate(self.folder, *words).stdout.splitlines()
+        return next((it.split()[1:] for it in said if it.startswith("asked:")), ["nothing was asked for"])
+
+
+def draws(its):
+    """Each case of the draw, and whether it is as it has to be."""
+    one, two = its.edits.values()
+    yield "all, where no whole run is stored", its.asked() == []
+    yield "all, by --all", its.asked("--all", "--store") == []
+    its.commit()
+    drawn = its.asked()
+    yield "one for each row", [it.partition("/")[0] for it in drawn] == ["one", "two"]
+    yield "the same for the same commit", its.asked() == drawn
+    yield "those of a drawn run that stores what it took", its.asked("--store") == drawn
+    others = []
+    for _ in range(8):
+        its.commit()
+        others.append(its.asked())
+    yield "not the same for each commit", any(it != drawn for it in others)
+    yield "one for each row, after a stored run that isn't whole", all(len(it) == 2 for it in others)
+    its.change("crates/one/src/lib.rt")
+    yield "all of a crate that has a new file", its.asked()[:-1] == one
+    its.commit()
+    yield "all of a crate that changed in a commit", its.asked()[:-1] == one
+    its.change("crates/two/edits/wrong_0.edit")
+    yield "all of both, where an edit of the other changed", its.asked() == one + two
+    yield "all, by --all, of a tree that isn't a commit's", its.asked("--all", "--store") == []
+    its.commit()
+    yield "all, where the whole run was of no commit", its.asked() == []
+    its.asked("--all", "--store")
+    yield "one for each row again", len(its.asked()) == 2
+    its.change("tools/source.py")
+    yield "all, where what tries them changed", its.asked() == []
+    its.commit()
+    before = its.stored.read_text(encoding="utf-8")
+    script(its.folder / "rust" / "test", "1 passed, 1 failed", 1)
+    its.asked("--all", "--store")
+    yield "nothing is stored of a run that failed", its.stored.read_text(encoding="utf-8") == before
+    its.asked("--all", "--store")
+    its.stored.write_text(re.sub(r"\b[0-9a-f]{40}\b", "0" * 40, before), encoding="utf-8")
+    yield "all, where the clone hasn't the commit of the whole run", its.asked() == []
+
+
+def try_draws():
+    """How many cases of the draw went wrong."""
+    known, failed = tomllib.loads((TOP / ".ci" / "planted" / "gates.toml").read_text(encoding="utf-8")), 0
+    with tempfile.TemporaryDirectory(prefix="planted-") as folder:
+        for what, is_right in draws(Repository(pathlib.Path(folder), known["well"])):
+            failed += not is_right
+            print(f"draw: {what}: {'as it has to be' if is_right else 'WRONG'}", flush=True)
     return failed
 
 
@@ -115,7 +213,7 @@ def try_case(folder, what, *its):
 
 
 def main():
-    tries = {"gate": try_gates, "edits": try_edits}
+    tries = {"gate": try_gates, "draw": try_draws, "edits": try_edits}
     asked = sys.argv[1:] or [*tries]
     if not set(asked) <= set(tries):
         print(__doc__, end="")

@@ -305,10 +305,13 @@ def adapter_memory():
 
 
 def gate():
-    """What the parts of a whole run of the gate took, in minutes."""
-    its = noted("gate")
-    parts = dict.fromkeys(part for part, _ in its)
-    return grid(["Part", "Clock", "Processor"], ([f"`{it}`" if it != "the whole gate" else it, its[it, "clock"], its[it, "processor"]] for it in parts))
+    """What the parts of both forms of the gate took, in minutes."""
+    its = {(form, part, what): told for form, part, what, told in rows_of("gate")}
+    parts = dict.fromkeys((form, part) for form, part, _ in its if part != "run")
+    run = {form: f"in all, of `{its[form, 'run', 'commit'][:8]}` on {its[form, 'run', 'cores']} cores" for form, _ in parts}
+    return grid(["Run", "Part", "Clock", "Processor"],
+                ([f"`{form}`", run[form] if part == "in all" else f"`{part}`", its[form, part, "clock"], its[form, part, "processor"]]
+                 for form, part in parts), 2)
 
 
 def script_rows(path, begins):
@@ -342,7 +345,7 @@ def evidence():
         "Lines of tests in Rattle, proved safe too": f"{tests:,} in {tree.tests():,} functions",
         "Tests in plain Rust over the erased crate that the gate runs by name":
             f"{len(tree.plain_tests()):,}, {len(tree.plain_tests([tree.ERASED_ONCE])):,} of them once erased from tests in Rattle",
-        "Mutations, each named for its bug, that each gate tries and the prover refuses": f"{tree.edits():,}",
+        "Mutations, each named for its bug, that each whole run of the gate tries and the prover refuses": f"{tree.edits():,}",
         "Bodies planted by `rt plant`": f"{planted[0]} refused, {planted[1]} let through and seen by a test, {planted[2]} not judged (the tactics met a limit)",
         "Calls beside a slow model, every answer and count compared": f"{queues * int(calls.replace('_', '')):,}; five times as many in a release build",
         "Faults at each byte of a script and of its answers": f"{text_bytes(['delay 1', *lines]) + 1} of reading, {text_bytes(answers)} of writing",
