@@ -106,7 +106,8 @@ fn wake_each(tasks: &[Arc<Task>]) {
 /// It keeps the queue alive as a clone does. Any number of tasks and threads may receive from one queue.
 ///
 /// A waker that panics keeps nobody asleep: all whom the call wakes are woken, and then the panic goes on to whoever made it. An
-/// insert's entry is in then, but its key is lost with the panic.
+/// insert's entry is in then, but its key is lost with the panic. An insert for which no slot was free may wake receivers before
+/// its entry is in, and the value is dropped then.
 ///
 /// ```
 /// use hontkhale::DelayQueue;

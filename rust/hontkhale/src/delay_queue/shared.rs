@@ -319,8 +319,9 @@ impl<T> Shared<T> {
     /// An insert at a place. The value comes back where there is no room.
     #[inline(always)]
     fn insert_at(&self, at: usize, segment: &Segment<T>, place: usize, value: T, tick: u64) -> Result<Key, T> {
-        self.renew_where_due(segment, at);
         let key = segment.insert(place, value, tick)?;
+        // A renewal may call a task's waker: one that panics takes the key along, but not the entry.
+        self.renew_where_due(segment, at);
         Ok(self.key(at, &key))
     }
 

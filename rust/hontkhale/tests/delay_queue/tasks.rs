@@ -1,5 +1,6 @@
 //! Tasks that receive, in the place of threads.
 
+use crate::kit::FAR;
 use hontkhale::delay_queue::{AsyncReceiver, Expired, ManualClock};
 use hontkhale::DelayQueue;
 use std::panic::{catch_unwind, panic_any, AssertUnwindSafe};
@@ -181,6 +182,27 @@ fn a_waker_that_panics_keeps_no_other_task_asleep() {
         assert!(catch_unwind(AssertUnwindSafe(|| call(&queue))).is_err());
         assert_eq!(wakes.take(), 1);
     }
+}
+
+/// The renewal wakes a receiver, which is to drop what was set aside.
+#[test]
+fn an_insert_that_renews_a_shard_has_its_entry_in_though_a_waker_panics() {
+    let queue = DelayQueue::builder().shards(2).last_stamp(2).build();
+    let insert = |after| queue.insert("a value".to_string(), after).expect("room");
+    let keys: Vec<_> = (0..128).map(|_| insert(FAR)).collect();
+    let mut receiver = queue.receiver();
+    let panics = Waker::from(Arc::new(Panics));
+    assert!(receiver.poll_recv(&mut Context::from_waker(&panics)).is_pending());
+    let (cancelled, removed) = keys.split_at(3);
+    cancelled.iter().for_each(|key| assert!(queue.cancel(key).is_ok()));
+    removed.iter().for_each(|key| assert!(queue.remove(key).is_ok()));
+    // Each wears a slot, and comes later than what the task waits for.
+    let panics_or_goes = |_| match catch_unwind(AssertUnwindSafe(|| insert(2 * FAR))) {
+        Ok(key) => queue.remove(&key).is_err(),
+        Err(_) => true,
+    };
+    assert!((0..200).any(panics_or_goes));
+    assert_eq!(queue.len(), 1);
 }
 
 #[test]
