@@ -318,7 +318,7 @@ def main(quick):
         print(status, flush=True)
         owned = [int(number) for number in re.findall(r"^w\d .* (\d+): [\d -]+$", status, re.M)]
         assert len(owned) == 3 and sum(owned) == 64 and max(owned) <= 22, status
-        assert re.search(r"waiting \d+ \(\d+ due\), running 0, done \d+, dead 0", status), status
+        assert re.search(r"waiting \d+ \(\d+ due\), running 0, done (?:about )?\d+, dead 0", status), status
         drain(it, workers)
 
         exactly_once(it, 20000)
