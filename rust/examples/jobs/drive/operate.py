@@ -146,9 +146,14 @@ def kinds(it):
                 again += asks.call("JOBS.TAKE", 30, "WAIT", 5000, "KIND", "mail")
             assert {job[1] for job in again} == {attempt + 1}
     assert it.sql("SELECT DISTINCT state, attempt FROM jobs WHERE kind = 'mail'") == [["dead", "3"]]
-    # What is due at once comes by its priority.
-    it.sql("UPDATE jobs SET state = 'waiting', due = now(), attempts = 9 WHERE kind = 'mail'")
-    wait_for(lambda: metric(metrics, "jobs_indexed") == 31)
+    # What is due at once comes by its priority. All are due once one has come that is due later.
+    it.sql(
+        "UPDATE jobs SET state = 'waiting', due = now(), attempts = 9 WHERE kind = 'mail'; "
+        "INSERT INTO jobs (kind, due) VALUES ('last', now() + interval '1 second')"
+    )
+    wait_for(lambda: metric(metrics, "jobs_indexed") == 32)
+    while not asks.call("JOBS.TAKE", 1, "WAIT", 5000, "KIND", "last"):
+        pass
     order = [job[3] for _ in range(3) for job in asks.call("JOBS.TAKE", 10, "KIND", "mail")]
     assert order == sorted(order, reverse=True) and len(order) == 30, order
     end(worker)
