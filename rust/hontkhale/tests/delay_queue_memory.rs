@@ -309,7 +309,8 @@ fn room_that_is_taken_ahead_is_no_more_than_what_entries_take() {
         let taken = (used() - before) as usize;
         assert!(taken <= 64 * 2 * entries.next_power_of_two().max(1_000), "{taken}");
         assert!(entries < MILLION || taken <= (64 + 8) * MILLION, "{taken}");
-        let is_same = || (used() - before) as usize == taken;
+        // The harness's own threads take a little meanwhile.
+        let is_same = || (used() - before).abs_diff(taken as isize) < 4_096;
         assert!(queue.reserve(entries / 2).is_ok() && queue.reserve(entries).is_ok() && is_same());
         println!("{entries}: {} bytes an entry", taken / entries);
     }
