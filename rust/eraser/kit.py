@@ -1,6 +1,6 @@
 """Rules for what the kit has otherwise than std: memory that may be refused, locks, wakers, hashers, formatting."""
 from patterns import made, rewritten
-from rattle import close_of, functions, words_at
+from rattle import Refused, close_of, functions, words_at
 
 WAKES = "// A waker that is dropped wakes.\n"
 
@@ -10,7 +10,10 @@ def forever(tokens, lent):
     for at in reversed(range(len(tokens))):
         if words_at(tokens, at, "for", "_", "in", "rt", ".", "forever", "(", ")", "{"):
             close = close_of(tokens, at + 8)
-            returns = any(token.text == "return" for token in tokens[at + 9:close])
+            words = {token.text for token in tokens[at + 9:close]}
+            if "break" in words:
+                raise Refused(f"line {tokens[at].line}: a `break` leaves what a rule takes for a loop without end")
+            returns = "return" in words
             tokens[at:at + 8 if returns else close + 1] = made("loop" if returns else f'panic!("{lent}");', tokens[at])
 
 

@@ -9,14 +9,14 @@ OTHER_STATEMENTS = {"let", "return", "if", "match", "while", "for", "use", "pub"
 
 def is_law(tokens, name, head, body, laws):
     """A function of no answer that promises something, changes nothing and only calls laws, if anything."""
-    if name == "law":
-        return True
     behind = close_of(tokens, head) + 1
-    if tokens[behind].text == "->" or tokens[body].text != "{" or not empty_but_calls(tokens, body, laws):
+    if tokens[body].text != "{":
+        return name == "law"
+    if tokens[behind].text == "->" or not empty_but_calls(tokens, body, laws):
         return False
     if any(token.text == "mut" for token in tokens[head:behind]):
         return False
-    return any(token.text == "ensures" for token in tokens[behind:body])
+    return name == "law" or any(token.text == "ensures" for token in tokens[behind:body])
 
 
 def law_names(files):
@@ -54,8 +54,12 @@ def empty_but_calls(tokens, body, laws):
     return at is not None
 
 
+def is_call(tokens, at):
+    return tokens[at].kind == "word" and (tokens[at + 1].text in ("(", "!") or words_at(tokens, at + 1, "::", "<"))
+
+
 def idle_statement(tokens, at, laws):
-    """The index behind a statement that calls a law, or that is `let _ = &self.field;`."""
+    """The index behind a statement that calls a law and nothing else, or that is `let _ = &self.field;`."""
     if [token.text for token in tokens[at:at + 6]] == ["let", "_", "=", "&", "self", "."]:
         return at + 8 if tokens[at + 7].text == ";" else None
     if tokens[at].kind != "word" or tokens[at].text in OTHER_STATEMENTS:
@@ -63,16 +67,22 @@ def idle_statement(tokens, at, laws):
     index, called = at, None
     while tokens[index].text != ";":
         token = tokens[index]
-        if token.kind == "word" and (tokens[index + 1].text == "(" or words_at(tokens, index + 1, "::", "<")):
-            called = token.text
+        called = token.text if is_call(tokens, index) else called
         if token.text == "(":
             index = close_of(tokens, index)
             if tokens[index + 1].text not in (";", "."):
                 return None
+        elif token.text == "[":
+            index = close_of(tokens, index)
         elif token.kind not in ("word",) and token.text not in (".", "::", "<", ">", ",", "&", "'"):
             return None
         index += 1
-    return index + 1 if called in laws else None
+    if called not in laws:
+        return None
+    for place in range(at, index):
+        if tokens[place].text in ("?", "{", "=") or is_call(tokens, place) and tokens[place].text != called:
+            raise Refused(f"line {tokens[place].line}: `{tokens[place].text}` would go with the law `{called}` that it is handed to")
+    return index + 1
 
 
 def has_items(tokens):

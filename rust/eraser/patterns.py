@@ -63,6 +63,10 @@ def rewritten(tokens, name):
             if its and new.startswith("!"):
                 raise Refused(f"line {tokens[at].line}: {new[1:]}")
             if its:
+                new, _, without = new.partition(" unless ")
+                refused = {token.text for found in its[0].values() for token in found} & set(without.split(", "))
+                if refused:
+                    raise Refused(f"line {tokens[at].line}: `{min(refused)}` in a value that a rule moves")
                 new, before = parts_of(new), tokens[at].before
                 tokens[at:its[1]] = [token for part in new for token in its[0].get(part.text, [part])]
                 tokens[at].before = before
