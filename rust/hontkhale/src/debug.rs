@@ -98,11 +98,26 @@ impl<T> Debug for PlainQueue<T> {
 mod with_std {
     use super::{Debug, Formatter, Result};
     use crate::apps::{CountedCache, IdleSessions, Name, Seen, TtlCache};
+    use crate::directory::{Clerk, Directory};
     use crate::lasting::{LastingHandle, LastingQueue, LastingShard};
     use crate::parking::{MillisecondTicks, Parked, ShardStream, Shards};
     use crate::shards::by::{NamedCaller, NamedQueue, NamedShard, Rooms};
     use crate::shards::{Handle, ShardState, SharedDelayQueue};
     use std::hash::{BuildHasher, Hash};
+
+    impl<X> Debug for Clerk<X> {
+        fn fmt(&self, f: &mut Formatter<'_>) -> Result {
+            f.debug_struct("Clerk")
+                .field("given", &self.given())
+                .finish_non_exhaustive()
+        }
+    }
+
+    impl<X> Debug for Directory<X> {
+        fn fmt(&self, f: &mut Formatter<'_>) -> Result {
+            f.debug_struct("Directory").finish_non_exhaustive()
+        }
+    }
 
     impl<T> Debug for SharedDelayQueue<T> {
         fn fmt(&self, f: &mut Formatter<'_>) -> Result {

@@ -100,6 +100,9 @@ mod refused;
 mod apps;
 mod core;
 #[cfg(feature = "std")]
+#[doc(hidden)]
+pub mod directory;
+#[cfg(feature = "std")]
 pub mod lasting;
 #[cfg(feature = "std")]
 mod parking;

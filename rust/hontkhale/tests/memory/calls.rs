@@ -2,6 +2,7 @@
 
 use super::refusing::without_memory;
 use hontkhale::cache::TtlCache;
+use hontkhale::directory::{Clerk, MOST};
 use hontkhale::lasting::{LastingConfig, LastingHandle, LastingQueue};
 use hontkhale::owner::{
     numbered_queue, CoreConfig, CoreError, DelayCore, Key, Look, PlainQueue, PlainTurn, Turn, HANDLE_LIMIT,
@@ -192,5 +193,20 @@ fn reads_of_a_cache_take_no_memory() {
         assert_eq!(cache.get(&'a', 5).map(|value| **value), Some(1));
         assert_eq!(cache.renew(&'a', 20, 5), Ok(25));
         assert_eq!(cache.purge(25), Ok(1));
+    });
+}
+
+// promise: directory.finds
+#[test]
+fn a_directory_is_read_without_memory() {
+    let mut clerk = Clerk::new(4).expect("memory");
+    for number in 0..3 {
+        assert_eq!(clerk.add(Box::new(number)), Ok(number));
+    }
+    without_memory(|| {
+        let other = clerk.directory().clone();
+        assert_eq!(other.get(2).map(|thing| **thing), Some(2));
+        assert_eq!((other.get(3), other.get(MOST)), (None, None));
+        assert_eq!(clerk.given(), 3);
     });
 }

@@ -2,6 +2,7 @@
 
 use super::refusing::{refusing, used};
 use hontkhale::cache::TtlCache;
+use hontkhale::directory::{AddError, Clerk};
 use hontkhale::lasting::{HandleError, HandleRenewError, Kept, LastingConfig, LastingQueue, OpenError, ReopenError};
 use hontkhale::owner::{
     numbered_queue, CoreConfig, CoreError, DelayCore, Keeper, PlainQueue, Turn, WordsError, LAST_STAMP,
@@ -41,6 +42,7 @@ no_memory! {
     OpenError: OpenError::NoMemory,
     ReopenError: ReopenError::NoMemory,
     ReplayFault: ReplayFault::NoMemory,
+    AddError: AddError::NoMemory,
 }
 
 // Makes a call of which the allocation behind so many is refused, drops what it answers, and tells how many it asked
@@ -152,6 +154,25 @@ fn login(grants: u64) -> (Answer, u64) {
     let next = sessions.next_idle(0, 10).expect("a shard");
     assert_eq!(matches!(next, Turn::Out(_)), answer.0.is_ok());
     answer
+}
+
+// A thing that isn't added comes back, and its number is given to the next.
+fn addition(grants: u64) -> (Answer, u64) {
+    let mut clerk = Clerk::new(8).expect("a clerk");
+    for number in 0..3 {
+        assert_eq!(clerk.add(Box::new(number)), Ok(number));
+    }
+    let thing = Box::new(3);
+    let (answer, asked) = refusing(grants, || clerk.add(thing));
+    let answer = answer.map(|number| assert_eq!(number, 3)).map_err(|(error, thing)| {
+        assert_eq!((*thing, clerk.given()), (3, 3));
+        assert_eq!(clerk.directory().get(3), None);
+        NoMemory::from(error)
+    });
+    let next = 3 + u32::from(answer.is_ok());
+    assert_eq!(clerk.add(Box::new(next)), Ok(next));
+    assert!((0..=next).all(|number| clerk.directory().get(number).is_some_and(|thing| **thing == number)));
+    (answer, asked)
 }
 
 // A script ends between two answers.
@@ -299,6 +320,19 @@ const ROWS: &[Row] = &[
         allocations: 1,
         aborting: &[],
         makes: login,
+    },
+    // The rows, and the counted cell around them.
+    Row {
+        name: "a directory",
+        allocations: 2,
+        aborting: &[1],
+        makes: |grants| asks(grants, || Clerk::<Box<u64>>::new(8)),
+    },
+    Row {
+        name: "an addition to a directory",
+        allocations: 1,
+        aborting: &[],
+        makes: addition,
     },
     Row {
         name: "a script",

@@ -1,0 +1,22 @@
+use Rattle.std.proofs.Common.{◌≡◌, ℕ, sym, ap, subst, ◌∙◌}
+use Rattle.dq_directory.specs.Rows.{StandsAt, name_at}
+use Rattle.dq_directory.specs.Claims.{Claimed}
+use Rattle.dq_directory.proofs.directory.Directory.agree.Goals as goal
+
+pub agrees-requires : goal.agrees-requires
+agrees-requires g c =
+    let row = c.locate.result.0 in
+    let place = c.locate.result.1 in
+    let one : c.one.inside.number ≡ c.args.one.now.number = ap (λ (w : Claimed _). w.number) c.one.view_is in
+    let at = subst (λ (n : ℕ). StandsAt n row place) one c.locate.ensures in
+    let there = subst (λ (n : ℕ). StandsAt n row place) c.requires.number at in
+    ap (λ (w : Claimed _). w.row) c.one.view_is ∙ c.requires.one row place at ∙ sym (ap (λ (w : Claimed _). w.row) c.other.view_is ∙ c.requires.other row place there)
+
+pub agrees-requires-2 : goal.agrees-requires-2
+agrees-requires-2 g c =
+    let row = c.locate.result.0 in
+    let place = c.locate.result.1 in
+    let same : c.one.inside.number ≡ c.other.inside.number =
+    ap (λ (w : Claimed _). w.number) c.one.view_is ∙ c.requires.number ∙ sym (ap (λ (w : Claimed _). w.number) c.other.view_is) in
+    let there = subst (λ (n : ℕ). StandsAt n row place) same c.locate.ensures in
+    c.one.invariant.1 row place c.locate.ensures ∙ ap (λ r. name_at r.items place) c.agrees.ensures ∙ sym (c.other.invariant.1 row place there)

@@ -1,0 +1,14 @@
+use Rattle.std.proofs.Common.{rules, ◌≡◌, ℕ, ap, subst, ◌∙◌}
+use Rattle.dq_directory.specs.Rows.{StandsAt, name_at}
+use Rattle.dq_directory.specs.Claims.{Claimed}
+use Rattle.dq_directory.proofs.Places.{name_is}
+use Rattle.dq_directory.proofs.directory.Directory.thing.Goals as goal
+
+pub value-requires : goal.value-requires
+value-requires g c =
+    let row = c.locate-at.result.0 in
+    let place = c.locate-at.result.1 in
+    let rows = c.args.self.now in
+    let at = subst (λ (n : ℕ). StandsAt n row place) (ap (λ (w : Claimed _). w.number) c.claim.view_is) c.locate-at.ensures in
+    let named : name_at rows row ≡ c.index.result.now.id = name_is rows row c.index.result.now (search rules) (search rules) in
+    ap (λ (w : Claimed _). w.row) c.claim.view_is ∙ c.requires row place at ∙ named

@@ -1,0 +1,20 @@
+-- What claims and the clerk say.
+use Rattle.std.specs.Prelude.{◌≡◌, ℕ, List}
+use Rattle.boxcar.specs.Slot.{Named}
+use Rattle.dq_directory.specs.Rows.{StandsAt, name_at}
+
+-- that a number is of a thing, in the directory that has this row
+pub record Claimed (X : Type 0) : Type 0 where
+  pub number : ℕ
+  pub thing : X
+  pub row : ℕ
+
+-- the claim is of this directory
+abbrev pub IsOf : {X : Type 0} → List Named → Claimed X → Type 0
+IsOf rows c = (k j : ℕ) → StandsAt c.number k j → c.row ≡ name_at rows k
+
+-- whose directory it is, how many numbers were given, and how many may be
+pub record Desk : Type 0 where
+  pub rows : List Named
+  pub given : ℕ
+  pub most : ℕ
