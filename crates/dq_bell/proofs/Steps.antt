@@ -10,7 +10,7 @@ use Rattle.dq_bell.specs.declared.rule.SeatView.{SeatView}
 use Rattle.dq_bell.specs.declared.TheConstants.{NEVER}
 use Rattle.dq_bell.specs.Views.{first_leader, dealing, dealt_hint, having_written, having_asked, having_rung, having_armed, having_seen, having_found}
 use Rattle.dq_bell.specs.Rule.{armed_until, hint_at, IsYetToAsk, IsHeeded, WakesInTime, IsSeat, OneWrites, OneLeads, IsBell}
-use Rattle.dq_bell.specs.Law.{NoWakeIsLost}
+use Rattle.dq_bell.specs.Law.{NoWakeIsLost, NobodySleepsOnceClosed}
 use Rattle.dq_bell.specs.Plays.{lowers, asks, rings, arms, looks}
 
 off : false ≡ true → ⊥
@@ -433,3 +433,19 @@ pub none_lost : NoWakeIsLost
 none_lost n t j v k asleep nobody p lt =
     let l = (k.each j v asleep.0).lead asleep.1 in
     ⊎_elim (λ z. absurd (asleep.3 z)) (λ z. ⊎_elim (λ le. le) (λ o. absurd (nobody p o)) (z.1 p (let s = asleep.2 in omega arith))) l.wakes
+
+-- once a hint is 0, and its writer has asked, nobody sleeps
+pub none_sleeps : NobodySleepsOnceClosed
+none_sleeps n t k j v b closed asleep =
+    let u = closed.0 in
+    let l = (b.each j v asleep.0).lead asleep.1 in
+    let told = (b.each k u closed.1).hint closed.2 in
+    ⊎_elim (λ z. asleep.3 z)
+    (λ z. ⊎_elim
+    (λ le. asleep.3 (let h = told.1 in let zero = closed.3 in let a = z.0 in omega arith))
+    (λ o. let same : o.0 ≡ k = b.writers o.0 k o.1 u o.2 closed.1 o.3 closed.2 o.5 in
+    let P : ℕ → Type 0 = λ i. get_elem? t.views i ≡ some o.1 in
+    let is : o.1 ≡ u = some-injective _ _ (sym (subst P same o.2) ∙ closed.1) in
+    off (sym closed.4 ∙ (sym (ap (λ (x : SeatView). x.owes) is) ∙ o.4)))
+    (z.1 u.place (let s = asleep.2 in let h = told.0 in omega arith)))
+    l.wakes

@@ -1,6 +1,6 @@
 -- No wake is lost.
 
-use Rattle.std.specs.Prelude.{◌≡◌, ◌≢◌, ℕ, ◌<◌, ◌≤◌, true}
+use Rattle.std.specs.Prelude.{◌≡◌, ◌≢◌, ℕ, ◌<◌, ◌≤◌, true, false}
 use mathlib.Core.Option.{some}
 use lib.ListN.{get_elem?}
 use Rattle.atomic_table.specs.Table.{State}
@@ -23,3 +23,15 @@ NoWakeIsLost =
     (n : ℕ) (t : State ℕ SeatView) (j : ℕ) (v : SeatView)
     → IsBell n t → SleepsUnrung n t j v → AllHaveAsked t
     → (p : ℕ) → p < n → v.until ≤ hint_at t.words p
+
+-- somebody closed: seat k keeps a place's hint at 0, and has asked
+abbrev pub WasClosedBy : State ℕ SeatView → ℕ → Type 0
+WasClosedBy t k =
+    (u : SeatView) × (get_elem? t.views k ≡ some u)
+    × (u.writes ≡ true) × (u.hint ≡ 0) × (u.owes ≡ false)
+
+-- Between any two steps: once somebody closed, nobody sleeps who wasn't rung.
+abbrev pub NobodySleepsOnceClosed : Type 0
+NobodySleepsOnceClosed =
+    (n : ℕ) (t : State ℕ SeatView) (k j : ℕ) (v : SeatView)
+    → IsBell n t → WasClosedBy t k → ¬ SleepsUnrung n t j v

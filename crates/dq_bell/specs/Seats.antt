@@ -19,6 +19,16 @@ pub record DuePlace : Type 0 where
   pub next : ℕ
   pub hint : HintSeat
 
+-- who closes: its hint, and whether it has closed
+pub record CloserSeat : Type 0 where
+  pub hint : HintSeat
+  pub is_closed : Bool
+
+-- what the hint of who closes is: 0 once it has closed
+abbrev pub IsHintOfCloser : Bool → ℕ → Type 0
+IsHintOfCloser false tick = tick ≡ NEVER
+IsHintOfCloser true tick = tick ≡ 0
+
 -- a lead: its bell, until when it said that it sleeps, at how many hints it has looked since,
 -- whether it found an earlier one, and how many places have a hint
 pub record LeaderSeat : Type 0 where

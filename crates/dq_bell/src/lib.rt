@@ -9,6 +9,7 @@
 //! what sleeps: a thread that is parked, or a task.
 #![tactic(auto)]
 
+mod closer;
 mod due;
 mod hint;
 mod laws;
@@ -18,9 +19,10 @@ mod rung;
 #[cfg(test)]
 mod tests;
 
+pub use closer::Closer;
 pub use due::Due;
 pub use hint::Hint;
-pub use laws::no_wake_is_lost;
+pub use laws::{no_wake_is_lost, nobody_sleeps_once_closed};
 pub use leader::Leader;
 pub use rung::Rung;
 
