@@ -444,34 +444,6 @@ fn a_lease_is_ended_and_prolonged_by_its_holder() {
     );
 }
 
-/// By the digests of its scripts.
-#[test]
-fn a_lock_of_redis_py_is_its_holders() {
-    let mut client = client(&keyspace());
-    let [release, extend, acquire] = [
-        "EVALSHA c3f8721cbb97f72bc19e972846bd7aaf91901658 1 lock",
-        "EVALSHA a4e8783852e6b949f9ef3a97212805108459a890 1 lock",
-        "EVALSHA 1cac51482acf5858da00f6d685d68f886cd6b6b2 1 lock",
-    ];
-    is_ok(&mut client, "SET lock token PX 3000000");
-    for other in [format!("{release} other"), format!("{extend} other 1000 1"), format!("{acquire} other 1000")] {
-        says(&mut client, &format!("{other} => :0\nTTL lock => :3000"));
-    }
-    says(
-        &mut client,
-        &format!(
-            "{extend} token 1000000 0 => :1\nTTL lock => :4000\n{extend} token 2000000 1 => :1\nTTL lock => :2000"
-        ),
-    );
-    says(&mut client, &format!("{acquire} token 5000000 => :1\nTTL lock => :5000"));
-    says(&mut client, &format!("{acquire} token x => -ERR value is not an integer or out of range\nTTL lock => :5000"));
-    says(&mut client, &format!("{release} token => :1\nEXISTS lock => :0\n{release} token => :0"));
-    // A lock without a deadline isn't extended, and is acquired for a time.
-    is_ok(&mut client, "SET lock token");
-    says(&mut client, &format!("{extend} token 1000000 0 => :0\n{acquire} token 5000000 => :1\nTTL lock => :5000"));
-    says(&mut client, "EVALSHA 1cac51482acf5858da00f6d685d68f886cd6b6b3 1 lock token => -NOSCRIPT No matching script. Please use EVAL.");
-}
-
 #[test]
 fn what_is_queued_is_done_by_exec_and_nothing_before() {
     let keyspace = keyspace();

@@ -93,7 +93,6 @@ const COMMANDS: &[Command] = &[
     Command("getdel", 2, false, keys::get_and_remove),
     Command("delex", 2, true, lease::del_where),
     Command("delifeq", 3, false, lease::del_if_equal),
-    Command("evalsha", 3, true, lease::eval_sha),
     Command("type", 2, false, keys::type_of),
     Command("scan", 2, true, scan::scan),
     Command("keys", 2, false, scan::keys),

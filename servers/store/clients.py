@@ -51,37 +51,6 @@ def locks(store):
     assert store.get("count") == "160" and store.delete("count") == 1
 
 
-def leases(store):
-    """The same by redis-py's Lock, which lets go and prolongs by scripts what it holds and nothing else."""
-    def lives(seconds):
-        return seconds - 100 < store.ttl("lease") <= seconds
-
-    lock = store.lock("lease", timeout=3_000)
-    assert lock.acquire(blocking=False) and lock.owned() and not store.lock("lease", timeout=3_000).acquire(blocking=False)
-    assert lock.extend(1_000) and lives(4_000) and lock.extend(2_000, replace_ttl=True) and lives(2_000)
-    assert lock.reacquire() and lives(3_000)
-    store.set("lease", "another", px=5_000_000)
-    for step in (lock.release, lambda: lock.extend(1_000), lock.reacquire):
-        lock.local.token = lock.local.token or b"mine"
-        try:
-            step()
-            sys.exit("clients.py: a lock that another has is let go or prolonged")
-        except redis.exceptions.LockError:
-            assert store.get("lease") == "another" and lives(5_000)
-    store.delete("lease")
-
-    def work():
-        for _ in range(10):
-            with store.lock("lease", timeout=600, sleep=0.001):
-                store.set("count", int(store.get("count") or 0) + 1)
-
-    threads = [threading.Thread(target=work) for _ in range(8)]
-    for step in (threading.Thread.start, threading.Thread.join):
-        for thread in threads:
-            step(thread)
-    assert store.get("count") == "80" and store.delete("count") == 1 and not store.exists("lease")
-
-
 def transfers(store):
     """Eight threads move one of a hundred from an account to the other, by WATCH and EXEC, which fails where another was first."""
     store.set("from", 100)
@@ -156,7 +125,7 @@ def main():
     port = int(sys.argv[1])
     store = redis.Redis(port=port, decode_responses=True)
     assert store.dbsize() == 0
-    for program in (sessions, limits, locks, leases, transfers, many, itself):
+    for program in (sessions, limits, locks, transfers, many, itself):
         program(store)
     web_page(port, store)
     print(f"clients.py: the programs of redis-py {redis.__version__} are served, a web page's request isn't")

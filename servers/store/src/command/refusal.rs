@@ -51,7 +51,6 @@ impl Refusal {
          HELLO AUTH <user> <pass> option can be used to authenticate the client and \
          select the RESP protocol version at the same time",
     );
-    pub const NO_SCRIPT: Refusal = Refusal::Plain("NOSCRIPT No matching script. Please use EVAL.");
     pub const NESTED: Refusal = Refusal::Plain("ERR MULTI calls can not be nested");
     pub const LONG_TRANSACTION: Refusal = Refusal::Plain("ERR the transaction is too long");
     pub const ABORTED: Refusal = Refusal::Plain("EXECABORT Transaction discarded because of previous errors.");
