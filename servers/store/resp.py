@@ -10,8 +10,8 @@ def request(*args):
 
 
 class Client:
-    def __init__(self, port):
-        self.socket = socket.create_connection(("127.0.0.1", port), timeout=120)
+    def __init__(self, port, host="127.0.0.1"):
+        self.socket = socket.create_connection((host, port), timeout=120)
         self.socket.setsockopt(socket.IPPROTO_TCP, socket.TCP_NODELAY, 1)
         self.file = self.socket.makefile("rb", buffering=1 << 16)
 
@@ -35,3 +35,6 @@ class Client:
     def call(self, *args):
         self.send(request(*args))
         return self.reply()
+
+    def close(self):
+        self.socket.close()

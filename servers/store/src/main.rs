@@ -22,7 +22,7 @@ use options::{Options, HELP};
 use room::{Resident, Room, ALWAYS};
 use seats::Seats;
 use std::io::{self, Write};
-use std::net::TcpListener;
+use std::net::SocketAddr;
 use std::process::ExitCode;
 use std::sync::Arc;
 
@@ -56,8 +56,8 @@ fn run(options: Options) -> Result<(), Box<dyn std::error::Error>> {
     if keyspace.clock.now() > LAST_TICK {
         return Err("this machine's clock is past the year 2109, the last that a deadline may have".into());
     }
-    let at = (options.bind, options.port);
-    let listener = TcpListener::bind(at).map_err(|error| format!("{}:{} can't be listened at: {error}", at.0, at.1))?;
+    let at = SocketAddr::from((options.bind, options.port));
+    let listener = server::listen(at).map_err(|error| format!("{at} can't be listened at: {error}"))?;
     let at = listener.local_addr()?;
     let fewer = match clients {
         all if all == options.clients => String::new(),

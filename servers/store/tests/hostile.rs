@@ -319,6 +319,39 @@ fn a_thousand_connections_are_served_and_the_next_is_refused_by_name() {
     store.is_well();
 }
 
+/// More clients come at once than the server welcomes by then: none is left to ask again, which it does a second later.
+#[test]
+fn five_hundred_clients_come_at_once() {
+    let store = Store::new(&[]);
+    store.stand_still();
+    let address = store.address.parse().unwrap();
+    let connect =
+        |at| TcpStream::connect_timeout(&address, LONG).unwrap_or_else(|error| panic!("client {at}: {error}"));
+    let mut clients: Vec<TcpStream> = (0..500).map(connect).collect();
+    store.signal("-CONT");
+    clients.iter_mut().for_each(|it| assert_eq!(ask(it, &[b"PING"]), "+PONG\r\n"));
+}
+
+/// Its host may vanish without a word, and its seat would be taken for ever: the machine asks every silent client.
+#[test]
+fn a_silent_client_is_asked_whether_it_is_there() {
+    for (options, most) in [(&[][..], 300), (&["--keepalive", "20"], 20)] {
+        let store = Store::new(options);
+        let mut stream = store.connect();
+        assert_eq!(ask(&mut stream, &[b"PING"]), "+PONG\r\n");
+        let port = |address: std::net::SocketAddr| format!(":{:04X}", address.port());
+        let (own, its) = (port(store.address.parse().unwrap()), port(stream.local_addr().unwrap()));
+        wait_until("its socket has no timer that asks", || {
+            let sockets = std::fs::read_to_string("/proc/net/tcp").unwrap();
+            let sockets = sockets.lines().map(|line| line.split_whitespace().collect::<Vec<_>>());
+            let mut timers =
+                sockets.filter(|it| it[1].ends_with(&own) && it[2].ends_with(&its)).map(|it| it[5].to_string());
+            // The second kind of timer, and the hundredths of a second until it fires.
+            timers.any(|it| it.strip_prefix("02:").is_some_and(|it| u32::from_str_radix(it, 16).unwrap() <= most * 100))
+        });
+    }
+}
+
 #[test]
 fn the_soft_limit_of_open_files_is_raised() {
     let store = Store::with_files("-Sn 100", &["--clients", "300"]);

@@ -5,7 +5,7 @@ use super::{count, repeated, Answer, Client, Refusal, Words, COMMANDS};
 use crate::keyspace::Held;
 use crate::resp::{integer, Protocol, Reply};
 use crate::seats::Guest;
-use std::time::SystemTime;
+use std::time::{Duration, SystemTime};
 
 /// The version of Redis whose replies these are. Clients ask for it to know which commands there are.
 const REDIS_VERSION: &str = "7.0.15";
@@ -237,6 +237,8 @@ pub fn config(client: &mut Client<'_>, words: Words<'_>) -> Answer {
         return Err(Refusal::PartWordCount("config", "get"));
     }
     let bytes = client.desk.keyspace.room().most() + client.desk.seats.room();
+    let settings = &client.desk.settings;
+    let seconds = |time: Option<Duration>| time.map_or(0, |it| it.as_secs()).to_string();
     let settings = [
         ("appendonly", "no".into()),
         ("databases", "1".into()),
@@ -245,7 +247,8 @@ pub fn config(client: &mut Client<'_>, words: Words<'_>) -> Answer {
         ("maxmemory-policy", "noeviction".to_string()),
         ("proto-max-bulk-len", crate::resp::BULK_LIMIT.to_string()),
         ("save", String::new()),
-        ("timeout", client.desk.settings.timeout.map_or(0, |it| it.as_secs()).to_string()),
+        ("tcp-keepalive", seconds(settings.keepalive)),
+        ("timeout", seconds(settings.timeout)),
     ];
     let asked = settings.iter().filter_map(|(name, value)| {
         let name = name.as_bytes();

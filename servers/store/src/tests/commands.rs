@@ -584,7 +584,7 @@ fn what_a_transaction_holds_counts_as_memory() {
 
 #[test]
 fn a_password_lets_in_whoever_tells_it() {
-    let settings = || Settings { password: Password::of("secret\nnothing"), timeout: None };
+    let settings = || Settings { password: Password::of("secret\nnothing"), ..Settings::default() };
     let wrong = "-WRONGPASS invalid username-password pair or user is disabled.";
     let mut client = client_by(&keyspace(), settings());
     for line in ["GET a", "MULTI", "PING", "CLIENT ID", "WATCH a"] {
