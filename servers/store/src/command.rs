@@ -8,7 +8,7 @@ mod refusal;
 mod scan;
 mod transaction;
 
-use crate::keyspace::{Keyspace, Turn};
+use crate::keyspace::{Claim, Claimed, Keyspace, Turn};
 use crate::output::Output;
 use crate::resp::{Protocol, Reply};
 use crate::seats::{Guest, Seats};
@@ -18,6 +18,7 @@ use refusal::Refusal;
 use std::collections::HashMap;
 use std::net::SocketAddr;
 use std::sync::{Arc, PoisonError};
+use std::thread;
 use std::time::{Duration, Instant};
 use transaction::Transaction;
 
@@ -58,6 +59,8 @@ pub enum Served {
     Done,
     /// Some of its values are told, and the others wait until what is told is sent.
     Begun,
+    /// It waits for a transaction, another's or its own: it is served on in the next turn of its connection.
+    Later,
     /// It is the last of its connection.
     Last,
     /// It is none: a web page's request was sent here.
@@ -67,61 +70,99 @@ pub enum Served {
 type Words<'a> = &'a [&'a [u8]];
 type Answer = Result<Reply, Refusal>;
 
-/// A command by its name, the least number of its words, whether it takes more, and what it does.
-struct Command(&'static str, usize, bool, fn(&mut Client<'_>, Words<'_>) -> Answer);
+/// A command by its name, the least number of its words, whether it takes more, the names that it asks for, and what it does.
+struct Command(&'static str, usize, bool, Names, fn(&mut Client<'_>, Words<'_>) -> Answer);
+
+/// Which names a request asks for.
+#[derive(Clone, Copy, PartialEq, Eq)]
+enum Names {
+    None,
+    /// Its first word behind the command.
+    First,
+    /// All its words behind the command.
+    Rest,
+    /// Every other of them, which it claims.
+    Pairs,
+    /// All that there are.
+    All,
+    /// Those of the requests that EXEC does, which it claims.
+    Queued,
+}
+
+impl Names {
+    fn of<'a>(self, words: Words<'a>) -> impl Iterator<Item = &'a [u8]> {
+        let (step, most) = match self {
+            Names::First => (1, 1),
+            Names::Rest => (1, usize::MAX),
+            Names::Pairs => (2, usize::MAX),
+            Names::None | Names::All | Names::Queued => (1, 0),
+        };
+        words.iter().skip(1).step_by(step).take(most).copied()
+    }
+
+    /// Adds them to what a transaction claims.
+    fn claim(self, words: Words<'_>, keyspace: &Keyspace, claimed: &mut Claimed) {
+        claimed.is_all |= self == Names::All;
+        self.of(words).for_each(|name| keyspace.add(name, claimed));
+    }
+}
 
 const COMMANDS: &[Command] = &[
-    Command("get", 2, false, keys::get),
-    Command("set", 3, true, keys::set),
-    Command("pexpire", 3, true, |client, words| expiry::expire(client, words, &expiry::PEXPIRE)),
-    Command("expire", 3, true, |client, words| expiry::expire(client, words, &expiry::EXPIRE)),
-    Command("setex", 4, false, |client, words| keys::set_until(client, words, "setex")),
-    Command("psetex", 4, false, |client, words| keys::set_until(client, words, "psetex")),
-    Command("incr", 2, false, |client, words| keys::add(client, words[1], 1)),
-    Command("incrby", 3, false, keys::incr_by),
-    Command("decr", 2, false, |client, words| keys::add(client, words[1], -1)),
-    Command("decrby", 3, false, keys::decr_by),
-    Command("del", 2, true, keys::del),
-    Command("unlink", 2, true, keys::del),
-    Command(MGET, 2, true, |_, words| Ok(Reply::Begun(words.len() - 1))),
-    Command(MSET, 3, true, keys::set_all),
-    Command("setnx", 3, false, keys::set_new),
-    Command("getset", 3, false, keys::get_and_set),
-    Command("exists", 2, true, keys::exists),
-    Command("touch", 2, true, keys::exists),
-    Command("getex", 2, true, keys::get_and_expire),
-    Command("getdel", 2, false, keys::get_and_remove),
-    Command("delex", 2, true, lease::del_where),
-    Command("delifeq", 3, false, lease::del_if_equal),
-    Command("type", 2, false, keys::type_of),
-    Command("scan", 2, true, scan::scan),
-    Command("keys", 2, false, scan::keys),
-    Command("pexpireat", 3, true, |client, words| expiry::expire(client, words, &expiry::PEXPIREAT)),
-    Command("expireat", 3, true, |client, words| expiry::expire(client, words, &expiry::EXPIREAT)),
-    Command("ttl", 2, false, |client, words| expiry::life(client, words, |until, now| (until - now + 500) / 1000)),
-    Command("pttl", 2, false, |client, words| expiry::life(client, words, |until, now| until - now)),
-    Command("expiretime", 2, false, |client, words| expiry::life(client, words, |until, _| (until + 500) / 1000)),
-    Command("pexpiretime", 2, false, |client, words| expiry::life(client, words, |until, _| until)),
-    Command("persist", 2, false, keys::persist),
-    Command("dbsize", 1, false, |client, _| Ok(count(client.desk.keyspace.count()))),
-    Command("flushall", 1, true, keys::flush),
-    Command("flushdb", 1, true, keys::flush),
-    Command("auth", 2, true, connection::auth),
-    Command("ping", 1, true, connection::ping),
-    Command("time", 1, false, connection::time),
-    Command("echo", 2, false, |_, words| Ok(Reply::bulk(words[1]))),
-    Command("select", 2, false, connection::select),
-    Command("hello", 1, true, connection::hello),
-    Command("client", 2, true, connection::client),
-    Command("config", 2, true, connection::config),
-    Command("info", 1, true, connection::info),
-    Command("command", 1, true, connection::command),
-    Command("multi", 1, false, transaction::multi),
-    Command(EXEC, 1, false, transaction::exec),
-    Command("discard", 1, false, transaction::discard),
-    Command("watch", 2, true, transaction::watch),
-    Command("unwatch", 1, false, transaction::unwatch),
-    Command(QUIT, 1, true, |_, _| Ok(Reply::Status("OK"))),
+    Command("get", 2, false, Names::First, keys::get),
+    Command("set", 3, true, Names::First, keys::set),
+    Command("pexpire", 3, true, Names::First, |client, words| expiry::expire(client, words, &expiry::PEXPIRE)),
+    Command("expire", 3, true, Names::First, |client, words| expiry::expire(client, words, &expiry::EXPIRE)),
+    Command("setex", 4, false, Names::First, |client, words| keys::set_until(client, words, "setex")),
+    Command("psetex", 4, false, Names::First, |client, words| keys::set_until(client, words, "psetex")),
+    Command("incr", 2, false, Names::First, |client, words| keys::add(client, words[1], 1)),
+    Command("incrby", 3, false, Names::First, keys::incr_by),
+    Command("decr", 2, false, Names::First, |client, words| keys::add(client, words[1], -1)),
+    Command("decrby", 3, false, Names::First, keys::decr_by),
+    Command("del", 2, true, Names::Rest, keys::del),
+    Command("unlink", 2, true, Names::Rest, keys::del),
+    Command(MGET, 2, true, Names::Rest, |_, words| Ok(Reply::Begun(words.len() - 1))),
+    Command(MSET, 3, true, Names::Pairs, keys::set_all),
+    Command("setnx", 3, false, Names::First, keys::set_new),
+    Command("getset", 3, false, Names::First, keys::get_and_set),
+    Command("exists", 2, true, Names::Rest, keys::exists),
+    Command("touch", 2, true, Names::Rest, keys::exists),
+    Command("getex", 2, true, Names::First, keys::get_and_expire),
+    Command("getdel", 2, false, Names::First, keys::get_and_remove),
+    Command("delex", 2, true, Names::First, lease::del_where),
+    Command("delifeq", 3, false, Names::First, lease::del_if_equal),
+    Command("type", 2, false, Names::First, keys::type_of),
+    Command("scan", 2, true, Names::All, scan::scan),
+    Command("keys", 2, false, Names::All, scan::keys),
+    Command("pexpireat", 3, true, Names::First, |client, words| expiry::expire(client, words, &expiry::PEXPIREAT)),
+    Command("expireat", 3, true, Names::First, |client, words| expiry::expire(client, words, &expiry::EXPIREAT)),
+    Command("ttl", 2, false, Names::First, |client, words| {
+        expiry::life(client, words, |until, now| (until - now + 500) / 1000)
+    }),
+    Command("pttl", 2, false, Names::First, |client, words| expiry::life(client, words, |until, now| until - now)),
+    Command("expiretime", 2, false, Names::First, |client, words| {
+        expiry::life(client, words, |until, _| (until + 500) / 1000)
+    }),
+    Command("pexpiretime", 2, false, Names::First, |client, words| expiry::life(client, words, |until, _| until)),
+    Command("persist", 2, false, Names::First, keys::persist),
+    Command("dbsize", 1, false, Names::All, |client, _| Ok(count(client.desk.keyspace.count()))),
+    Command("flushall", 1, true, Names::All, keys::flush),
+    Command("flushdb", 1, true, Names::All, keys::flush),
+    Command("auth", 2, true, Names::None, connection::auth),
+    Command("ping", 1, true, Names::None, connection::ping),
+    Command("time", 1, false, Names::None, connection::time),
+    Command("echo", 2, false, Names::None, |_, words| Ok(Reply::bulk(words[1]))),
+    Command("select", 2, false, Names::None, connection::select),
+    Command("hello", 1, true, Names::None, connection::hello),
+    Command("client", 2, true, Names::None, connection::client),
+    Command("config", 2, true, Names::None, connection::config),
+    Command("info", 1, true, Names::All, connection::info),
+    Command("command", 1, true, Names::None, connection::command),
+    Command("multi", 1, false, Names::None, transaction::multi),
+    Command(EXEC, 1, false, Names::Queued, transaction::exec),
+    Command("discard", 1, false, Names::None, transaction::discard),
+    Command("watch", 2, true, Names::Rest, transaction::watch),
+    Command("unwatch", 1, false, Names::None, transaction::unwatch),
+    Command(QUIT, 1, true, Names::None, |_, _| Ok(Reply::Status("OK"))),
 ];
 const MGET: &str = "mget";
 const MSET: &str = "mset";
@@ -182,6 +223,11 @@ impl Session {
         self.transaction.next_reply()
     }
 
+    /// Whether a transaction has begun that isn't done.
+    pub fn is_running(&self) -> bool {
+        self.transaction.is_running()
+    }
+
     /// The memory that it holds.
     pub fn held(&self) -> usize {
         self.guest.name().capacity() + self.transaction.held()
@@ -193,21 +239,42 @@ impl Client<'_> {
     /// them unread holds one value, and not all that it named, which others may have overwritten since. `told` counts
     /// what is told of a request from one call to the next.
     pub fn serve(&mut self, words: Words<'_>, told: &mut usize, output: &mut Output) -> Served {
-        let turn = self.desk.turn.clone();
-        let _taken = (!takes_all_turns(words)).then(|| turn.lock().unwrap_or_else(PoisonError::into_inner));
-        if *told == 0 {
-            if ATTACKS.iter().any(|it| words[0].eq_ignore_ascii_case(it)) {
-                return Served::Attack;
+        if *told == 0 && ATTACKS.iter().any(|it| words[0].eq_ignore_ascii_case(it)) {
+            return Served::Attack;
+        }
+        let number = number(words);
+        let names = number.map_or(Names::None, |it| COMMANDS[it].3);
+        let (turn, _taken, _claim);
+        match names {
+            Names::Queued if *told == 0 && words.len() == 1 && !transaction::advance(self) => return later(),
+            Names::Queued => {}
+            Names::Pairs => match self.claim(names, words) {
+                None => return later(),
+                claim => _claim = claim,
+            },
+            _ => {
+                turn = self.desk.turn.clone();
+                _taken = turn.lock().unwrap_or_else(PoisonError::into_inner);
+                if self.desk.keyspace.is_claimed(names.of(words), names == Names::All) {
+                    return later();
+                }
             }
-            let reply = self.answer_alone(words);
+        }
+        if *told == 0 {
+            let reply = self.answer_by(number, words);
             output.protocol = self.session.protocol;
             output.reply(&reply);
             if !matches!(reply, Reply::Begun(_)) {
-                let is_last = words[0].eq_ignore_ascii_case(QUIT.as_bytes());
+                let is_last = number.is_some_and(|it| COMMANDS[it].0 == QUIT);
                 return if is_last { Served::Last } else { Served::Done };
             }
             *told = 1;
         }
+        self.tell(words, told, output)
+    }
+
+    /// Tells what follows the beginning of a reply.
+    fn tell(&mut self, words: Words<'_>, told: &mut usize, output: &mut Output) -> Served {
         while !output.is_full() {
             let next = self.session.next_reply();
             match next.or_else(|| named(words).get(*told - 1).map(|name| keys::value(self, name))) {
@@ -219,22 +286,29 @@ impl Client<'_> {
         Served::Begun
     }
 
-    /// Answers an MSET while no other request is served, as EXEC does by itself.
-    fn answer_alone(&mut self, words: Words<'_>) -> Reply {
-        if words[0].eq_ignore_ascii_case(MSET.as_bytes()) {
-            let keyspace = self.desk.keyspace.clone();
-            return keyspace.alone(|| self.answer(words));
+    /// Does more of a transaction that has begun.
+    pub fn go_on(&mut self) {
+        if self.session.is_running() {
+            transaction::advance(self);
         }
-        self.answer(words)
+    }
+
+    fn claim(&self, names: Names, words: Words<'_>) -> Option<Claim> {
+        let mut claimed = Claimed::default();
+        names.claim(words, &self.desk.keyspace, &mut claimed);
+        self.desk.keyspace.claim(claimed)
     }
 
     /// What a request is answered. The values of an MGET aren't among it.
     pub fn answer(&mut self, words: Words<'_>) -> Reply {
-        self.run(words).unwrap_or_else(|refusal| refusal.reply())
+        self.answer_by(number(words), words)
     }
 
-    fn run(&mut self, words: Words<'_>) -> Answer {
-        let number = COMMANDS.iter().position(|it| words[0].eq_ignore_ascii_case(it.0.as_bytes()));
+    fn answer_by(&mut self, number: Option<usize>, words: Words<'_>) -> Reply {
+        self.run(number, words).unwrap_or_else(|refusal| refusal.reply())
+    }
+
+    fn run(&mut self, number: Option<usize>, words: Words<'_>) -> Answer {
         let command = number.map(|it| &COMMANDS[it]);
         number.into_iter().for_each(|it| self.session.guest.note_command(it));
         let transaction = &mut self.session.transaction;
@@ -246,7 +320,7 @@ impl Client<'_> {
                 Ok(reply) => return Ok(reply),
                 Err(refusal) => refusal,
             },
-            Some(it) => return it.3(self, words),
+            Some(it) => return it.4(self, words),
         };
         transaction.note_refusal();
         if command.is_some_and(|it| it.0 == EXEC) {
@@ -257,9 +331,20 @@ impl Client<'_> {
     }
 }
 
-/// Whether a request is served while no other is.
-fn takes_all_turns(words: Words<'_>) -> bool {
-    [EXEC, MSET].iter().any(|it| words[0].eq_ignore_ascii_case(it.as_bytes()))
+/// The number of a request's command.
+fn number(words: Words<'_>) -> Option<usize> {
+    COMMANDS.iter().position(|it| words[0].eq_ignore_ascii_case(it.0.as_bytes()))
+}
+
+/// The names that a request asks for.
+fn names(words: Words<'_>) -> Names {
+    number(words).map_or(Names::None, |it| COMMANDS[it].3)
+}
+
+/// Another's transaction has to end first. It may wait for this processor.
+fn later() -> Served {
+    thread::yield_now();
+    Served::Later
 }
 
 /// The names whose values follow the beginning of a reply.

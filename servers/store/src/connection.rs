@@ -18,7 +18,7 @@ const LONG_PIECE: usize = 64 << 10;
 const SENDS: usize = 8;
 /// After what time a connection's further requests wait for its next turn, and how many requests there are from one look
 /// at the clock to the next.
-const SLICE: Duration = Duration::from_millis(1);
+pub const SLICE: Duration = Duration::from_millis(1);
 const UNLOOKED: usize = 8;
 /// By how much at most the room for a request that has begun grows at a time.
 const STEP: usize = 128 << 10;
@@ -101,6 +101,13 @@ impl Connection {
         &mut self.socket
     }
 
+    /// Does what it has begun, before it is closed.
+    pub fn finish(&mut self, desk: &mut Desk) {
+        while self.talk.session.is_running() {
+            self.talk.client(desk).go_on();
+        }
+    }
+
     /// What its socket is ready for.
     pub fn note(&mut self, event: &Event) {
         self.is_readable |= event.is_readable() || event.is_read_closed() || event.is_error();
@@ -145,7 +152,9 @@ impl Connection {
         }
         self.send()?;
         if !self.talk.output.is_empty() {
-            return Ok(After::Waits);
+            // A transaction that has begun is done whether its client reads or not.
+            self.talk.client(&mut shop.desk).go_on();
+            return Ok(if self.talk.session.is_running() { After::Again } else { After::Waits });
         }
         self.talk.output.swap_room(&mut shop.room);
         if self.has_more {
@@ -165,6 +174,7 @@ impl Connection {
         let Talk { parser, session, output, is_over, .. } = &self.talk;
         self.seat.hold(PER_SEAT + self.input.capacity() + parser.held() + session.held() + output.held());
         match output.is_empty() {
+            _ if session.is_running() => After::Again,
             false => After::Waits,
             true if self.talk.is_refused => self.linger(),
             true if *is_over => After::Over,
@@ -301,24 +311,33 @@ impl Talk {
             self.parser.is_narrow = !self.session.is_admitted();
             match self.parser.parse(&bytes[used..]) {
                 Ok(None) => break,
-                Ok(Some(length)) => {
-                    if self.answer(&bytes[used..], desk, socket) {
+                Ok(Some(length)) => match self.answer(&bytes[used..], desk, socket) {
+                    Served::Begun => {}
+                    Served::Later => {
+                        *has_more = true;
+                        break;
+                    }
+                    _ => {
                         used += length;
                         self.parser.reset();
                         self.told = 0;
                     }
-                }
+                },
                 Err(broken) => self.end_with(&Reply::Error(format!("ERR Protocol error: {broken}"))),
             }
         }
         Ok(used)
     }
 
-    /// Answers the request that the parser found. False where some of its values are left.
-    fn answer(&mut self, bytes: &[u8], desk: &mut Desk, socket: &TcpStream) -> bool {
+    fn client<'a>(&'a mut self, desk: &'a mut Desk) -> Client<'a> {
+        Client { desk, session: &mut self.session }
+    }
+
+    /// Answers the request that the parser found.
+    fn answer(&mut self, bytes: &[u8], desk: &mut Desk, socket: &TcpStream) -> Served {
         let count = self.parser.count();
         if count == 0 {
-            return true;
+            return Served::Done;
         }
         let (mut few, many);
         let words = if count <= FEW {
@@ -330,9 +349,9 @@ impl Talk {
             &many[..]
         };
         let mut client = Client { desk, session: &mut self.session };
-        match client.serve(words, &mut self.told, &mut self.output) {
-            Served::Done => {}
-            Served::Begun => return false,
+        let served = client.serve(words, &mut self.told, &mut self.output);
+        match served {
+            Served::Done | Served::Begun | Served::Later => {}
             Served::Last => self.is_over = true,
             Served::Attack => {
                 client.desk.warn(socket.peer_addr().ok());
@@ -340,7 +359,7 @@ impl Talk {
                 self.is_over = true;
             }
         }
-        true
+        served
     }
 
     fn end_with(&mut self, reply: &Reply) {

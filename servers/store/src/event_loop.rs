@@ -115,6 +115,7 @@ impl EventLoop {
             self.give_turns();
             self.close_stuck();
         }
+        self.connections.iter_mut().flatten().for_each(|it| it.finish(&mut self.shop.desk));
         Ok(())
     }
 
@@ -267,6 +268,7 @@ impl EventLoop {
 
     fn close(&mut self, place: usize) {
         if let Some(mut connection) = self.connections[place].take() {
+            connection.finish(&mut self.shop.desk);
             let _ = self.poll.registry().deregister(connection.socket());
         }
         self.give_back(place);

@@ -4,10 +4,12 @@
 //! read, and asks the queue for the deadline, which takes no lock. A key is told to be gone only after its entry came out
 //! of the queue, so that no extend brings back what was seen to be gone.
 
+mod claims;
 mod place;
 mod shard;
 mod walk;
 
+pub use claims::{Claim, Claimed, Turn};
 pub use place::Place;
 pub use shard::Record;
 #[cfg(test)]
@@ -16,13 +18,14 @@ pub use walk::Held;
 
 use crate::clock::{Clock, Tick};
 use crate::room::Room;
+use claims::Claims;
 use hontkhale::delay_queue::{AsyncReceiver, Builder, Expired, InsertErrorKind, Key, KeyError};
 use hontkhale::DelayQueue;
 use shard::{Shard, Writer};
 use std::alloc::{handle_alloc_error, Layout};
 use std::collections::hash_map::RandomState;
 use std::hash::{BuildHasher, Hasher};
-use std::sync::{Arc, Mutex, MutexGuard, PoisonError, RwLock};
+use std::sync::{Arc, Mutex, MutexGuard, PoisonError};
 use std::task::Poll;
 
 pub const SHARDS: usize = 64;
@@ -35,9 +38,6 @@ const QUEUE_SHARDS: usize = 16;
 
 pub type Name = Arc<[u8]>;
 pub type Value = Arc<[u8]>;
-
-/// A thread's turn, which it has while it serves a request. Whoever has the turns of all is alone.
-pub type Turn = Arc<Mutex<()>>;
 
 /// Why a key isn't written.
 #[derive(Clone, Copy, Debug, PartialEq, Eq)]
@@ -71,7 +71,7 @@ pub struct Keyspace {
     queue: DelayQueue<Name>,
     hasher: RandomState,
     room: Arc<Room>,
-    turns: RwLock<Vec<Turn>>,
+    claims: Claims,
     /// Who takes entries out of the queue, and then their names off: each keeper, and after them anybody else.
     takers: [Mutex<()>; KEEPERS + 1],
     pub clock: Clock,
@@ -96,24 +96,10 @@ impl Keyspace {
             queue,
             hasher: RandomState::new(),
             room,
-            turns: RwLock::default(),
+            claims: Claims::default(),
             takers: Default::default(),
             clock,
         })
-    }
-
-    /// The turn of a thread that serves.
-    pub fn turn(&self) -> Turn {
-        let turn = Turn::default();
-        self.turns.write().unwrap_or_else(PoisonError::into_inner).push(turn.clone());
-        turn
-    }
-
-    /// Does something while no thread has its turn, so that no request is served meanwhile.
-    pub fn alone<O>(&self, act: impl FnOnce() -> O) -> O {
-        let turns = self.turns.read().unwrap_or_else(PoisonError::into_inner);
-        let _taken: Vec<_> = turns.iter().map(|it| lock(it)).collect();
-        act()
     }
 
     /// The room of keys and values.

@@ -53,6 +53,12 @@ fn ask(Asker { desk, session, .. }: &mut Asker, line: &str) -> Reply {
     Client { desk, session }.answer(&line.split(' ').map(str::as_bytes).collect::<Vec<_>>())
 }
 
+/// What becomes of a request in one turn.
+fn served(Asker { desk, session, .. }: &mut Asker, line: &str) -> Served {
+    let words: Vec<_> = line.split(' ').map(str::as_bytes).collect();
+    Client { desk, session }.serve(&words, &mut 0, &mut Output::default())
+}
+
 fn is_ok(client: &mut Asker, line: &str) {
     assert_eq!(ask(client, line), Reply::Status("OK"), "{line}");
 }
@@ -86,6 +92,39 @@ fn the_number_of_keys_takes_no_lock_where_none_is_over() {
         thread::spawn(move || told.send(ask(&mut client, "DBSIZE")));
         assert_eq!(heard.recv_timeout(Duration::from_millis(LONG)), Ok(Reply::Integer(2)), "DBSIZE waits for a lock");
     });
+}
+
+/// A name in another shard than those of some others.
+fn apart(keyspace: &Keyspace, others: &[&str]) -> String {
+    let shard = |name: &str| keyspace.shard_of(name.as_bytes());
+    let mut names = (0..).map(|at| format!("name:{at}"));
+    names.find(|name| others.iter().all(|other| shard(other) != shard(name))).unwrap()
+}
+
+/// A transaction stands still, since somebody has the shard of its second name.
+#[test]
+fn others_are_served_amid_a_transaction() {
+    let keyspace = keyspace();
+    let second = apart(&keyspace, &["first"]);
+    let other = apart(&keyspace, &["first", &second]);
+    is_ok(&mut client(&keyspace), &format!("SET {other} 1"));
+    let (mut asker, mut others, get) = (client(&keyspace), client(&keyspace), format!("GET {other}"));
+    let (told, heard) = mpsc::channel();
+    keyspace.while_held(second.as_bytes(), || {
+        ["MULTI", "SET first 1", &format!("SET {second} 1")].iter().for_each(|it| drop(ask(&mut asker, it)));
+        thread::spawn(move || while served(&mut asker, "EXEC") == Served::Later {});
+        wait_until("the transaction doesn't begin", || keyspace.view(b"first", |_, _| ()).is_some());
+        thread::spawn(move || {
+            told.send(served(&mut others, &get)).unwrap();
+            let claimed = ["GET first", "PEXPIRE first 9 GT", "DBSIZE", "FLUSHALL"];
+            claimed.iter().for_each(|it| told.send(served(&mut others, it)).unwrap());
+        });
+        let next = || heard.recv_timeout(Duration::from_millis(LONG));
+        assert_eq!(next(), Ok(Served::Done), "whoever asks for another name waits");
+        (0..4).for_each(|at| assert_eq!(next(), Ok(Served::Later), "half of a transaction is seen by the {at}th"));
+    });
+    wait_until("its names stay claimed", || served(&mut client(&keyspace), "DBSIZE") == Served::Done);
+    assert_eq!(ask(&mut client(&keyspace), "DBSIZE"), Reply::Integer(3));
 }
 
 #[test]

@@ -1,6 +1,6 @@
 //! Clients that do harm: a named error or a closed connection, and everybody else is served as before.
 
-use std::io::{BufRead, BufReader, Read, Write};
+use std::io::{BufRead, BufReader, ErrorKind, Read, Write};
 use std::net::TcpStream;
 use std::process::{Child, ChildStdout, Command, Stdio};
 use std::thread;
@@ -294,6 +294,55 @@ fn many_long_requests_leave_others_their_turn() {
         let before = marks.filter(|it| it == ":0").count();
         assert!(before < 200, "{before} of 400 are done first");
         assert_eq!(ask(&mut short, &[b"DEL", b"mark"]), ":1\r\n");
+    }
+}
+
+/// Whether another client of the same thread is answered amid a transaction, which begins first. On a busy machine the
+/// transaction may be over before this program looks.
+fn is_answered_amid(long: &mut TcpStream, short: &mut TcpStream, store: &Store) -> bool {
+    let names: Vec<String> = (0..100).map(|at| format!("name:{at}")).collect();
+    let mget = request(&[&[&b"MGET"[..]], &names.iter().map(|it| it.as_bytes()).collect::<Vec<_>>()[..]].concat());
+    let queued = ask_all(long, &[vec![request(&[b"MULTI"])], vec![mget; 300]].concat());
+    assert_eq!(queued.iter().filter(|it| *it == "+QUEUED").count(), 300);
+    store.stand_still();
+    long.write_all(&request(&[b"EXEC"])).unwrap();
+    short.write_all(&request(&[b"GET", b"other"])).unwrap();
+    store.signal("-CONT");
+    assert_eq!(answer(short), "$-1\r\n");
+    long.set_nonblocking(true).unwrap();
+    let is_amid = long.peek(&mut [0]).is_err_and(|error| error.kind() == ErrorKind::WouldBlock);
+    long.set_nonblocking(false).unwrap();
+    let told = BufReader::new(&*long).lines().map(Result::unwrap).take(1 + 300 * 101);
+    assert_eq!(told.filter(|it| it == "$-1").count(), 300 * 100);
+    is_amid
+}
+
+#[test]
+fn a_long_transaction_leaves_others_their_turn() {
+    let store = Store::new(&["--threads", "1"]);
+    let (mut long, mut short) = (store.connect(), store.connect());
+    assert!((0..20).any(|_| is_answered_amid(&mut long, &mut short, &store)), "nobody is answered amid a transaction");
+}
+
+/// Whoever is sent away amid a transaction has done all of it.
+#[test]
+fn a_transaction_whose_client_is_sent_away_is_done_whole() {
+    let store = Store::new(&["--threads", "1"]);
+    let mut asks = store.connect();
+    let incrs = (0..20_000).map(|at| request(&[b"INCR", if at % 2 == 0 { b"a" } else { b"b" }]));
+    let queued = [vec![request(&[b"MULTI"])], incrs.collect()].concat();
+    for round in 1..=5 {
+        let mut goes = store.connect();
+        let id = ask(&mut goes, &[b"CLIENT", b"ID"]);
+        ask_all(&mut goes, &queued);
+        store.stand_still();
+        goes.write_all(&request(&[b"EXEC"])).unwrap();
+        asks.write_all(&request(&[b"CLIENT", b"KILL", b"ID", id[1..].trim_end().as_bytes()])).unwrap();
+        store.signal("-CONT");
+        assert_eq!(answer(&mut asks), ":1\r\n");
+        let all = (round * 10_000).to_string();
+        assert_eq!(ask(&mut asks, &[b"GET", b"a"]), format!("${}\r\n{all}\r\n", all.len()));
+        assert_eq!(ask(&mut asks, &[b"GET", b"b"]), format!("${}\r\n{all}\r\n", all.len()));
     }
 }
 

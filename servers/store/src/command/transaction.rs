@@ -1,9 +1,13 @@
-//! MULTI, EXEC, DISCARD, WATCH and UNWATCH: requests that are queued, and then served while no other request is.
+//! MULTI, EXEC, DISCARD, WATCH and UNWATCH: requests that are queued, and then served while no other is that asks for a
+//! name of theirs.
 
-use super::{keys, named, Answer, Client, Desk, Refusal, Words};
-use crate::keyspace::{Life, Value};
+use super::{keys, named, names, Answer, Client, Desk, Refusal, Words};
+use crate::connection::SLICE;
+use crate::keyspace::{Claim, Claimed, Life, Value};
 use crate::resp::{Reply, PER_WORD, REQUEST_LIMIT};
 use std::collections::{HashMap, VecDeque};
+use std::time::Instant;
+use std::vec;
 
 /// What a connection's client has queued and what it watches.
 #[derive(Default)]
@@ -13,17 +17,32 @@ pub struct Transaction {
     /// What is watched by its name, as it was then.
     watched: HashMap<Vec<u8>, Seen>,
     watched_bytes: usize,
+    /// What EXEC does, until it is told.
+    running: Option<Running>,
     /// What EXEC or KEYS is answered and isn't written yet.
     replies: VecDeque<Reply>,
     reply_bytes: usize,
 }
 
+type Request = Vec<Vec<u8>>;
+
 #[derive(Default)]
 struct Queue {
-    requests: Vec<Vec<Vec<u8>>>,
+    requests: Vec<Request>,
     bytes: usize,
     /// One of them was refused, so that none is done.
     is_broken: bool,
+}
+
+/// A transaction that has begun, and will be done whether its client stays or not.
+struct Running {
+    /// None once all is done.
+    claim: Option<Claim>,
+    /// How many requests it has, none where a watched key was changed.
+    count: Option<usize>,
+    /// Those that aren't done.
+    requests: vec::IntoIter<Request>,
+    bytes: usize,
 }
 
 /// A key as it was when it was watched, none where there was none. While its value is held no other has its address: who
@@ -53,7 +72,8 @@ const MANY_NAMES: [&str; 2] = ["scan", "keys"];
 impl Transaction {
     /// The memory that it holds.
     pub fn held(&self) -> usize {
-        self.queue.as_ref().map_or(0, |queue| queue.bytes) + self.watched_bytes + self.reply_bytes
+        let queued = self.queue.as_ref().map_or(0, |it| it.bytes) + self.running.as_ref().map_or(0, |it| it.bytes);
+        queued + self.watched_bytes + self.reply_bytes
     }
 
     /// Whether a command waits for EXEC.
@@ -72,6 +92,21 @@ impl Transaction {
         }
         queue.requests.push(words.iter().map(|word| word.to_vec()).collect());
         Ok(Reply::Status("QUEUED"))
+    }
+
+    /// Whether EXEC has done some of it and not all.
+    pub fn is_running(&self) -> bool {
+        self.running.as_ref().is_some_and(|it| it.claim.is_some())
+    }
+
+    /// What EXEC does next. Once there is nothing its names are everybody's again.
+    fn next_request(&mut self) -> Option<Request> {
+        let running = self.running.as_mut()?;
+        let next = running.requests.next();
+        if next.is_none() {
+            running.claim = None;
+        }
+        next
     }
 
     /// A request was refused.
@@ -132,27 +167,59 @@ pub fn unwatch(client: &mut Client<'_>, _: Words<'_>) -> Answer {
     Ok(Reply::Status("OK"))
 }
 
-/// Does what is queued, while no other request is served. Its replies are written one after the other.
-pub fn exec(client: &mut Client<'_>, _: Words<'_>) -> Answer {
-    let queue = client.session.transaction.queue.take().ok_or(Refusal::WithoutMulti("EXEC"))?;
-    let watched = client.session.transaction.unwatch();
-    if queue.is_broken {
-        return Err(Refusal::ABORTED);
+/// Does what is queued for a while, with all its names claimed. False where some of it is left for the next turn, or
+/// another's transaction has to end first.
+pub fn advance(client: &mut Client<'_>) -> bool {
+    if client.session.transaction.running.is_none() && !begin(client) {
+        return false;
     }
-    let keyspace = client.desk.keyspace.clone();
-    keyspace.alone(|| {
-        if !watched.iter().all(|(name, then)| is_same(then, &seen(client.desk, name))) {
-            return Ok(Reply::NilArray);
+    let begun = Instant::now();
+    while let Some(request) = client.session.transaction.next_request() {
+        let words: Vec<&[u8]> = request.iter().map(Vec::as_slice).collect();
+        let reply = client.answer(&words);
+        client.session.transaction.keep(reply);
+        for name in named(&words) {
+            let value = keys::value(client, name);
+            client.session.transaction.keep(value);
         }
-        for request in &queue.requests {
-            let words: Vec<&[u8]> = request.iter().map(Vec::as_slice).collect();
-            let reply = client.answer(&words);
-            client.session.transaction.keep(reply);
-            for name in named(&words) {
-                let value = keys::value(client, name);
-                client.session.transaction.keep(value);
-            }
+        if begun.elapsed() >= SLICE {
+            return false;
         }
-        Ok(Reply::Begun(queue.requests.len()))
-    })
+    }
+    true
+}
+
+/// Begins with what is queued, if anything is to be done. False where another's transaction has to end first.
+fn begin(client: &mut Client<'_>) -> bool {
+    let Client { desk, session } = client;
+    let Some(queue) = session.transaction.queue.as_ref().filter(|it| !it.is_broken) else { return true };
+    let mut claimed = Claimed::default();
+    for request in &queue.requests {
+        let words: Vec<&[u8]> = request.iter().map(Vec::as_slice).collect();
+        names(&words).claim(&words, &desk.keyspace, &mut claimed);
+    }
+    session.transaction.watched.keys().for_each(|name| desk.keyspace.add(name, &mut claimed));
+    let Some(claim) = desk.keyspace.claim(claimed) else { return false };
+    let queue = session.transaction.queue.take().unwrap_or_default();
+    let watched = session.transaction.unwatch();
+    let is_as_seen = watched.iter().all(|(name, then)| is_same(then, &seen(desk, name)));
+    let requests = if is_as_seen { queue.requests } else { Vec::new() };
+    let count = is_as_seen.then_some(requests.len());
+    session.transaction.running =
+        Some(Running { claim: Some(claim), count, requests: requests.into_iter(), bytes: queue.bytes });
+    true
+}
+
+/// Tells what was done.
+pub fn exec(client: &mut Client<'_>, _: Words<'_>) -> Answer {
+    let transaction = &mut client.session.transaction;
+    match (transaction.running.take(), transaction.queue.take()) {
+        (Some(Running { count: Some(count), .. }), _) => Ok(Reply::Begun(count)),
+        (Some(_), _) => Ok(Reply::NilArray),
+        (None, None) => Err(Refusal::WithoutMulti("EXEC")),
+        (None, Some(_)) => {
+            transaction.unwatch();
+            Err(Refusal::ABORTED)
+        }
+    }
 }
