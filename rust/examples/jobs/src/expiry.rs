@@ -43,7 +43,7 @@ async fn expire(worker: &Worker, leases: &[(i64, i32)]) {
             tell(format_args!("leases that have ended aren't written: {error}"));
             // The owner looks for leases that have ended in the table, too, and takes up those that aren't held here.
             for (id, attempt) in leases {
-                worker.partitions.end(*id, *attempt, false);
+                worker.partitions.end(*id, *attempt, None);
             }
             return;
         }
@@ -55,8 +55,10 @@ async fn expire(worker: &Worker, leases: &[(i64, i32)]) {
     worker.metrics.dead.add(dead);
     // A worker that does its jobs itself finds them by its next reading.
     let is_given = worker.options.effect.is_none();
-    let is_again =
-        |lease: &&(i64, i32)| worker.partitions.end(lease.0, lease.1, is_given && again.contains_key(&lease.0));
+    let is_again = |(id, attempt): &&(i64, i32)| {
+        let again = again.get(id).filter(|_| is_given);
+        worker.partitions.end(*id, *attempt, again)
+    };
     if !is_given {
         again.keys().for_each(|id| worker.partitions.read_whole(worker.partitions.of(*id)));
     }

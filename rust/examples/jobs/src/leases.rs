@@ -1,7 +1,8 @@
 //! The write of leases to the table: holders have extended them in memory.
 
-use crate::db::{tell, Error};
+use crate::db::tell;
 use crate::expiry::time;
+use crate::fault::Error;
 use crate::partitions::Extended;
 use crate::sql;
 use crate::worker::Worker;

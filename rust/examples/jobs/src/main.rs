@@ -7,6 +7,7 @@ mod db;
 mod effect;
 mod enqueue;
 mod expiry;
+mod fault;
 mod leases;
 mod metrics;
 mod options;

@@ -1,8 +1,9 @@
 //! Which partitions a worker owns, by rows of a table: it renews its terms, takes partitions up to a fair share,
 //! reads what is due soon, and is told the rest.
 
-use crate::db::{tell, Delay, Error, Param, Session, Told};
+use crate::db::{tell, Delay, Param, Session, Told};
 use crate::expiry::{micros, running, time};
+use crate::fault::Error;
 use crate::partitions::{Running, Waiting, WAITING_ROOM};
 use crate::sql;
 use crate::worker::Worker;

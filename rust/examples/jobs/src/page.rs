@@ -1,6 +1,6 @@
 //! A page for an operator: who owns which partitions, how late jobs were, and the dead ones, each with a button.
 
-use crate::db::Error;
+use crate::fault::Error;
 use crate::metrics::PIECE;
 use crate::retry::RETRY;
 use crate::status::{counts, ranges, OWNERS};

@@ -73,7 +73,7 @@ enum Held {
         job: Waiting,
     },
     /// It came out, and is about to be looked at in the table.
-    Out,
+    Out(Waiting),
     Running(Lease),
 }
 
@@ -240,12 +240,19 @@ impl Partitions {
         let mut partition = self.of_job(id);
         let has_room = partition.term.is_some() && partition.waiting < WAITING_ROOM;
         match partition.held.get_mut(&id) {
-            Some(Held::Waiting { key, job: known }) if known.due != job.due => {
+            Some(Held::Waiting { job: known, .. } | Held::Out(known)) if *known == job => {}
+            Some(Held::Running(_)) => {}
+            Some(Held::Waiting { key, job: known }) => {
                 if let Ok(reset) = self.queue.reset_at(key, due) {
                     (*key, *known) = (reset, job);
                 }
             }
-            Some(_) => {}
+            // It comes out once more, as what it is now: whoever finds it as what it was leaves it.
+            Some(held) => {
+                if let Ok(key) = self.queue.insert_at(Due::Job(id), due) {
+                    *held = Held::Waiting { key, job };
+                }
+            }
             None if !has_room => {}
             None => {
                 if let Ok(key) = self.queue.insert_at(Due::Job(id), due) {
@@ -259,17 +266,32 @@ impl Partitions {
     /// A job came out of the queue. None where nobody waits for it any more.
     pub fn note_out(&self, id: i64) -> Option<Waiting> {
         let mut partition = self.of_job(id);
-        let held = partition.held.get_mut(&id).filter(|it| matches!(it, Held::Waiting { .. }))?;
-        match std::mem::replace(held, Held::Out) {
-            Held::Waiting { job, .. } => Some(job),
-            _ => None,
-        }
+        let held = partition.held.get_mut(&id)?;
+        let job = match held {
+            Held::Waiting { job, .. } => job.clone(),
+            _ => return None,
+        };
+        *held = Held::Out(job.clone());
+        Some(job)
     }
 
-    /// Whether a job that is out may be given to a holder.
-    pub fn may_be_given(&self, id: i64) -> bool {
+    /// Whether a job that is out may be given to a holder as one of a kind.
+    pub fn may_be_given(&self, id: i64, kind: &str) -> bool {
         let partition = self.of_job(id);
-        partition.term.is_some() && matches!(partition.held.get(&id), Some(Held::Out))
+        partition.term.is_some() && matches!(partition.held.get(&id), Some(Held::Out(job)) if job.kind[..] == *kind)
+    }
+
+    /// A job that is out comes out again after some time. False where it is later than that by more than it may be.
+    pub fn put_off(&self, id: i64, by: Duration, most: Duration) -> bool {
+        let mut partition = self.of_job(id);
+        let job = match partition.held.get(&id) {
+            Some(Held::Out(job)) if self.clock.now() - job.due < most.as_micros() as i64 => job.clone(),
+            _ => return false,
+        };
+        match self.queue.insert(Due::Job(id), by) {
+            Ok(key) => partition.held.insert(id, Held::Waiting { key, job }).is_some(),
+            Err(_) => false,
+        }
     }
 
     /// The table has been asked about jobs that were out: they aren't held any more. Where one still waits, since not
@@ -278,7 +300,7 @@ impl Partitions {
         for id in ids {
             let mut partition = self.of_job(*id);
             partition.is_whole |= taken < ids.len();
-            if let Some(Held::Out) = partition.held.get(id) {
+            if let Some(Held::Out(_)) = partition.held.get(id) {
                 partition.held.remove(id);
                 partition.waiting -= 1;
             }
@@ -330,20 +352,21 @@ impl Partitions {
         }
     }
 
-    /// An attempt has ended. What it held is let go; `waits_on` where the job waits again and is to be given out.
-    pub fn end(&self, id: i64, attempt: i32, waits_on: bool) -> bool {
+    /// An attempt has ended. What it held is let go, and true told where the job is out again as it waits now.
+    pub fn end(&self, id: i64, attempt: i32, again: Option<&Waiting>) -> bool {
         let mut partition = self.of_job(id);
         match partition.held.get(&id) {
             Some(held @ Held::Running(lease)) if lease.attempt == attempt => self.forget(held),
             _ => return false,
         }
-        if !waits_on || partition.term.is_none() {
-            partition.held.remove(&id);
-            return false;
+        partition.held.remove(&id);
+        let again = again.filter(|_| partition.term.is_some()).cloned();
+        let is_again = again.is_some();
+        if let Some(job) = again {
+            partition.held.insert(id, Held::Out(job));
+            partition.waiting += 1;
         }
-        partition.held.insert(id, Held::Out);
-        partition.waiting += 1;
-        true
+        is_again
     }
 
     /// The leases of some partitions that were extended since the table was told of them.
@@ -429,8 +452,9 @@ mod tests {
         (0..=WAITING_ROOM).for_each(|id| it.note_waiting(job(2 * id)));
         it.note_waiting(job(1));
         assert_eq!((it.counts(), it.queue.len()), ((WAITING_ROOM + 1, 0), WAITING_ROOM + 1));
-        assert!(it.note_out(1).is_some() && it.note_out(1).is_none() && it.may_be_given(1));
+        assert!(it.note_out(1).is_some() && it.note_out(1).is_none() && it.may_be_given(1, ""));
+        assert!(!it.may_be_given(1, "mail"));
         it.lose(1);
-        assert!(!it.may_be_given(1));
+        assert!(!it.may_be_given(1, ""));
     }
 }

@@ -2,6 +2,7 @@
 
 use crate::db::{tell, Links};
 use crate::effect::statement;
+use crate::fault::{Asked, Whose};
 use crate::metrics::Metrics;
 use crate::options::PollerOptions;
 use std::error::Error;
@@ -36,7 +37,7 @@ pub async fn run(options: &PollerOptions) -> Result<(), Box<dyn Error>> {
             match links.query(&statement, &[&BATCH]).await {
                 Ok(rows) if rows.len() as i64 == BATCH => {}
                 Ok(_) => break,
-                Err(error) if error.is_passing() => {
+                Err(error) if error.whose(Asked::Own) == Whose::Connection => {
                     tell(format_args!("tried again: {error}"));
                     break;
                 }

@@ -65,7 +65,7 @@ impl Ready {
                 None => break,
             };
             remove(&mut ready, &kind, &place);
-            if partitions.may_be_given(place.2) {
+            if partitions.may_be_given(place.2, &kind) {
                 taken.push(place.2);
             }
         }

@@ -1,9 +1,10 @@
 //! Serves holders. What a client sends in one go is answered together: all that are done by one statement, say.
 
 use crate::commands::{fenced, try_again, Attempt, Command};
-use crate::db::{tell, Error, Param};
+use crate::db::{tell, Param};
 use crate::effect::note_lateness;
 use crate::expiry::running;
+use crate::fault::Error;
 use crate::partitions::{Beat, Running};
 use crate::redirect::redirect;
 use crate::resp::{Input, Reply};
@@ -255,7 +256,7 @@ impl Holder<'_> {
                 None => refuse(self.worker, *it),
             };
             if ended.get(&it.id) != Some(&false) {
-                self.worker.partitions.end(it.id, it.attempt, false);
+                self.worker.partitions.end(it.id, it.attempt, None);
             }
             reply.write(&mut self.replies);
         }

@@ -1,6 +1,7 @@
 //! Makes the tables, and changes those of an older program: step by step, without keeping inserts waiting.
 
-use crate::db::{deaf, meet, tell, Database, Delay, Error as DbError, Session};
+use crate::db::{deaf, meet, tell, Database, Delay, Session};
+use crate::fault::{Asked, Error as DbError, Whose};
 use crate::options::SetupOptions;
 use std::error::Error;
 use std::sync::Arc;
@@ -124,7 +125,7 @@ pub async fn check(database: &Database) -> Result<usize, Box<dyn Error>> {
     let (stands, count) = loop {
         match stands(database).await {
             Ok(stands) => break stands?,
-            Err(error) if error.is_passing() => {
+            Err(error) if error.whose(Asked::Own) == Whose::Connection => {
                 tell(format_args!("tried again after {:?}: {error}", delay.wait().await));
             }
             Err(error) if error.code() == Some(&SqlState::UNDEFINED_TABLE) => {
