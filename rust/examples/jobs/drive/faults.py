@@ -3,10 +3,12 @@
 The faults of jobs are raised by an effect, those of schedules by rows that the table couldn't refuse.
 """
 import contextlib
+import time
 
-from cluster import cluster, end, wait_for
+from cluster import EFFECT, cluster, end, free_port, wait_for
 from hostile import empty
-from stalls import held
+from leases import metric
+from stalls import done, held
 
 # One of each class of errors that PostgreSQL knows.
 CODES = """01000 02000 03000 08001 09000 0A000 0B000 0F000 0L000 0P000 0Z000 10608 20000 21000 22012 23505 24000 25006
@@ -109,10 +111,66 @@ def lock(it):
     print("faults: a job that met a lock again and again was done after it by its first attempt", flush=True)
 
 
+def refused(it, row, why):
+    """A statement that the tables refuse."""
+    try:
+        it.sql(row)
+    except AssertionError as error:
+        assert why in str(error), error
+    else:
+        raise AssertionError(f"{row} is accepted")
+
+
+def schedules(it):
+    """A bad schedule is refused when it is written; one that couldn't be refused keeps none of the others."""
+    empty(it)
+    for column, value in (("kind", "'a b'"), ("payload", "repeat('x', 1048577)"), ("zone", "'Nowhere'"), ("cron", "'@soon'")):
+        row = {"name": "'bad'", "cron": "'* * * * *'", column: value}
+        refused(it, f"INSERT INTO jobs_schedules ({', '.join(row)}) VALUES ({', '.join(row.values())})", "")
+    it.sql("ALTER TABLE jobs_schedules DROP CONSTRAINT jobs_schedules_fit")
+    port = free_port()
+    worker = it.spawn("worker", "--effect", EFFECT, "--metrics", f"127.0.0.1:{port}")
+    it.wait_for_owners(1)
+    it.sql(
+        "INSERT INTO jobs_schedules (name, cron, kind) VALUES ('bad', '0 0 1 1 *', 'a b'), ('good', '0 0 1 1 *', ''); "
+        "UPDATE jobs_schedules SET next = now() - interval '1 minute'"
+    )
+    wait_for(lambda: done(it) == 1 and metric(port, "jobs_schedules_overdue") == 1)
+    it.sql("DELETE FROM jobs_schedules")
+    other_hour = (time.gmtime().tm_hour + 12) % 24
+    it.sql(f"INSERT INTO jobs_schedules (name, cron) SELECT i, '0 {other_hour} * * *' FROM generate_series(1, 6000) i")
+    it.sql("UPDATE jobs_schedules SET next = now()")
+    begun = time.monotonic()
+    wait_for(lambda: done(it) == 6001)
+    took = time.monotonic() - begun
+    it.sql("DELETE FROM jobs_schedules")
+    end(worker)
+    print(f"faults: a bad schedule kept no other; 6,000 of one moment had their jobs done {took:.1f} s after it", flush=True)
+
+
+def times(it):
+    """Names of days and months, and both hours of autumn."""
+    for cron, zone, since, expected in [
+        ("*/20 * * * *", "Europe/Berlin", "2026-10-24 23:40Z", "2026-10-25 00:00Z"),
+        ("*/20 * * * *", "Europe/Berlin", "2026-10-25 00:40Z", "2026-10-25 01:00Z"),
+        ("* * * * *", "America/New_York", "2026-11-01 05:30Z", "2026-11-01 05:31Z"),
+        ("* * * * *", "America/New_York", "2026-11-01 05:59Z", "2026-11-01 06:00Z"),
+        ("30 2 * * *", "Europe/Berlin", "2026-10-24 12:00Z", "2026-10-25 01:30Z"),
+        ("@daily", "UTC", "2026-01-01 10:00Z", "2026-01-02 00:00Z"),
+        ("@Weekly", "UTC", "2026-01-01 10:00Z", "2026-01-04 00:00Z"),
+        ("0 9 * * MON-fri", "UTC", "2026-01-02 10:00Z", "2026-01-05 09:00Z"),
+        ("0 9 * * sat-SUN", "UTC", "2026-01-03 10:00Z", "2026-01-04 09:00Z"),
+        ("0 0 1 MAR,JUL *", "UTC", "2026-03-01 00:00Z", "2026-07-01 00:00Z"),
+    ]:
+        rows = it.sql(f"SELECT next = '{expected}', next FROM jobs_next('{cron}', '{zone}', '{since}') next")
+        assert rows[0][0] == "t", (cron, since, rows)
+    print("faults: schedules have names, and both hours of autumn", flush=True)
+
+
 def main():
     with cluster() as it:
         it.sql(ACT)
-        for case in (codes, lost_session, lock):
+        for case in (codes, lost_session, lock, schedules, times):
             case(it)
 
 

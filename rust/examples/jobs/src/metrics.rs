@@ -137,6 +137,7 @@ pub struct Metrics {
     pub lease_write_micros: Number,
     pub leases_unwritten: Number,
     pub clients: Number,
+    pub schedules_overdue: Number,
     pub lateness: Lateness,
 }
 
@@ -181,6 +182,11 @@ impl Metrics {
                 self.leases_unwritten.get() as f64,
             ),
             ("jobs_clients", "Holders that are connected.", self.clients.get() as f64),
+            (
+                "jobs_schedules_overdue",
+                "Schedules whose job should have been enqueued some seconds ago.",
+                self.schedules_overdue.get() as f64,
+            ),
         ];
         for (name, help, value) in gauges {
             writeln!(text, "# HELP {name} {help}\n# TYPE {name} gauge\n{name} {value}")?;
