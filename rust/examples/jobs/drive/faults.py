@@ -5,10 +5,8 @@ The faults of jobs are raised by an effect, those of schedules by rows that the 
 import contextlib
 import time
 
-from cluster import EFFECT, cluster, end, free_port, wait_for
-from hostile import empty
+from cluster import EFFECT, cluster, done, empty, end, free_port, held, wait_for
 from leases import metric
-from stalls import done, held
 
 # One of each class of errors that PostgreSQL knows.
 CODES = """01000 02000 03000 08001 09000 0A000 0B000 0F000 0L000 0P000 0Z000 10608 20000 21000 22012 23505 24000 25006

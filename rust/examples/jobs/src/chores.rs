@@ -10,7 +10,7 @@ use tokio_postgres::Row;
 
 /// How often schedules are looked at. Their jobs are enqueued some time before they are due.
 const SCHEDULES_EVERY: Duration = Duration::from_secs(1);
-/// How often done jobs are pruned, and the most of a statement.
+/// How often jobs that are over are pruned, and the most of a statement.
 const PRUNE_EVERY: Duration = Duration::from_secs(10);
 const PRUNE: i64 = 1_000;
 
@@ -41,7 +41,8 @@ const OVERDUE: &str = "SELECT count(*) FROM jobs_schedules WHERE next < now() - 
 
 const DELETE: &str = "
 DELETE FROM jobs WHERE id = ANY (ARRAY(
-    SELECT id FROM jobs WHERE state = 'done' AND ended < now() - $1::float8 * interval '1 second'
+    SELECT id FROM jobs
+    WHERE state IN ('done', 'dead') AND state = $3::text AND ended < now() - $1::float8 * interval '1 second'
     ORDER BY ended LIMIT $2::bigint FOR UPDATE SKIP LOCKED
 ))
 RETURNING id";
@@ -111,20 +112,20 @@ async fn enqueue_of(
 
 /// False where nothing is left to be pruned. At most so many statements that schedules aren't late.
 async fn prune(worker: &Worker) -> bool {
-    let keep = match worker.options.keep_done {
-        Some(keep) => keep.as_secs_f64(),
-        None => return false,
-    };
-    let begun = Instant::now();
-    while begun.elapsed() < SCHEDULES_EVERY {
-        match worker.links.query(DELETE, &[&keep, &PRUNE]).await {
-            Ok(rows) if rows.len() as i64 == PRUNE => {}
-            Ok(_) => return false,
-            Err(error) => {
-                tell(format_args!("done jobs aren't pruned: {error}"));
-                return false;
+    let (begun, options) = (Instant::now(), &worker.options);
+    for (state, keep) in [("done", options.keep_done), ("dead", Some(options.keep_dead))] {
+        let Some(keep) = keep.map(|it| it.as_secs_f64()) else { continue };
+        loop {
+            match worker.links.query(DELETE, &[&keep, &PRUNE, &state]).await {
+                Ok(rows) if (rows.len() as i64) < PRUNE => break,
+                Ok(_) if begun.elapsed() < SCHEDULES_EVERY => {}
+                Ok(_) => return true,
+                Err(error) => {
+                    tell(format_args!("{state} jobs aren't pruned: {error}"));
+                    break;
+                }
             }
         }
     }
-    true
+    false
 }

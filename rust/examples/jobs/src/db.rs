@@ -3,7 +3,6 @@
 
 use crate::fault::{Asked, Error, Whose};
 use crate::metrics::Metrics;
-use crate::tls::{Stream, Tls};
 use std::collections::HashMap;
 use std::future::{poll_fn, Future};
 use std::sync::atomic::{AtomicBool, AtomicUsize, Ordering::SeqCst};
@@ -13,8 +12,9 @@ use tokio::sync::mpsc::{unbounded_channel, UnboundedReceiver, UnboundedSender};
 use tokio::task::JoinHandle;
 use tokio::time::timeout;
 use tokio_postgres::error::SqlState;
+use tokio_postgres::tls::NoTlsStream;
 use tokio_postgres::types::ToSql;
-use tokio_postgres::{AsyncMessage, Client, Config, Connection, Row, SimpleQueryMessage, Socket, Statement};
+use tokio_postgres::{AsyncMessage, Client, Config, Connection, NoTls, Row, SimpleQueryMessage, Socket, Statement};
 
 pub type Param<'p> = &'p (dyn ToSql + Sync);
 
@@ -29,7 +29,6 @@ const UNACKNOWLEDGED: Duration = Duration::from_secs(5);
 #[derive(Clone)]
 pub struct Database {
     pub config: Config,
-    pub tls: Tls,
     /// The schema of the tables, where it isn't the first of the role's search path.
     pub schema: Option<String>,
     /// How long it works at a statement before it gives it up.
@@ -56,7 +55,7 @@ impl Database {
         let path = match &self.schema {
             None => String::new(),
             Some(schema) => format!(
-                "SELECT set_config('search_path', concat_ws(',', '{schema}', \
+                "SELECT set_config('search_path', concat_ws(',', '\"{schema}\"', \
                  nullif(current_setting('search_path'), '')), false);"
             ),
         };
@@ -83,7 +82,7 @@ pub async fn meet(database: &Database) -> Result<[(String, String); 2], Error> {
 }
 
 async fn greet(database: &Database) -> Result<(Client, (String, String)), Error> {
-    let (client, connection) = database.config.connect(database.tls.clone()).await?;
+    let (client, connection) = database.config.connect(NoTls).await?;
     tokio::spawn(connection);
     let said = client.simple_query("SELECT version(), pg_backend_pid()").await?;
     let text = |column| match said.first() {
@@ -113,7 +112,7 @@ impl Session {
     ) -> Result<Session, Error> {
         let limit = database.time_to_open();
         let open = async {
-            let (client, connection) = database.config.connect(database.tls.clone()).await?;
+            let (client, connection) = database.config.connect(NoTls).await?;
             let session = Session {
                 client,
                 driver: tokio::spawn(drive(connection, told)),
@@ -196,7 +195,7 @@ impl Session {
     }
 }
 
-async fn drive(mut connection: Connection<Socket, Stream>, told: UnboundedSender<String>) {
+async fn drive(mut connection: Connection<Socket, NoTlsStream>, told: UnboundedSender<String>) {
     while let Some(Ok(message)) = poll_fn(|context| connection.poll_message(context)).await {
         if let AsyncMessage::Notification(notification) = message {
             // Nobody listens where the session is about to be closed.

@@ -59,7 +59,9 @@ pub async fn run(worker: Arc<Worker>, statement: Arc<str>, mut jobs: UnboundedRe
         }
         left.sort_by_key(|it: &Waiting| (Reverse(it.priority), it.due));
         let rest = left.split_off(left.len().min(BATCH));
-        let batch = std::mem::replace(&mut left, rest).into_iter().map(|it| it.id).collect();
+        // What was paused meanwhile is none of them.
+        let is_held = |it: &Waiting| worker.partitions.may_be_given(it.id, &it.kind);
+        let batch = std::mem::replace(&mut left, rest).into_iter().filter(is_held).map(|it| it.id).collect();
         tokio::spawn(batch_of(worker.clone(), statement.clone(), batch, permit));
     }
     // All permits are back once no statement is under way.
@@ -87,8 +89,8 @@ async fn batch_of(worker: Arc<Worker>, statement: Arc<str>, mut ids: Vec<i64>, _
 type Answer = Result<Vec<Row>, (Whose, Error)>;
 
 async fn ask(worker: &Worker, statement: &str, ids: &Vec<i64>) -> Option<Answer> {
-    let terms = worker.partitions.terms();
-    worker.links.insist_on_rows(statement, &[&worker.number, &terms, ids], Asked::Jobs).await
+    let (terms, bounded) = (worker.partitions.terms(), worker.ready.bounded());
+    worker.links.insist_on_rows(statement, &[&worker.number, &terms, ids, &bounded], Asked::Jobs).await
 }
 
 /// Tells how many jobs are done.
@@ -124,7 +126,7 @@ fn note(worker: &Worker, rows: &[Row], asked: usize) {
 pub fn note_lateness(worker: &Worker, started: SystemTime, due: SystemTime, attempt: i32) {
     if attempt == 1 {
         let late = started.duration_since(due).unwrap_or_default();
-        worker.metrics.lateness.note(late.as_micros() as u64, worker.clock.uptime().as_secs());
+        worker.metrics.lateness.note(late.as_micros() as u64);
     }
 }
 

@@ -14,6 +14,8 @@ pub enum Error {
     Database(tokio_postgres::Error),
     /// The database was silent for so long. Whether the statement was run isn't known.
     Silent(Duration),
+    /// A worker of the other sort lives, of this name and at this address.
+    Unlike(String),
 }
 
 /// Whose an error is.
@@ -54,6 +56,10 @@ impl fmt::Display for Error {
     fn fmt(&self, f: &mut fmt::Formatter<'_>) -> fmt::Result {
         match self {
             Error::Silent(limit) => write!(f, "the database didn't answer within {limit:?}"),
+            Error::Unlike(other) => write!(
+                f,
+                "{other} works at this table: workers that serve holders and workers that have an effect never do so together"
+            ),
             Error::Database(error) => match (error.as_db_error(), std::error::Error::source(error)) {
                 (Some(db), _) => {
                     let why = if POOLED.contains(db.code()) { POOLER } else { "" };
@@ -72,13 +78,16 @@ impl Error {
     pub fn code(&self) -> Option<&SqlState> {
         match self {
             Error::Database(error) => error.code(),
-            Error::Silent(_) => None,
+            Error::Silent(_) | Error::Unlike(_) => None,
         }
     }
 
     /// Whose it is. What a row raises may look like the connection's: it is the row's once it has come again and again.
     pub fn whose(&self, asked: Asked) -> Whose {
-        whose(self.code(), asked)
+        match self {
+            Error::Unlike(_) => Whose::Statement,
+            _ => whose(self.code(), asked),
+        }
     }
 
     /// Whether a limit of time or of resources ended it: with less it may be right.

@@ -53,7 +53,7 @@ pub async fn run(SetupOptions { mut database, partitions }: SetupOptions) -> Res
     if let Some(schema) = &database.schema {
         let stands: bool = session.query("SELECT to_regnamespace($1) IS NOT NULL", &[schema]).await?[0].get(0);
         if !stands {
-            insist(&session, &format!("CREATE SCHEMA {schema}")).await?;
+            insist(&session, &format!("CREATE SCHEMA \"{schema}\"")).await?;
         }
     }
     // Two that set up at a time: one waits, without a snapshot that an index would wait for in turn.

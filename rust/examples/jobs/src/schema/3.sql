@@ -91,3 +91,107 @@ BEGIN
     RETURN NEW;
 END
 $$;
+
+-- STEP: an index whose making was broken off is made again.
+DO $$ BEGIN
+    IF EXISTS (SELECT FROM pg_index WHERE indexrelid = to_regclass('jobs_running_kind') AND NOT indisvalid) THEN
+        DROP INDEX jobs_running_kind;
+    END IF;
+END $$;
+
+-- STEP: how many jobs of a kind run.
+CREATE INDEX CONCURRENTLY IF NOT EXISTS jobs_running_kind ON jobs (kind) WHERE state = 'running';
+
+-- STEP: a kind may be paused, and so many of its jobs run at a time at most.
+ALTER TABLE jobs_kinds ADD COLUMN IF NOT EXISTS paused boolean NOT NULL DEFAULT false;
+ALTER TABLE jobs_kinds ADD COLUMN IF NOT EXISTS at_most integer CHECK (at_most > 0);
+ALTER TABLE jobs_kinds ALTER COLUMN most_delay SET DEFAULT 31536000;
+
+-- STEP: whoever changes a kind has the workers read the table.
+CREATE OR REPLACE FUNCTION jobs_tell_kinds() RETURNS trigger LANGUAGE plpgsql SET search_path FROM CURRENT AS $$
+BEGIN
+    PERFORM pg_notify('jobs_' || 'jobs'::regclass::oid, '*');
+    RETURN NULL;
+END
+$$;
+CREATE OR REPLACE TRIGGER jobs_tell_kinds AFTER INSERT OR UPDATE OR DELETE ON jobs_kinds
+FOR EACH STATEMENT EXECUTE FUNCTION jobs_tell_kinds();
+
+-- STEP: how many more jobs of a kind may run. Whoever asks has its row until the end of the transaction; nobody waits.
+CREATE OR REPLACE FUNCTION jobs_room(named text) RETURNS bigint LANGUAGE plpgsql SET search_path FROM CURRENT AS $$
+DECLARE
+    most bigint;
+BEGIN
+    SELECT at_most INTO most FROM jobs_kinds WHERE kind = named FOR NO KEY UPDATE SKIP LOCKED;
+    IF NOT FOUND THEN
+        RETURN 0;
+    END IF;
+    RETURN most - (SELECT count(*) FROM jobs WHERE state = 'running' AND kind = named);
+END
+$$;
+
+-- STEP: how long a job waits for its next attempt: the fourth power of the attempt, times the first delay of its kind.
+CREATE OR REPLACE FUNCTION jobs_delay(attempt integer, kind text) RETURNS interval STABLE
+BEGIN ATOMIC
+    SELECT interval '1 second' * coalesce(
+        (SELECT least(power(least(attempt, 1000), 4) * least(k.first_delay, 31536000), k.most_delay)
+            FROM jobs_kinds k WHERE k.kind = jobs_delay.kind),
+        least(power(least(attempt, 1000), 4), 31536000)
+    );
+END;
+
+-- STEP: a job that waits or runs is dead at once. Its holder is told at its next word.
+CREATE OR REPLACE FUNCTION jobs_cancel(job bigint) RETURNS boolean LANGUAGE plpgsql SET search_path FROM CURRENT AS $$
+BEGIN
+    UPDATE jobs SET state = 'dead', error = 'cancelled', lease_until = NULL, ended = clock_timestamp()
+    WHERE id = job AND state IN ('waiting', 'running');
+    IF FOUND THEN
+        PERFORM pg_notify('jobs_' || 'jobs'::regclass::oid, 'cancelled ' || job);
+        RETURN true;
+    END IF;
+    RETURN false;
+END
+$$;
+
+-- STEP: as before; what doesn't fit into a notification is read in the table.
+CREATE OR REPLACE FUNCTION jobs_tell() RETURNS trigger LANGUAGE plpgsql AS $$
+DECLARE
+    near integer;
+    told text;
+BEGIN
+    SELECT count(*), string_agg(concat_ws(' ', id, (extract(epoch FROM due) * 1000000)::bigint, priority, kind), ',')
+    INTO near, told
+    FROM (
+        SELECT id, due, priority, kind FROM enqueued
+        WHERE state = 'waiting' AND due < clock_timestamp() + interval '600 milliseconds'
+        LIMIT 101
+    ) soon;
+    IF near > 100 OR octet_length(told) > 7999 THEN
+        told := '*';
+    END IF;
+    IF near > 0 THEN
+        PERFORM pg_notify('jobs_' || TG_RELID, told);
+    END IF;
+    RETURN NULL;
+END
+$$;
+
+-- STEP: a worker comes, or comes back after it was silent. It is told of one of the other sort that lives, since a holder
+-- would have jobs beside the effect of the same jobs. One comes after another, and a renewal takes two seconds at most.
+CREATE OR REPLACE FUNCTION jobs_enter(number bigint, its_name text, its_address text, seconds double precision)
+RETURNS text LANGUAGE plpgsql SET search_path FROM CURRENT AS $$
+DECLARE
+    other text;
+BEGIN
+    PERFORM pg_advisory_xact_lock('jobs_workers'::regclass::oid::bigint);
+    SELECT name || ' at ' || address INTO other FROM jobs_workers
+    WHERE until > clock_timestamp() - interval '2 seconds' AND worker <> number AND (address = '-') <> (its_address = '-');
+    IF FOUND THEN
+        RETURN other;
+    END IF;
+    INSERT INTO jobs_workers (worker, name, address, pid, ready, until) VALUES
+        (number, its_name, its_address, pg_backend_pid(), '{}', clock_timestamp() + seconds * interval '1 second')
+    ON CONFLICT (worker) DO UPDATE SET pid = EXCLUDED.pid, until = EXCLUDED.until;
+    RETURN NULL;
+END
+$$;
