@@ -1,5 +1,7 @@
 """Three workers that are killed, stopped and cut off at drawn moments, each behind a link of its own, and the database.
 
+    chaos.py [--quick] [SEED..]
+
 Effects are had once. What a holder was told of a lease holds, and one attempt of a job alone is done.
 """
 import contextlib
@@ -10,28 +12,28 @@ import sys
 import threading
 import time
 
-from cluster import EFFECT, HANG, cluster, end, free_port
+from cluster import EFFECT, HANG, cluster, end, exactly_once, free_port
 from holder import GONE, Connection, Refusal
-from hostile import exactly_once
-from stalls import Apart, Wire
+from links import Apart, Wire
 
 SECONDS = 25
 
 
 class Host:
-    """A worker behind a link, which is started again when it was killed."""
+    """A worker behind a link, which is started again when it was killed. Only root has it in a network of its own."""
 
     def __init__(self, it, stack, number, words):
         self.it = it
-        self.apart = stack.enter_context(Apart(number))
-        self.wire = Wire(it.port, self.apart.host)
-        self.address = f"{self.apart.guest}:{free_port()}"
+        self.apart = stack.enter_context(Apart(number)) if os.geteuid() == 0 else None
+        self.wire = Wire(it.port, self.apart.host if self.apart else "127.0.0.1")
+        self.address = f"{self.apart.guest if self.apart else '127.0.0.1'}:{free_port()}"
         listen = [] if "--effect" in words else ["--listen", self.address]
         self.words = ["worker", "--name", f"w{number}", "--attempts", "100", *listen, *words]
         self.start()
 
     def start(self):
-        self.process = self.it.spawn(*self.words, url=self.wire.url(self.it.url), within=self.apart.within)
+        within = self.apart.within if self.apart else ()
+        self.process = self.it.spawn(*self.words, url=self.wire.url(self.it.url), within=within)
 
     def kill(self, _seconds):
         self.process.kill()
@@ -56,7 +58,7 @@ class Host:
     def suffer(self, draws, until, happened):
         while time.monotonic() < until:
             time.sleep(draws.uniform(0.5, 4))
-            what = draws.choice([self.kill, self.stop, self.cut, self.cut_database])
+            what = draws.choice([self.kill, self.stop, self.cut_database, *([self.cut] if self.apart else [])])
             happened.append(what.__name__)
             what(draws.uniform(0.5, 8))
 
@@ -93,18 +95,16 @@ class Holding(threading.Thread):
             address = self.draws.choice(self.addresses)
             with contextlib.suppress(*GONE):
                 connection = Connection(address, timeout=3)
-                sent = time.time()
                 jobs = connection.call("JOBS.TAKE", 5, "WAIT", 300)
                 if isinstance(jobs, list):
-                    for id, attempt, left, _ in jobs:
-                        self.told[id, attempt] = sent + left / 1000
+                    for id, attempt, until, _ in jobs:
+                        self.told[id, attempt] = until / 1000
                     self.hold(address, [(id, attempt) for id, attempt, *_ in jobs])
                 connection.close()
 
     def say(self, address, word, attempt):
-        """The answer of whoever owns the job, and when it was asked."""
+        """The answer of whoever owns the job."""
         for _ in range(20):
-            sent = time.time()
             try:
                 connection = Connection(address, timeout=3)
                 reply = connection.call(word, *attempt)
@@ -112,23 +112,23 @@ class Holding(threading.Thread):
             except GONE:
                 address, reply = self.draws.choice(self.addresses), Refusal("TRYAGAIN")
             if not isinstance(reply, Refusal) or reply.startswith("FENCED"):
-                return reply, sent
+                return reply
             if reply.startswith("MOVED"):
                 address = reply.split()[2]
             time.sleep(0.2)
-        return Refusal("TRYAGAIN"), sent
+        return Refusal("TRYAGAIN")
 
     def hold(self, address, attempts):
         for _ in range(self.draws.randrange(4)):
             time.sleep(0.3)
             for attempt in attempts:
-                left, sent = self.say(address, "JOBS.BEAT", attempt)
-                if not isinstance(left, Refusal):
-                    self.told[attempt] = max(self.told[attempt], sent + left / 1000)
+                until = self.say(address, "JOBS.BEAT", attempt)
+                if not isinstance(until, Refusal):
+                    self.told[attempt] = max(self.told[attempt], until / 1000)
         for attempt in attempts:
             what = self.draws.random()
             if what < 0.8:
-                if self.say(address, "JOBS.DONE", attempt)[0] == "OK":
+                if self.say(address, "JOBS.DONE", attempt) == "OK":
                     self.done.append(attempt)
             elif what < 0.9:
                 # Its answer may be lost.
@@ -174,7 +174,7 @@ def holders(it, hosts, seed):
     early = [
         (attempt, until - given[attempt[0], attempt[1] + 1])
         for attempt, until in told.items()
-        if given.get((attempt[0], attempt[1] + 1), until) < until - 0.01
+        if given.get((attempt[0], attempt[1] + 1), until) < until
     ]
     assert not early, f"{len(early)} jobs were given again before what holders were told: {early[:5]}"
     done = [attempt for it in holding for attempt in it.done]
@@ -188,11 +188,8 @@ def holders(it, hosts, seed):
     )
 
 
-def main(quick):
-    if os.geteuid() != 0:
-        print("chaos isn't run, since only root makes network namespaces", flush=True)
-        return
-    for seed in range(1, 2 if quick else 6):
+def main(seeds):
+    for seed in seeds:
         for case, words in [
             (effects, ["--effect", EFFECT]),
             (holders, ["--lease", "6000", "--write-every", "1000"]),
@@ -205,4 +202,5 @@ def main(quick):
 
 
 if __name__ == "__main__":
-    main(quick="--quick" in sys.argv)
+    given = [it for it in sys.argv[1:] if it != "--quick"]
+    main(given or range(1, 2 if "--quick" in sys.argv else 6))

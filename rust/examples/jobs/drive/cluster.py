@@ -19,6 +19,8 @@ JOBS = str(HERE / "target/release/jobs")
 EFFECT = "INSERT INTO effects (job) SELECT id FROM taken"
 # More seconds than any machine needs for what is waited for: only a hang meets it.
 HANG = 600
+# A lease of so many milliseconds ends in no test, nor does a wait.
+LONG, WAIT = str(1000 * HANG), "60000"
 # A busy machine may let leases end again and again: the jobs stay alive.
 MANY = ["--attempts", "1000"]
 
@@ -199,3 +201,47 @@ def cluster(settings=(), env=None):
         raise
     finally:
         it.close()
+
+
+@contextlib.contextmanager
+def held(it, *statements):
+    """A session in whose open transaction these statements were run."""
+    process = subprocess.Popen(
+        ["psql", "-X", "-q", "-At", it.url], stdin=subprocess.PIPE, stdout=subprocess.PIPE, text=True
+    )
+    process.stdin.write("BEGIN;\n" + "".join(f"{text};\n" for text in statements) + "\\echo locked\n")
+    process.stdin.flush()
+    while "locked" not in process.stdout.readline():
+        assert process.poll() is None, statements
+    try:
+        yield
+    finally:
+        process.stdin.close()
+        process.wait(HANG)
+
+
+def empty(it):
+    it.sql("TRUNCATE jobs; TRUNCATE effects")
+
+
+def exactly_once(it, count):
+    it.wait_for_number("SELECT count(*) FROM jobs WHERE state = 'done'", count)
+    rows = it.sql(
+        "SELECT count(*), count(DISTINCT job), (SELECT count(*) FROM effects e JOIN jobs j ON j.id = e.job WHERE "
+        "e.at < j.due) "
+        "FROM effects"
+    )
+    assert rows == [[str(count), str(count), "0"]], f"effects, of jobs, early: {rows}"
+
+
+def lateness(it):
+    """The 50th and 99th percentile and the worst, in milliseconds."""
+    return it.sql(
+        "SELECT percentile_disc(ARRAY[0.5, 0.99, 1]) WITHIN GROUP (ORDER BY round(1000 * extract(epoch FROM "
+        "started - due), 1)) "
+        "FROM jobs WHERE attempt = 1"
+    )[0][0]
+
+
+def done(it, where="true"):
+    return it.number(f"SELECT count(*) FROM jobs WHERE state = 'done' AND {where}")

@@ -51,12 +51,12 @@ class Connection:
 
 
 class Job:
-    def __init__(self, id, attempt, left, address, sent):
+    def __init__(self, id, attempt, until, address, sent):
         self.id, self.attempt, self.address = id, attempt, address
         # By this machine's clock, which is the database's here: when its last accepted word was sent, a whole lease after
-        # which the lease ends and no sooner, when its answer came, and until when it was surely told then.
+        # which the lease ends and no sooner, when its answer came, and until when the table had it then.
         self.sent, self.said = sent, time.time()
-        self.until = sent + left / 1000
+        self.until = until / 1000
         # When it was heard that another has the job.
         self.refused = None
         # The longest time between two accepted words.
@@ -93,19 +93,19 @@ class Holder:
                     self.leave(address)
                     continue
                 if isinstance(jobs, list) and len(got) < count:
-                    for id, attempt, left, _payload in jobs:
-                        self.jobs[id] = Job(id, attempt, left, address, sent)
+                    for id, attempt, until, _payload in jobs:
+                        self.jobs[id] = Job(id, attempt, until, address, sent)
                         got.append(self.jobs[id])
         return got
 
     def beat(self, jobs):
         """One beat of each, at the worker that is known to own it."""
-        self.say(jobs, "JOBS.BEAT", lambda job, left: self.noted(job, left))
+        self.say(jobs, "JOBS.BEAT", self.noted)
 
-    def noted(self, job, left):
+    def noted(self, job, until):
         now = time.time()
         job.gap = max(job.gap, now - job.said)
-        job.said, job.until = now, job.sent + left / 1000
+        job.said, job.until = now, until / 1000
 
     def say(self, jobs, word, accepted):
         by_address = {}

@@ -166,21 +166,17 @@ def death(it, workers, holder, beating, moment):
     owners = workers.owners()
     victim = owners[beating[0].id % 64]
     theirs = [job for job in beating if owners[job.id % 64] == victim]
-    killed = it.number("SELECT extract(epoch FROM clock_timestamp())")
     workers.look()
     workers.running[victim].kill()
     workers.running[victim].wait()
     table = epoch(it, UNTIL, theirs)
     written = epoch(it, "extract(epoch FROM pg_xact_commit_timestamp(xmin))", theirs)
     early = max(job.until - table[job.id] for job in theirs)
-    # The oldest write, by the database's clock: what it is older than the interval, the machine has waited.
-    age = max(killed - written[job.id] for job in theirs)
-    told = INTERVAL + max(0.0, age - INTERVAL) + workers.write_took
     stale = max(written[job.id] - (table[job.id] - LEASE) for job in theirs)
     assert stale <= BEAT + workers.write_took + max(
         job.gap for job in theirs
     ), f"a write was {stale:.3f} s old when it was written"
-    assert early <= told + BEAT, f"a lease would end {early:.3f} s early, and {told:.3f} s were told"
+    assert early <= 0, f"a holder was told {early:.3f} s more than the table has"
     holder.beat_for(beating, LEASE + 2 * INTERVAL, BEAT)
     lost = [job for job in beating if job.refused]
     # A word that came when the lease in the table was over comes too late, which is the machine's doing.
@@ -189,9 +185,8 @@ def death(it, workers, holder, beating, moment):
     kept = it.number("SELECT count(*) FROM jobs WHERE state = 'running'")
     assert kept + len(lost) >= len(beating), f"{kept} of {len(beating)} are still held, {len(lost)} came too late"
     print(
-        f"leases: a worker with {len(theirs)} leases was killed; the table's were {early:.2f} s shorter than the "
-        "holders' at most, "
-        f"of {told:.2f} s told; {len(lost)} holders came too late, the other {kept:.0f} go on",
+        f"leases: a worker with {len(theirs)} leases was killed; none of its holders was told more than the table has, "
+        f"{len(lost)} came too late, and the other {kept:.0f} go on",
         flush=True,
     )
     workers.running[victim] = workers.spawn(victim)

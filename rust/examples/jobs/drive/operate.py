@@ -6,15 +6,12 @@ import shutil
 import subprocess
 import sys
 import time
-import urllib.error
 import urllib.parse
 import urllib.request
 
-from cluster import EFFECT, HANG, HERE, JOBS, cluster, end, free_port, run, wait_for
+from cluster import EFFECT, HANG, HERE, LONG, cluster, end, exactly_once, free_port, held, run, wait_for
 from holder import Connection
-from hostile import LONG, exactly_once
 from leases import metric
-from stalls import held
 
 
 def refusals(it):
@@ -29,13 +26,15 @@ def refusals(it):
         (["status", "--database", dead], 1, "refused"),
         (["enqueue", "5", "--database", dead], 1, "refused"),
         (["setup", "--database", it.url.replace("/postgres", "/nowhere")], 1, "nowhere"),
+        (["status", "--database", f"{it.url}?sslmode=require"], 2, "goes through a proxy"),
+        (["status", "--database", f"{it.url}?sslmode=verify-full"], 2, "sslmode is disable or prefer"),
     ]:
         done = run(*words, env={"PATH": os.environ["PATH"]})
         assert done.returncode == code and said in done.stderr and done.stderr.startswith("jobs: "), (words, done)
         assert "panicked" not in done.stderr and "secret" not in done.stderr, done.stderr
     done = run("--help")
     assert done.returncode == 0 and all(it in done.stdout for it in ("setup", "worker", "enqueue", "status")), done
-    print("operator: 9 wrong lines are refused by name, and --help tells the verbs", flush=True)
+    print("operator: 11 wrong lines are refused by name, and --help tells the verbs", flush=True)
 
 
 def prometheus(it, ports):
@@ -255,50 +254,6 @@ def many_done(it, rows):
     )
 
 
-def page(it):
-    """A browser sees the page and presses a button; another page, or another name of this machine, can't."""
-    it.sql("TRUNCATE jobs, effects")
-    port = free_port()
-    worker = it.spawn("worker", "--effect", EFFECT, "--attempts", "1", "--http", f"127.0.0.1:{port}")
-    it.wait_for_owners(1)
-    it.jobs("enqueue", "2000", "--spread", "2000")
-    it.wait_for_number("SELECT count(*) FROM effects", 2000)
-    it.sql("UPDATE jobs SET state = 'dead', error = '<script>1</script>' WHERE id % 400 = 0")
-
-    def ask(path="/", data=None, host=f"127.0.0.1:{port}"):
-        request = urllib.request.Request(f"http://127.0.0.1:{port}{path}", data=data, headers={"Host": host})
-        try:
-            with urllib.request.urlopen(request, timeout=HANG) as answer:
-                return answer.status, answer.read().decode()
-        except urllib.error.HTTPError as error:
-            return error.code, ""
-
-    status, text = ask()
-    assert status == 200 and "64: 0-63" in text and "<path fill=none" in text and text.count("<form") == 5, text
-    assert "<script>" not in text and "&lt;script&gt;" in text
-    token = re.search(r"name=token value=(\w+)", text)[1]
-    id = re.search(r"name=id value=(\d+)", text)[1]
-    for path, data, host, expected in [
-        ("/", None, f"evil.example:{port}", 404),
-        ("/retry", f"id={id}&token={token}", f"evil.example:{port}", 404),
-        ("/retry", f"id={id}", f"127.0.0.1:{port}", 403),
-        ("/retry", f"id={id}&token={'0' * 32}", f"127.0.0.1:{port}", 403),
-        ("/retry", f"id=x&token={token}", f"127.0.0.1:{port}", 403),
-    ]:
-        assert ask(path, data and data.encode(), host)[0] == expected, (path, data, host)
-    assert it.number("SELECT count(*) FROM jobs WHERE state = 'dead'") == 5
-    status, text = ask("/retry", f"token={token}&id={id}".encode())
-    assert status == 200 and text.count("<form") == 4, (status, text)
-    again = f"SELECT count(*) FROM jobs WHERE state = 'done' AND attempt = 2 AND id = {id}"
-    it.wait_for_number(again, 1)
-    assert ask("/metrics")[0] == 200
-    end(worker)
-    print(
-        "operator: the page shows workers, lateness and dead jobs, and its button can't be pressed from elsewhere",
-        flush=True,
-    )
-
-
 def main(quick):
     with cluster() as it:
         refusals(it)
@@ -307,7 +262,6 @@ def main(quick):
         kinds(it)
         unique(it)
         schedules(it)
-        page(it)
         it.sql("TRUNCATE effects, jobs")
         assert "stands" in it.jobs("setup"), "a second setup changes nothing"
         ports = [free_port() for _ in range(3)]

@@ -1,68 +1,14 @@
-"""The ways to the database and to a worker: TLS and its certificates, a standby that is promoted, passwords, a pooler,
-and many workers over many partitions."""
+"""The ways to the database and to a worker: passwords, a pooler, many workers over many partitions, and a standby that is
+promoted."""
 import contextlib
 import os
 import shutil
 import subprocess
 import time
 
-from cluster import EFFECT, HANG, JOBS, Cluster, cluster, end, free_port, program, run, wait_for
+from cluster import EFFECT, HANG, WAIT, Cluster, cluster, empty, end, exactly_once, free_port, program, run, wait_for
 from holder import Connection, Holder, Refusal
-from hostile import WAIT, empty, exactly_once
-from measure import Cost
-
-
-def certificate(room, name, host):
-    """A key and a certificate that it has signed itself."""
-    key, text = room / f"{name}.key", room / f"{name}.crt"
-    command = ["openssl", "req", "-x509", "-newkey", "rsa:2048", "-nodes", "-keyout", key, "-out", text, "-days", "2"]
-    command += ["-subj", f"/CN={host}", "-addext", f"subjectAltName=DNS:{host}"]
-    subprocess.run(command, check=True, capture_output=True)
-    return key, text
-
-
-def tls(it):
-    """The database speaks TLS alone: each sslmode does as libpq's."""
-    key, trusted = certificate(it.room, "server", "localhost")
-    _, other = certificate(it.room, "other", "localhost")
-    for source, target in [(key, "server.key"), (trusted, "server.crt")]:
-        shutil.copy(source, it.data / target)
-        os.chmod(it.data / target, 0o600)
-        if it.user:
-            shutil.chown(it.data / target, "postgres", "postgres")
-    rules = (it.data / "pg_hba.conf").read_text()
-    (it.data / "pg_hba.conf").write_text("hostssl all all 127.0.0.1/32 trust\n")
-    it.sql("ALTER SYSTEM SET ssl = on")
-    it.sql("SELECT pg_reload_conf()")
-    here = f"127.0.0.1:{it.port}/postgres"
-    # It reads its settings again some time later.
-    wait_for(lambda: run("status", url=f"postgres://jobs@{here}?sslmode=require").returncode == 0)
-    for words, said in [
-        (f"{here}?sslmode=disable", "no encryption"),
-        (f"{here}?sslmode=prefer", None),
-        (f"{here}?sslmode=require", None),
-        (f"{here}?sslmode=require&sslrootcert={other}", "certificate verify failed"),
-        (f"{here}?sslmode=verify-ca&sslrootcert={trusted}", None),
-        (f"{here}?sslmode=verify-ca&sslrootcert={other}", "certificate verify failed"),
-        (f"{here}?sslmode=verify-full&sslrootcert={trusted}", "certificate verify failed"),
-        (f"localhost:{it.port}/postgres?sslmode=verify-full&sslrootcert={trusted}", None),
-        (f"{here}?sslmode=verify-full&sslrootcert={it.room}/none", "none"),
-        (f"{here}?sslmode=allow", "sslmode isn't"),
-    ]:
-        url = f"postgres://jobs@{words}"
-        done = run("status", url=url)
-        assert bool(done.returncode) == bool(said) and (said or "") in done.stderr, (words, done)
-    empty(it)
-    worker = it.spawn(
-        *["worker", "--effect", EFFECT],
-        url=f"postgres://jobs@localhost:{it.port}/postgres?sslmode=verify-full&sslrootcert={trusted}",
-    )
-    it.wait_for_owners(1)
-    it.jobs("enqueue", "1000", "--spread", "1000")
-    exactly_once(it, 1000)
-    end(worker)
-    (it.data / "pg_hba.conf").write_text(rules)
-    print("ways: 10 forms of sslmode did as libpq's, and 1,000 jobs were done over TLS", flush=True)
+from rates import Cost
 
 
 def password(it):
@@ -257,7 +203,6 @@ def main():
         password(it)
         secret(it)
         pooler(it)
-        tls(it)
     with cluster(["max_connections=150"]) as it:
         many(it)
     with cluster(["wal_level=replica", "max_wal_senders=4"]) as it:

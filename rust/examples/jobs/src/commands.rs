@@ -29,6 +29,8 @@ pub enum Command {
     Done(Attempt),
     Fail(Attempt, String),
     Ping,
+    /// The database's clock.
+    Time,
     /// What clients ask of a server of the protocol before they begin.
     Commands,
     /// A password, with which a holder begins where the worker wants one.
@@ -51,6 +53,7 @@ impl Command {
             b"JOBS.DONE" => attempt(args, 2).map(Command::Done),
             b"JOBS.FAIL" => attempt(args, 3).map(|it| Command::Fail(it, reason(args.get(2)))),
             b"PING" => Some(Command::Ping),
+            b"TIME" => Some(Command::Time),
             b"COMMAND" => Some(Command::Commands),
             // Clients may name a user before it, as Redis has them.
             b"AUTH" if (1..=2).contains(&args.len()) => args.last().cloned().map(Command::Auth),

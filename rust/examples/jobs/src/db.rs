@@ -1,20 +1,20 @@
 //! Sessions with the database: each statement has a limit of time, after which its session is given up; they are opened
 //! again after an error, by a growing delay, and told of.
 
+use crate::fault::{Asked, Error, Whose};
 use crate::metrics::Metrics;
-use crate::tls::{Stream, Tls};
 use std::collections::HashMap;
-use std::fmt;
 use std::future::{poll_fn, Future};
 use std::sync::atomic::{AtomicBool, AtomicUsize, Ordering::SeqCst};
-use std::sync::{Arc, Mutex, PoisonError};
+use std::sync::{Arc, Mutex, MutexGuard, PoisonError};
 use std::time::Duration;
 use tokio::sync::mpsc::{unbounded_channel, UnboundedReceiver, UnboundedSender};
 use tokio::task::JoinHandle;
 use tokio::time::timeout;
 use tokio_postgres::error::SqlState;
+use tokio_postgres::tls::NoTlsStream;
 use tokio_postgres::types::ToSql;
-use tokio_postgres::{AsyncMessage, Client, Config, Connection, Row, SimpleQueryMessage, Socket, Statement};
+use tokio_postgres::{AsyncMessage, Client, Config, Connection, NoTls, Row, SimpleQueryMessage, Socket, Statement};
 
 pub type Param<'p> = &'p (dyn ToSql + Sync);
 
@@ -25,82 +25,10 @@ const SLACK: Duration = Duration::from_secs(1);
 /// How long the database leaves what it sends unacknowledged before it ends a session, and with it what it has locked.
 const UNACKNOWLEDGED: Duration = Duration::from_secs(5);
 
-/// What a statement meets that another session has prepared, or has not.
-const POOLED: [SqlState; 2] = [SqlState::DUPLICATE_PSTATEMENT, SqlState::INVALID_SQL_STATEMENT_NAME];
-const POOLER: &str = ": a pooler in transaction mode stands between, and jobs wants one in session mode";
-
-/// Why a statement has no answer.
-#[derive(Debug)]
-pub enum Error {
-    /// The database refused it, or couldn't be reached.
-    Database(tokio_postgres::Error),
-    /// The database was silent for so long. Whether the statement was run isn't known.
-    Silent(Duration),
-}
-
-impl From<tokio_postgres::Error> for Error {
-    fn from(error: tokio_postgres::Error) -> Error {
-        Error::Database(error)
-    }
-}
-
-impl fmt::Display for Error {
-    fn fmt(&self, f: &mut fmt::Formatter<'_>) -> fmt::Result {
-        match self {
-            Error::Silent(limit) => write!(f, "the database didn't answer within {limit:?}"),
-            Error::Database(error) => match (error.as_db_error(), std::error::Error::source(error)) {
-                (Some(db), _) => {
-                    let why = if POOLED.contains(db.code()) { POOLER } else { "" };
-                    write!(f, "{} ({}){why}", db.message(), db.code().code())
-                }
-                (None, Some(source)) => write!(f, "{error}: {source}"),
-                (None, None) => write!(f, "{error}"),
-            },
-        }
-    }
-}
-
-impl std::error::Error for Error {}
-
-impl Error {
-    pub fn code(&self) -> Option<&SqlState> {
-        match self {
-            Error::Database(error) => error.code(),
-            Error::Silent(_) => None,
-        }
-    }
-
-    fn is_of(&self, classes: &[&str]) -> bool {
-        self.code().map_or(false, |it| classes.contains(&&it.code()[..2]))
-    }
-
-    /// Whether the same statement may be right in a moment.
-    pub fn is_passing(&self) -> bool {
-        // Connections, resources, operators, serialization failures and deadlocks, and locks that others hold.
-        let passing = |code: &SqlState| {
-            self.is_of(&["08", "53", "57", "58", "40"])
-                || [SqlState::LOCK_NOT_AVAILABLE, SqlState::READ_ONLY_SQL_TRANSACTION].contains(code)
-        };
-        self.code().map_or(true, passing)
-    }
-
-    /// Whether a limit of time or of resources ended it: of an effect, it may be one job that wants too much.
-    pub fn is_limit(&self) -> bool {
-        let limits = [SqlState::QUERY_CANCELED, SqlState::LOCK_NOT_AVAILABLE];
-        self.is_of(&["53"]) || self.code().map_or(false, |it| limits.contains(it))
-    }
-
-    /// Whether the database can't run the statement whatever its parameters: a table that is missing, say.
-    pub fn is_of_statement(&self) -> bool {
-        self.is_of(&["42"])
-    }
-}
-
 /// Where the database is, and what each session with it is told.
 #[derive(Clone)]
 pub struct Database {
     pub config: Config,
-    pub tls: Tls,
     /// The schema of the tables, where it isn't the first of the role's search path.
     pub schema: Option<String>,
     /// How long it works at a statement before it gives it up.
@@ -127,7 +55,7 @@ impl Database {
         let path = match &self.schema {
             None => String::new(),
             Some(schema) => format!(
-                "SELECT set_config('search_path', concat_ws(',', '{schema}', \
+                "SELECT set_config('search_path', concat_ws(',', '\"{schema}\"', \
                  nullif(current_setting('search_path'), '')), false);"
             ),
         };
@@ -154,7 +82,7 @@ pub async fn meet(database: &Database) -> Result<[(String, String); 2], Error> {
 }
 
 async fn greet(database: &Database) -> Result<(Client, (String, String)), Error> {
-    let (client, connection) = database.config.connect(database.tls.clone()).await?;
+    let (client, connection) = database.config.connect(NoTls).await?;
     tokio::spawn(connection);
     let said = client.simple_query("SELECT version(), pg_backend_pid()").await?;
     let text = |column| match said.first() {
@@ -184,7 +112,7 @@ impl Session {
     ) -> Result<Session, Error> {
         let limit = database.time_to_open();
         let open = async {
-            let (client, connection) = database.config.connect(database.tls.clone()).await?;
+            let (client, connection) = database.config.connect(NoTls).await?;
             let session = Session {
                 client,
                 driver: tokio::spawn(drive(connection, told)),
@@ -228,6 +156,21 @@ impl Session {
         self.limited(self.client.query(&statement, params)).await
     }
 
+    /// The same, and whose fault it is where there is no answer. Only what the database refuses to read is the statement's.
+    async fn query_rows(&self, sql: &str, params: &[Param<'_>], asked: Asked) -> Result<Vec<Row>, (Whose, Error)> {
+        let own = |error: Error| (error.whose(Asked::Own), error);
+        let statement = self.prepare(sql).await.map_err(own)?;
+        let error = match self.limited(self.client.query(&statement, params)).await {
+            Ok(rows) => return Ok(rows),
+            Err(error) => error,
+        };
+        if error.may_be_of_reading() {
+            self.known().remove(sql);
+            self.prepare(sql).await.map_err(own)?;
+        }
+        Err((error.whose(asked), error))
+    }
+
     /// Statements that give no rows, one after another.
     pub async fn batch(&self, sql: &str) -> Result<(), Error> {
         self.limited(self.client.batch_execute(sql)).await
@@ -237,19 +180,22 @@ impl Session {
         self.is_given_up.load(SeqCst) || self.client.is_closed()
     }
 
+    fn known(&self) -> MutexGuard<'_, HashMap<String, Statement>> {
+        self.prepared.lock().unwrap_or_else(PoisonError::into_inner)
+    }
+
     async fn prepare(&self, sql: &str) -> Result<Statement, Error> {
-        let known = self.prepared.lock().unwrap_or_else(PoisonError::into_inner).get(sql).cloned();
+        let known = self.known().get(sql).cloned();
         if let Some(statement) = known {
             return Ok(statement);
         }
         let statement = self.limited(self.client.prepare(sql)).await?;
-        let mut prepared = self.prepared.lock().unwrap_or_else(PoisonError::into_inner);
-        prepared.insert(sql.to_owned(), statement.clone());
+        self.known().insert(sql.to_owned(), statement.clone());
         Ok(statement)
     }
 }
 
-async fn drive(mut connection: Connection<Socket, Stream>, told: UnboundedSender<String>) {
+async fn drive(mut connection: Connection<Socket, NoTlsStream>, told: UnboundedSender<String>) {
     while let Some(Ok(message)) = poll_fn(|context| connection.poll_message(context)).await {
         if let AsyncMessage::Notification(notification) = message {
             // Nobody listens where the session is about to be closed.
@@ -339,34 +285,57 @@ impl Links {
         self.session().await?.prepare(sql).await.map(drop)
     }
 
-    /// Tries again until the statement is prepared, or refused by an error that doesn't pass.
+    /// Tries again until the statement is prepared, or refused.
     pub async fn insist_to_prepare(&self, sql: &str) -> Result<(), Error> {
-        self.until(Error::is_passing, || self.prepare(sql)).await
+        self.until(|| self.prepare(sql)).await
     }
 
-    /// Tries again until the answer is rows or an error that doesn't pass. The statement must bear to be run twice.
+    /// Tries again until the answer is rows or the statement's fault. It must bear to be run twice.
     pub async fn insist(&self, sql: &str, params: &[Param<'_>]) -> Result<Vec<Row>, Error> {
-        self.until(Error::is_passing, || self.query(sql, params)).await
+        self.until(|| self.query(sql, params)).await
     }
 
-    /// As `insist`, of an effect: that it was too much for the database is an answer.
-    pub async fn insist_on_effect(&self, sql: &str, params: &[Param<'_>]) -> Result<Vec<Row>, Error> {
-        self.until(|error| error.is_passing() && !error.is_limit(), || self.query(sql, params)).await
-    }
-
-    async fn until<T, F>(&self, passes: impl Fn(&Error) -> bool, mut ask: impl FnMut() -> F) -> Result<T, Error>
+    async fn until<T, F>(&self, mut ask: impl FnMut() -> F) -> Result<T, Error>
     where
         F: Future<Output = Result<T, Error>>,
     {
         let mut delay = Delay::new();
         loop {
             match ask().await {
-                Err(error) if passes(&error) && !self.is_ending.load(SeqCst) => {
+                Err(error) if error.whose(Asked::Own) == Whose::Connection && !self.is_ending.load(SeqCst) => {
                     let waited = delay.wait().await;
                     tell(format_args!("tried again after {waited:?}: {error}"));
                 }
                 answer => return answer,
             }
         }
+    }
+
+    /// As `insist`, of a statement that runs what others have written over rows of theirs: they may be what the database
+    /// fails by, or what ends its session, and then the answer says whose fault it is. That no session can be had is
+    /// never theirs. None where the worker ends before there is an answer.
+    pub async fn insist_on_rows(
+        &self,
+        sql: &str,
+        params: &[Param<'_>],
+        asked: fn(usize) -> Asked,
+    ) -> Option<Result<Vec<Row>, (Whose, Error)>> {
+        let mut delay = Delay::new();
+        for tried in 1.. {
+            let session = self.until(|| self.session()).await.ok()?;
+            let (whose, error) = match session.query_rows(sql, params, asked(tried)).await {
+                Ok(rows) => return Some(Ok(rows)),
+                Err(error) => error,
+            };
+            self.metrics.database_errors.add(1);
+            if whose != Whose::Connection {
+                return Some(Err((whose, error)));
+            }
+            if self.is_ending.load(SeqCst) {
+                break;
+            }
+            tell(format_args!("tried again after {:?}: {error}", delay.wait().await));
+        }
+        None
     }
 }

@@ -1,6 +1,7 @@
 //! Jobs that the worker does itself: a job is taken, its effect had, and the job done by one statement.
 
-use crate::db::{tell, Error, Links};
+use crate::db::{tell, Links};
+use crate::fault::{Asked, Error, Whose};
 use crate::partitions::Waiting;
 use crate::sql;
 use crate::worker::Worker;
@@ -17,6 +18,10 @@ use tokio_postgres::Row;
 const BATCH: usize = 500;
 /// How long a session rests where the database can't run the effect.
 const UNFIT: Duration = Duration::from_millis(50);
+/// How long a job is put off whose effect has waited for a lock in vain, and how late it has to be for that to be an
+/// attempt: whoever has the lock is at fault, and not the job.
+const LOCKED: Duration = Duration::from_secs(1);
+const PATIENCE: Duration = Duration::from_secs(300);
 
 /// The statement that begins so, takes jobs and has this effect of them.
 pub async fn statement(links: &Links, begin: &str, effect: &str) -> Result<String, Error> {
@@ -54,7 +59,9 @@ pub async fn run(worker: Arc<Worker>, statement: Arc<str>, mut jobs: UnboundedRe
         }
         left.sort_by_key(|it: &Waiting| (Reverse(it.priority), it.due));
         let rest = left.split_off(left.len().min(BATCH));
-        let batch = std::mem::replace(&mut left, rest).into_iter().map(|it| it.id).collect();
+        // What was paused meanwhile is none of them.
+        let is_held = |it: &Waiting| worker.partitions.may_be_given(it.id, &it.kind);
+        let batch = std::mem::replace(&mut left, rest).into_iter().filter(is_held).map(|it| it.id).collect();
         tokio::spawn(batch_of(worker.clone(), statement.clone(), batch, permit));
     }
     // All permits are back once no statement is under way.
@@ -65,7 +72,7 @@ async fn batch_of(worker: Arc<Worker>, statement: Arc<str>, mut ids: Vec<i64>, _
     ids.sort_unstable();
     let had = match ask(&worker, &statement, &ids).await {
         // One of them is bad or slow, and doesn't keep the others.
-        Err(error) if ids.len() > 1 && is_answer(&error) => {
+        Some(Err((Whose::Job, _))) if ids.len() > 1 => {
             let mut had = 0;
             for id in &ids {
                 let one = vec![*id];
@@ -78,31 +85,30 @@ async fn batch_of(worker: Arc<Worker>, statement: Arc<str>, mut ids: Vec<i64>, _
     worker.partitions.note_asked(&ids, had);
 }
 
-async fn ask(worker: &Worker, statement: &str, ids: &Vec<i64>) -> Result<Vec<Row>, Error> {
-    let terms = worker.partitions.terms();
-    worker.links.insist_on_effect(statement, &[&worker.number, &terms, ids]).await
-}
+/// What an effect has come to: its rows, or whose fault it is that there are none.
+type Answer = Result<Vec<Row>, (Whose, Error)>;
 
-/// Whether an error says something of the effect. Otherwise the worker ends while the database doesn't answer.
-fn is_answer(error: &Error) -> bool {
-    error.is_limit() || !error.is_passing()
+async fn ask(worker: &Worker, statement: &str, ids: &Vec<i64>) -> Option<Answer> {
+    let (terms, bounded) = (worker.partitions.terms(), worker.ready.bounded());
+    worker.links.insist_on_rows(statement, &[&worker.number, &terms, ids, &bounded], Asked::Jobs).await
 }
 
 /// Tells how many jobs are done.
-async fn settle(worker: &Worker, ids: &[i64], answer: Result<Vec<Row>, Error>) -> usize {
+async fn settle(worker: &Worker, ids: &[i64], answer: Option<Answer>) -> usize {
     match answer {
-        Ok(rows) => {
+        Some(Ok(rows)) => {
             note(worker, &rows, ids.len());
             return rows.len();
         }
-        Err(error) if error.is_of_statement() => {
-            // No job is at fault where the database can't run the statement: it may be right again in a moment.
+        Some(Err((Whose::Job, error))) => fail(worker, ids[0], &error).await,
+        Some(Err((_, error))) => {
+            // It may be right again in a moment.
             tell(format_args!("the effect can't be had, and its jobs wait: {error}"));
             worker.metrics.database_errors.add(1);
             sleep(UNFIT).await;
         }
-        Err(error) if is_answer(&error) => fail(worker, ids[0], &error).await,
-        Err(_) => {}
+        // The worker ends while the database doesn't answer.
+        None => {}
     }
     0
 }
@@ -120,11 +126,14 @@ fn note(worker: &Worker, rows: &[Row], asked: usize) {
 pub fn note_lateness(worker: &Worker, started: SystemTime, due: SystemTime, attempt: i32) {
     if attempt == 1 {
         let late = started.duration_since(due).unwrap_or_default();
-        worker.metrics.lateness.note(late.as_micros() as u64, worker.clock.uptime().as_secs());
+        worker.metrics.lateness.note(late.as_micros() as u64);
     }
 }
 
 async fn fail(worker: &Worker, id: i64, error: &Error) {
+    if error.is_lock() && worker.partitions.put_off(id, LOCKED, PATIENCE) {
+        return tell(format_args!("job {id} is tried again after {LOCKED:?}: {error}"));
+    }
     let reason = error.to_string();
     tell(format_args!("job {id} failed: {reason}"));
     worker.metrics.failed.add(1);

@@ -1,6 +1,7 @@
 //! Enqueues jobs by the SQL that any other session may use.
 
-use crate::db::{deaf, Database, Error, Session};
+use crate::db::{deaf, Database, Session};
+use crate::fault::Error;
 use crate::options::EnqueueOptions;
 use std::sync::Arc;
 use std::time::Instant;

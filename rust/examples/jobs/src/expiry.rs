@@ -1,10 +1,11 @@
 //! Leases that have ended: their jobs are given out again, or are dead after the last attempt.
 
 use crate::db::tell;
+use crate::fault::Error;
 use crate::partitions::{Running, Waiting};
 use crate::sql;
 use crate::worker::Worker;
-use std::collections::HashMap;
+use std::collections::{HashMap, HashSet};
 use std::sync::Arc;
 use std::time::{Duration, SystemTime};
 use tokio::sync::mpsc::UnboundedReceiver;
@@ -43,7 +44,7 @@ async fn expire(worker: &Worker, leases: &[(i64, i32)]) {
             tell(format_args!("leases that have ended aren't written: {error}"));
             // The owner looks for leases that have ended in the table, too, and takes up those that aren't held here.
             for (id, attempt) in leases {
-                worker.partitions.end(*id, *attempt, false);
+                worker.partitions.end(*id, *attempt, None);
             }
             return;
         }
@@ -55,8 +56,10 @@ async fn expire(worker: &Worker, leases: &[(i64, i32)]) {
     worker.metrics.dead.add(dead);
     // A worker that does its jobs itself finds them by its next reading.
     let is_given = worker.options.effect.is_none();
-    let is_again =
-        |lease: &&(i64, i32)| worker.partitions.end(lease.0, lease.1, is_given && again.contains_key(&lease.0));
+    let is_again = |(id, attempt): &&(i64, i32)| {
+        let again = again.get(id).filter(|_| is_given);
+        worker.partitions.end(*id, *attempt, again)
+    };
     if !is_given {
         again.keys().for_each(|id| worker.partitions.read_whole(worker.partitions.of(*id)));
     }
@@ -69,11 +72,31 @@ async fn expire(worker: &Worker, leases: &[(i64, i32)]) {
 
 /// Leases that the table doesn't have as this worker did: those that stand there are taken over. What has ended and
 /// couldn't be written, since another has locked the row, is looked at again a moment later.
-pub async fn adopt(worker: &Worker, ids: &[i64]) {
-    match worker.links.insist(sql::LEASES_OF, &[&ids]).await {
-        Ok(rows) => rows.iter().for_each(|row| worker.partitions.note_running(&running(row), LOCKED)),
-        Err(error) => tell(format_args!("leases aren't read: {error}")),
+/// Tells the attempts that were cancelled.
+pub async fn adopt(worker: &Worker, ids: &[i64]) -> HashSet<(i64, i32)> {
+    let rows = worker.links.insist(sql::LEASES_OF, &[&ids]).await.unwrap_or_else(|error| {
+        tell(format_args!("leases aren't read: {error}"));
+        Vec::new()
+    });
+    let (running, cancelled): (Vec<&Row>, Vec<&Row>) = rows.iter().partition(|row| lease(row).is_some());
+    running.iter().filter_map(|row| lease(row)).for_each(|it| worker.partitions.note_running(&it, LOCKED));
+    cancelled.iter().map(|row| (row.get(0), row.get(1))).collect()
+}
+
+/// Leases that couldn't be written: those whose job was cancelled or deleted, or that another attempt has, are let go.
+pub async fn check(worker: &Worker, leases: &[(i64, i32)]) -> Result<(), Error> {
+    let ids: Vec<i64> = leases.iter().map(|it| it.0).collect();
+    let rows = worker.links.query(sql::LEASES_OF, &[&ids]).await?;
+    let stand: HashSet<(i64, i32)> = rows.iter().filter_map(lease).map(|it| (it.id, it.attempt)).collect();
+    for (id, attempt) in leases.iter().filter(|it| !stand.contains(it)) {
+        worker.partitions.end(*id, *attempt, None);
     }
+    Ok(())
+}
+
+/// A row of `LEASES_OF`, where it has a lease.
+fn lease(row: &Row) -> Option<Running> {
+    row.get::<_, Option<SystemTime>>(2).map(|_| running(row))
 }
 
 fn waiting(row: &Row) -> Waiting {

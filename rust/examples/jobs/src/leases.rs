@@ -1,7 +1,8 @@
 //! The write of leases to the table: holders have extended them in memory.
 
-use crate::db::{tell, Error};
-use crate::expiry::time;
+use crate::db::tell;
+use crate::expiry::{check, time};
+use crate::fault::Error;
 use crate::partitions::Extended;
 use crate::sql;
 use crate::worker::Worker;
@@ -30,7 +31,7 @@ pub async fn write(worker: &Worker, partitions: &[usize]) {
     extended.sort_unstable_by_key(|it| it.id);
     for piece in extended.chunks(BATCH) {
         match write_some(worker, piece).await {
-            Ok(written) => left -= written,
+            Ok(unwritten) => left -= piece.len() - unwritten,
             Err(error) => {
                 tell(format_args!("leases aren't written: {error}"));
                 break;
@@ -41,7 +42,7 @@ pub async fn write(worker: &Worker, partitions: &[usize]) {
     worker.metrics.lease_write_micros.set(begun.elapsed().as_micros() as u64);
 }
 
-/// Leases that aren't written, since others have locked their rows, are tried again at the next interval.
+/// Tells how many aren't written. Those whose rows others have locked are tried again at the next interval.
 async fn write_some(worker: &Worker, leases: &[Extended]) -> Result<usize, Error> {
     let (ids, attempts): (Vec<i64>, Vec<i32>) = leases.iter().map(|it| (it.id, it.attempt)).unzip();
     // Whole milliseconds, as holders are told.
@@ -51,8 +52,16 @@ async fn write_some(worker: &Worker, leases: &[Extended]) -> Result<usize, Error
     let rows = worker.links.query(sql::WRITE_LEASES, &[&worker.number, &terms, &ids, &attempts, &times]).await?;
     worker.metrics.leases_written.add(rows.len() as u64);
     let written: HashSet<i64> = rows.iter().map(|row| row.get(0)).collect();
-    for (lease, until) in leases.iter().zip(untils).filter(|it| written.contains(&it.0.id)) {
-        worker.partitions.note_written(lease, until);
+    let mut unwritten = Vec::new();
+    for (lease, until) in leases.iter().zip(untils) {
+        if written.contains(&lease.id) {
+            worker.partitions.note_written(lease, until);
+        } else {
+            unwritten.push((lease.id, lease.attempt));
+        }
     }
-    Ok(written.len())
+    if !unwritten.is_empty() {
+        check(worker, &unwritten).await?;
+    }
+    Ok(unwritten.len())
 }

@@ -7,13 +7,12 @@ mod db;
 mod effect;
 mod enqueue;
 mod expiry;
+mod fault;
 mod leases;
 mod metrics;
 mod options;
 mod owner;
-mod page;
 mod partitions;
-mod poller;
 mod ready;
 mod redirect;
 mod resp;
@@ -23,7 +22,6 @@ mod server;
 mod setup;
 mod sql;
 mod status;
-mod tls;
 mod worker;
 
 use options::{Verb, HELP};
@@ -41,7 +39,7 @@ async fn run(verb: Verb) -> Result<(), Box<dyn Error>> {
         Verb::Enqueue(options) => enqueue::run(&options).await,
         Verb::Status(database) => status::run(&database).await,
         Verb::Retry(options) => retry::run(&options).await,
-        Verb::Poller(options) => poller::run(&options).await,
+        Verb::Cancel(options) => retry::cancel(&options).await,
     }
 }
 

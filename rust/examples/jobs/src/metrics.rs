@@ -1,9 +1,7 @@
 //! The numbers of a worker, and their text for Prometheus.
 
-use std::collections::VecDeque;
 use std::fmt::{self, Write};
 use std::sync::atomic::{AtomicU64, Ordering::SeqCst};
-use std::sync::{Mutex, PoisonError};
 
 #[derive(Default)]
 pub struct Number(AtomicU64);
@@ -52,54 +50,16 @@ pub struct Lateness {
     buckets: [Number; BUCKETS.len()],
     count: Number,
     micros: Number,
-    /// The counts of the buckets in pieces of some seconds, the latest last.
-    recent: Mutex<VecDeque<(u64, [u32; BUCKETS.len()])>>,
 }
 
-/// The seconds of a piece, and how many are kept: ten minutes.
-pub const PIECE: u64 = 10;
-const PIECES: usize = 60;
-
 impl Lateness {
-    /// A job was so late, at a second of the worker's uptime.
-    pub fn note(&self, micros: u64, second: u64) {
-        let bucket = BUCKETS.iter().position(|end| micros <= *end);
-        if let Some(bucket) = bucket {
+    /// A job was so late.
+    pub fn note(&self, micros: u64) {
+        if let Some(bucket) = BUCKETS.iter().position(|end| micros <= *end) {
             self.buckets[bucket].add(1);
         }
         self.count.add(1);
         self.micros.add(micros);
-        let mut recent = self.recent.lock().unwrap_or_else(PoisonError::into_inner);
-        if recent.back().map_or(true, |it| it.0 != second / PIECE) {
-            recent.push_back((second / PIECE, Default::default()));
-        }
-        if recent.len() > PIECES {
-            recent.pop_front();
-        }
-        if let Some(last) = recent.back_mut() {
-            last.1[bucket.unwrap_or(BUCKETS.len() - 1)] += 1;
-        }
-    }
-
-    /// Of each piece that had jobs: how many seconds ago it was, and the microseconds that the half, and all but one of
-    /// a hundred, weren't later than, by the ends of their buckets.
-    pub fn recent(&self, second: u64) -> Vec<(u64, f64, f64)> {
-        let recent = self.recent.lock().unwrap_or_else(PoisonError::into_inner);
-        let of = |(piece, counts): &(u64, [u32; BUCKETS.len()])| {
-            let total: u64 = counts.iter().map(|it| u64::from(*it)).sum();
-            let within = |part: u64| {
-                let mut left = (total * part + 99) / 100;
-                let ends = counts.iter().zip(BUCKETS);
-                let mut reached = ends.skip_while(|it| {
-                    let is_below = u64::from(*it.0) < left;
-                    left = left.saturating_sub(u64::from(*it.0));
-                    is_below
-                });
-                reached.next().map_or(0.0, |it| it.1 as f64)
-            };
-            (second.saturating_sub(piece * PIECE), within(50), within(99))
-        };
-        recent.iter().map(of).filter(|it| it.0 < PIECE * PIECES as u64).collect()
     }
 
     fn write(&self, name: &str, text: &mut String) -> fmt::Result {
@@ -137,6 +97,7 @@ pub struct Metrics {
     pub lease_write_micros: Number,
     pub leases_unwritten: Number,
     pub clients: Number,
+    pub schedules_overdue: Number,
     pub lateness: Lateness,
 }
 
@@ -181,6 +142,11 @@ impl Metrics {
                 self.leases_unwritten.get() as f64,
             ),
             ("jobs_clients", "Holders that are connected.", self.clients.get() as f64),
+            (
+                "jobs_schedules_overdue",
+                "Schedules whose job should have been enqueued some seconds ago.",
+                self.schedules_overdue.get() as f64,
+            ),
         ];
         for (name, help, value) in gauges {
             writeln!(text, "# HELP {name} {help}\n# TYPE {name} gauge\n{name} {value}")?;
@@ -197,7 +163,7 @@ mod tests {
     fn each_bucket_counts_what_is_below_its_end() {
         let metrics = Metrics::default();
         for micros in [400, 500, 900, 60_000_000, 900_000_000] {
-            metrics.lateness.note(micros, 5);
+            metrics.lateness.note(micros);
         }
         let text = metrics.text();
         for line in
@@ -205,16 +171,5 @@ mod tests {
         {
             assert!(text.contains(line), "{line} in {text}");
         }
-    }
-
-    #[test]
-    fn ten_minutes_are_told_in_pieces() {
-        let lateness = Lateness::default();
-        (0..99).for_each(|_| lateness.note(900, 3));
-        lateness.note(60_000_000, 9);
-        lateness.note(400, 15);
-        assert_eq!(lateness.recent(25), [(25, 1e3, 1e3), (15, 500.0, 500.0)]);
-        lateness.note(60_000_000, 15);
-        assert_eq!(lateness.recent(605), [(595, 500.0, 3e8)]);
     }
 }

@@ -1,14 +1,15 @@
 //! The words behind `jobs`.
 
 use crate::db::{Database, CONNECT};
-use crate::tls::{self, Tls};
 use std::net::SocketAddr;
 use std::time::Duration;
-use tokio_postgres::config::TargetSessionAttrs;
+use tokio_postgres::config::{SslMode, TargetSessionAttrs};
 use tokio_postgres::Config;
 
 /// More would make each statement slower, which names all terms.
 const MOST_PARTITIONS: usize = 1_024;
+/// How often a job is tried where neither it nor its kind nor its worker says it: over 20 days.
+const ATTEMPTS: i32 = 25;
 
 pub const HELP: &str = "jobs VERB [OPTION..]: delayed jobs and leases in PostgreSQL
 
@@ -25,26 +26,24 @@ pub const HELP: &str = "jobs VERB [OPTION..]: delayed jobs and leases in Postgre
     --password-file FILE     its first line is what holders have to say by AUTH before all else
     --clients N              the most holders that are connected, of 1000, 900 where none is given
     --sessions N             how many it has with the database, 2 to 32, 4 where none is given
+    --timeout MS             a holder that says nothing for so long is closed; none is where none is given
     --keep-done MS           prunes jobs that were done longer ago; all are kept where none is given
+    --keep-dead MS           prunes jobs that are dead for longer, 7776000000 (90 days) where none is given
     --drain MS               how long SIGTERM waits for what is under way, 20000 where none is given; a second SIGTERM
                              doesn't wait
-    --attempts N             after so many attempts a job is dead, 5 where none is given
+    --attempts N             after so many attempts a job is dead, 25 where none is given: over 20 days
     --metrics IP:PORT        numbers for Prometheus, at /metrics
-    --http IP:PORT           a page for a browser on the same machine, or by a tunnel: workers, lateness, dead jobs
   jobs enqueue N           enqueues N jobs
     --delay MS               all due so long from now, 0 where none is given
     --spread MS              and each up to so much later, 0 where none is given
     --payload TEXT           what they carry
   jobs status              tells partitions and their owners, jobs by their state, and how late they were
   jobs retry ID,ID..|all   has dead jobs wait again
-    --attempts N             how many attempts more each has, 5 where none is given
-  jobs poller              what people do without an index: the same table, asked again and again by SKIP LOCKED
-    --every MS               how often, 100 where none is given
-    --effect SQL             as for a worker
+    --attempts N             how many attempts more each has, 25 where none is given
+  jobs cancel ID,ID..      has jobs that wait or run be dead; their holders are told at their next word
   --database URL           for each: postgres://user@host/name or host=.. user=.. dbname=.., JOBS_DATABASE if not given
                            with connect_timeout=S where the way to a host may take more than 2 s, several hosts
-                           (host=a,b port=5432,5433) of which the primary is taken, and sslmode=disable, prefer,
-                           require, verify-ca or verify-full with sslrootcert=FILE (or system) as libpq has them
+                           (host=a,b port=5432,5433) of which the primary is taken; TLS is a proxy's
   --schema NAME            the schema of the tables, which setup makes where it is missing; the first of the search
                            path where none is given
   --statement-timeout MS   after so long the database gives up a statement, and a second later the worker its session,
@@ -53,7 +52,7 @@ pub const HELP: &str = "jobs VERB [OPTION..]: delayed jobs and leases in Postgre
   --help                   this text
 
 Holders say JOBS.TAKE [count] [WAIT ms] [KIND name..], JOBS.BEAT id attempt, JOBS.DONE id attempt,
-JOBS.FAIL id attempt [reason].
+JOBS.FAIL id attempt [reason], TIME.
 Holders have no TLS: keep --listen and --metrics where only those reach them who may.";
 
 #[derive(Clone)]
@@ -68,6 +67,10 @@ pub struct WorkerOptions {
     pub drain: Duration,
     /// Jobs that were done longer ago are pruned.
     pub keep_done: Option<Duration>,
+    /// Those that are dead for longer, too.
+    pub keep_dead: Duration,
+    /// A holder that says nothing for so long is closed.
+    pub timeout: Option<Duration>,
     pub clients: usize,
     /// One that owns partitions, and those that take jobs and write what becomes of them.
     pub sessions: usize,
@@ -75,7 +78,6 @@ pub struct WorkerOptions {
     pub password: Option<Vec<u8>>,
     pub attempts: i32,
     pub metrics: Option<SocketAddr>,
-    pub http: Option<SocketAddr>,
 }
 
 pub struct SetupOptions {
@@ -99,10 +101,9 @@ pub struct RetryOptions {
     pub attempts: i32,
 }
 
-pub struct PollerOptions {
+pub struct CancelOptions {
     pub database: Database,
-    pub every: Duration,
-    pub effect: String,
+    pub ids: Vec<i64>,
 }
 
 pub enum Verb {
@@ -112,7 +113,7 @@ pub enum Verb {
     Enqueue(EnqueueOptions),
     Status(Database),
     Retry(RetryOptions),
-    Poller(PollerOptions),
+    Cancel(CancelOptions),
 }
 
 /// The options that were given, by name.
@@ -158,11 +159,13 @@ impl Given {
         let url = given.or_else(|| std::env::var("JOBS_DATABASE").ok());
         let url = url.ok_or("--database or JOBS_DATABASE has to name the database")?;
         // Neither the text nor what the library says of it is shown, since a password may stand in it.
-        let (url, wish) = tls::split(&url)?;
-        let tls = Tls::new(&wish)?;
         let mut config: Config = url.parse().map_err(|_| {
-            "--database or JOBS_DATABASE names no database: it is postgres://user@host/name or host=.. dbname=.."
+            "--database or JOBS_DATABASE names no database: it is postgres://user@host/name or host=.. dbname=.., and \
+             sslmode is disable or prefer"
         })?;
+        if config.get_ssl_mode() == SslMode::Require {
+            return Err("the URL's sslmode is disable or prefer: TLS to the database goes through a proxy".to_owned());
+        }
         if is_shown && config.get_password().is_some() {
             return Err(
                 "--database has a password, which whoever lists processes reads: JOBS_DATABASE hides it".to_owned()
@@ -171,7 +174,6 @@ impl Given {
         if config.get_connect_timeout().is_none() {
             config.connect_timeout(CONNECT);
         }
-        config.ssl_mode(tls.mode);
         if config.get_hosts().len() > 1 {
             // One of them is the primary.
             config.target_session_attrs(TargetSessionAttrs::ReadWrite);
@@ -189,7 +191,6 @@ impl Given {
         }
         Ok(Database {
             config,
-            tls,
             schema,
             statement_timeout: self.millis("--statement-timeout", 10_000, 100)?,
             lock_timeout: self.millis("--lock-timeout", 5_000, 100)?,
@@ -219,7 +220,7 @@ pub fn verb(words: impl Iterator<Item = String>) -> Result<Verb, String> {
     if ["--help", "-h", "help"].contains(&&verb[..]) {
         return Ok(Verb::Help);
     }
-    let count = if ["enqueue", "retry"].contains(&&verb[..]) { words.next() } else { None };
+    let count = if ["enqueue", "retry", "cancel"].contains(&&verb[..]) { words.next() } else { None };
     let rest: Vec<String> = words.collect();
     if rest.iter().any(|it| it == "--help") {
         return Ok(Verb::Help);
@@ -238,10 +239,9 @@ pub fn verb(words: impl Iterator<Item = String>) -> Result<Verb, String> {
         "worker" => Verb::Worker(Box::new(worker(&mut given)?)),
         "enqueue" => Verb::Enqueue(enqueue(count, &mut given)?),
         "retry" => Verb::Retry(retry(count, &mut given)?),
-        "poller" => Verb::Poller(PollerOptions {
+        "cancel" => Verb::Cancel(CancelOptions {
+            ids: ids(&count.ok_or("jobs cancel wants the ids of jobs")?)?,
             database: given.database()?,
-            every: given.millis("--every", 100, 1)?,
-            effect: given.text("--effect").unwrap_or_else(|| "SELECT".to_owned()),
         }),
         _ => return Err(format!("there is no {verb}; jobs --help tells what there is")),
     };
@@ -260,18 +260,13 @@ fn worker(given: &mut Given) -> Result<WorkerOptions, String> {
         write_every: given.millis("--write-every", 2_000, 10)?,
         clients: given.value("--clients", 900)?,
         sessions: given.value("--sessions", 4)?,
-        password: match given.text("--password-file") {
-            None => None,
-            Some(path) => Some(password(&path)?),
-        },
-        keep_done: match given.text("--keep-done") {
-            None => None,
-            Some(text) => Some(millis("--keep-done", &text, 0)?),
-        },
+        password: given.text("--password-file").map(|it| password(&it)).transpose()?,
+        keep_done: given.text("--keep-done").map(|it| millis("--keep-done", &it, 0)).transpose()?,
+        keep_dead: given.millis("--keep-dead", 90 * 24 * 3_600_000, 0)?,
+        timeout: given.text("--timeout").map(|it| millis("--timeout", &it, 1)).transpose()?,
         drain: given.millis("--drain", 20_000, 0)?,
-        attempts: given.value("--attempts", 5)?,
+        attempts: given.value("--attempts", ATTEMPTS)?,
         metrics: given.address("--metrics")?,
-        http: given.address("--http")?,
     };
     check(&options)?;
     Ok(options)
@@ -328,18 +323,22 @@ fn enqueue(count: Option<String>, given: &mut Given) -> Result<EnqueueOptions, S
     })
 }
 
-fn retry(ids: Option<String>, given: &mut Given) -> Result<RetryOptions, String> {
-    let ids = ids.ok_or("jobs retry wants the ids of dead jobs, or all")?;
-    let id = |it: &str| it.parse::<i64>().map_err(|_| format!("{it} is no id of a job"));
-    let attempts = given.value("--attempts", 5)?;
+fn retry(named: Option<String>, given: &mut Given) -> Result<RetryOptions, String> {
+    let named = named.ok_or("jobs retry wants the ids of dead jobs, or all")?;
+    let attempts = given.value("--attempts", ATTEMPTS)?;
     if attempts < 1 {
         return Err("--attempts is 1 at least".to_owned());
     }
     Ok(RetryOptions {
         database: given.database()?,
-        ids: if ids == "all" { None } else { Some(ids.split(',').map(id).collect::<Result<_, _>>()?) },
+        ids: if named == "all" { None } else { Some(ids(&named)?) },
         attempts,
     })
+}
+
+/// Ids of jobs between commas.
+fn ids(text: &str) -> Result<Vec<i64>, String> {
+    text.split(',').map(|it| it.parse().map_err(|_| format!("{it} is no id of a job"))).collect()
 }
 
 #[cfg(test)]
@@ -369,6 +368,8 @@ mod tests {
             ("status --database postgres://me:secret@x/y", "JOBS_DATABASE"),
             ("status status", "status"),
             ("retry some --database host=x", "some"),
+            ("cancel 5,all --database host=x", "all"),
+            ("status --database postgres://h/x?sslmode=require", "sslmode"),
             ("retry all --database host=x --attempts 0", "--attempts"),
         ] {
             assert!(refusal(line).contains(word), "{line}: {}", refusal(line));
@@ -380,7 +381,7 @@ mod tests {
         let words = ["worker", "--database", "host=x"].map(str::to_owned);
         match verb(words.into_iter()) {
             Ok(Verb::Worker(options)) => {
-                assert_eq!((options.lease.as_secs(), options.write_every.as_secs(), options.attempts), (10, 2, 5));
+                assert_eq!((options.lease.as_secs(), options.write_every.as_secs(), options.attempts), (10, 2, 25));
                 assert!(options.effect.is_none());
             }
             _ => panic!("it is a worker"),

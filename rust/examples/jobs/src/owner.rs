@@ -1,9 +1,11 @@
 //! Which partitions a worker owns, by rows of a table: it renews its terms, takes partitions up to a fair share,
 //! reads what is due soon, and is told the rest.
 
-use crate::db::{tell, Delay, Error, Param, Session, Told};
+use crate::db::{tell, Delay, Param, Session, Told};
 use crate::expiry::{micros, running, time};
+use crate::fault::Error;
 use crate::partitions::{Running, Waiting, WAITING_ROOM};
+use crate::ready::Kinds;
 use crate::sql;
 use crate::worker::Worker;
 use std::sync::Arc;
@@ -38,14 +40,17 @@ const MODESTY: Duration = Duration::from_secs(3);
 const LAST_WRITE: Duration = Duration::from_secs(1);
 
 /// Owns partitions by one session after another, until the worker ends.
-pub async fn run(worker: Arc<Worker>) {
+///
+/// # Errors
+/// A worker of the other sort lives.
+pub async fn run(worker: Arc<Worker>) -> Result<(), Error> {
     let mut delay = Delay::new();
     let mut modesty = Duration::ZERO;
     while !worker.released() {
         let begun = Instant::now();
         let error = match own(&worker, modesty).await {
-            Ok(()) => return,
-            Err(error) => error,
+            Err(error) if !matches!(error, Error::Unlike(_)) => error,
+            answer => return answer,
         };
         modesty = MODESTY;
         worker.metrics.database_errors.add(1);
@@ -55,6 +60,7 @@ pub async fn run(worker: Arc<Worker>) {
         let waited = delay.wait().await;
         tell(format_args!("can't renew its terms, and tries again after {waited:?}: {error}"));
     }
+    Ok(())
 }
 
 /// Owns partitions by one session, which takes no others at first.
@@ -76,7 +82,8 @@ async fn own(worker: &Worker, modesty: Duration) -> Result<(), Error> {
         searched: Instant::now(),
         has_more: false,
         readings: 0,
-        most: WAITING_ROOM,
+        of: 1,
+        left_out: Vec::new(),
     };
     loop {
         let read_at = Instant::now();
@@ -99,8 +106,10 @@ struct Owner<'w> {
     /// It has just got partitions that it hasn't read.
     has_more: bool,
     readings: usize,
-    /// The most jobs of a partition that it reads at a time: fewer where the database was too slow.
-    most: usize,
+    /// One partition of so many is read at a time: more than one where the database was too slow.
+    of: usize,
+    /// The kinds that the next reading leaves out.
+    left_out: Vec<String>,
 }
 
 impl Owner<'_> {
@@ -110,15 +119,37 @@ impl Owner<'_> {
             return Ok(());
         }
         let worker = self.worker;
-        let (term, sent) = (TERM.as_secs_f64(), Instant::now());
         let ready = worker.ready.kinds();
-        let params: [Param<'_>; 5] = [&worker.number, &worker.options.name, &worker.address, &term, &ready];
-        for row in self.session.query(sql::RENEW, &params).await? {
-            // The database counted from a moment after it was asked.
-            worker.partitions.renew(partition(&row), row.get(1), sent + SURE - DRIFT);
+        loop {
+            let sent = Instant::now();
+            let params: [Param<'_>; 3] = [&worker.number, &TERM.as_secs_f64(), &ready];
+            let row = self.session.query(sql::RENEW, &params).await?.remove(0);
+            if row.get::<_, bool>(0) {
+                let (partitions, terms): (Vec<i16>, Vec<i64>) = (row.get(1), row.get(2));
+                for (partition, term) in partitions.into_iter().zip(terms) {
+                    // The database counted from a moment after it was asked.
+                    worker.partitions.renew(partition as usize, term, sent + SURE - DRIFT);
+                }
+                self.renewed = Some(Instant::now());
+                return Ok(());
+            }
+            self.enter().await?;
         }
-        self.renewed = Some(Instant::now());
-        Ok(())
+    }
+
+    /// Comes, or comes back after it was silent for too long. One of the other sort may have been killed just now: it counts
+    /// until its term is over.
+    async fn enter(&mut self) -> Result<(), Error> {
+        let (worker, until) = (self.worker, Instant::now() + TERM + 2 * STATEMENT);
+        let params: [Param<'_>; 4] =
+            [&worker.number, &worker.options.name, &worker.address, &TERM.as_secs_f64()];
+        loop {
+            match self.session.query(sql::ENTER, &params).await?.remove(0).get::<_, Option<String>>(0) {
+                None => return Ok(()),
+                Some(other) if worker.released() || Instant::now() > until => return Err(Error::Unlike(other)),
+                Some(_) => tokio::time::sleep(READ_EVERY).await,
+            }
+        }
     }
 
     /// Takes those of some partitions that are free.
@@ -159,25 +190,28 @@ impl Owner<'_> {
         (0..worker.partitions.count())
             .filter(|it| it % WHOLE == self.readings % WHOLE)
             .for_each(|it| worker.partitions.read_whole(it));
-        let (asked, since) = worker.partitions.to_read();
+        let (asked, since) = worker.partitions.to_read(self.of, self.readings);
         let partitions = numbers(&asked);
         let since: Vec<SystemTime> = since.into_iter().map(time).collect();
-        let (horizon, most, sent) = (HORIZON.as_secs_f64(), self.most as i64, worker.clock.uptime());
-        let params: [Param<'_>; 6] = [&worker.number, &partitions, &horizon, &most, &left_over(), &since];
+        let (horizon, most, sent) = (HORIZON.as_secs_f64(), WAITING_ROOM as i64, worker.clock.uptime());
+        let params: [Param<'_>; 7] =
+            [&worker.number, &partitions, &horizon, &most, &left_over(), &since, &self.left_out];
         let answer = self.session.query(sql::READ, &params).await;
         let rows = match answer {
-            Err(error) if error.is_limit() && self.most > 1 => {
-                self.most /= 4;
+            Err(error) if error.is_limit() && self.of < worker.partitions.count() => {
+                self.of *= 4;
                 asked.iter().for_each(|it| worker.partitions.read_whole(*it));
                 return Ok(());
             }
             answer => answer?,
         };
-        self.most = (self.most * 2).min(WAITING_ROOM);
-        let now = micros(rows[0].get(9));
+        self.of = (self.of / 2).max(1);
+        let now = micros(rows[0].get(10));
         worker.clock.note(sent, now);
-        worker.partitions.note_read(&asked, waiting(&rows[0]), now);
-        worker.note_elsewhere(rows[0].get::<_, Option<_>>(4).unwrap_or_default());
+        let kinds = Kinds::of(rows[0].get(9));
+        worker.partitions.note_read(&asked, waiting(&rows[0]), &kinds.bounded, now);
+        self.keep_to(kinds);
+        worker.note_elsewhere(rows[0].get::<_, Option<Vec<&str>>>(4).unwrap_or_default());
         let (waiting, leases) = worker.partitions.counts();
         worker.metrics.indexed.set(waiting as u64);
         worker.metrics.leases.set(leases as u64);
@@ -185,6 +219,20 @@ impl Owner<'_> {
         let (is_new, workers, free): (bool, Vec<i64>, Vec<i16>) = (rows[0].get(0), rows[0].get(1), rows[0].get(2));
         let share = fair_share(worker.partitions.count(), workers[0].max(1) as usize, workers[1] as usize);
         self.balance(is_new, share, free).await
+    }
+
+    /// Keeps to what the table says of kinds. What is paused isn't held, nor read; of what is bounded few are, and more are
+    /// read once those have begun: it doesn't fill the room of others.
+    fn keep_to(&mut self, kinds: Kinds) {
+        let partitions = &self.worker.partitions;
+        partitions.forget_kinds(&kinds.paused);
+        self.worker.ready.keep_to(&kinds);
+        let mut left_out = partitions.waiting_of(&kinds.bounded);
+        left_out.extend(kinds.paused);
+        if self.left_out.iter().any(|it| !left_out.contains(it)) {
+            (0..partitions.count()).for_each(|it| partitions.read_whole(it));
+        }
+        self.left_out = left_out;
     }
 
     /// Comes to the terms that the table has: what others have taken is lost, and what was taken by a statement whose
@@ -286,9 +334,15 @@ impl Owner<'_> {
             (0..self.worker.partitions.count()).for_each(|it| self.worker.partitions.read_whole(it));
             return false;
         }
+        if let Some(id) = notice.strip_prefix("cancelled ") {
+            id.parse().into_iter().for_each(|id| self.worker.partitions.note_cancelled(id));
+            return true;
+        }
         let soon = self.worker.clock.now() + HORIZON.as_micros() as i64;
         for job in notice.split(',') {
             match notified(job) {
+                // The next reading knows whether it may begin.
+                Some(job) if self.left_out.iter().any(|it| it[..] == job.kind[..]) => {}
                 Some(job) if job.due <= soon => self.worker.partitions.note_waiting(job),
                 Some(_) => {}
                 // It isn't the trigger's. What stands in the table is read anyway.

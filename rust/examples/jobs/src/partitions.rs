@@ -3,7 +3,7 @@
 use crate::clock::Clock;
 use hontkhale::delay_queue::Key;
 use hontkhale::DelayQueue;
-use std::collections::HashMap;
+use std::collections::{HashMap, HashSet};
 use std::sync::{Arc, Mutex, MutexGuard, OnceLock, PoisonError};
 use std::time::{Duration, Instant};
 
@@ -12,6 +12,8 @@ pub const WAITING_ROOM: usize = 2_048;
 /// How long a transaction may be open that enqueues a job which is due already, in microseconds, for the next reading
 /// to find it: later ones are told by a notification, or found by the next reading of the whole partition.
 const LATE: i64 = 2_000_000;
+/// The most jobs that a reading files in a partition of a kind of which some at a time may run.
+const FEW: usize = 32;
 
 /// What may be due.
 #[derive(Clone, Copy, Debug, PartialEq, Eq)]
@@ -44,7 +46,7 @@ pub struct Running {
 /// What a holder is told of its lease.
 #[derive(Clone, Copy, Debug, PartialEq, Eq)]
 pub enum Beat {
-    /// It stands in the table for so many milliseconds from now on, whatever becomes of this worker.
+    /// It stands in the table until a microsecond since 1970, whatever becomes of this worker.
     Extended(i64),
     /// It isn't known here, and may stand in the table.
     Unknown,
@@ -73,8 +75,18 @@ enum Held {
         job: Waiting,
     },
     /// It came out, and is about to be looked at in the table.
-    Out,
+    Out(Waiting),
     Running(Lease),
+}
+
+impl Held {
+    /// The job, where it waits or is out.
+    fn waiting(&self) -> Option<&Waiting> {
+        match self {
+            Held::Waiting { job, .. } | Held::Out(job) => Some(job),
+            Held::Running(_) => None,
+        }
+    }
 }
 
 /// A lease of an attempt, whose deadline in force stands in the queue.
@@ -162,9 +174,9 @@ impl Partitions {
         }
     }
 
-    /// The owned partitions that have room for what waits, each with the time since which its jobs are to be read: what
-    /// was due before is over, and the dead rows that it left aren't read again and again.
-    pub fn to_read(&self) -> (Vec<usize>, Vec<i64>) {
+    /// The owned partitions that have room for what waits, one of so many in turn, each with the time since which its jobs
+    /// are to be read: what was due before is over, and the dead rows that it left aren't read again and again.
+    pub fn to_read(&self, of: usize, turn: usize) -> (Vec<usize>, Vec<i64>) {
         let to_read = |(number, partition)| {
             let mut partition = enter(partition);
             if partition.term.is_none() || partition.waiting > WAITING_ROOM / 2 {
@@ -175,15 +187,23 @@ impl Partitions {
             }
             Some((number, partition.since))
         };
-        self.all().iter().enumerate().filter_map(to_read).unzip()
+        self.all().iter().enumerate().filter(|it| it.0 % of == turn % of).filter_map(to_read).unzip()
     }
 
-    /// Some partitions were read at a time of the database, with these jobs.
-    pub fn note_read(&self, partitions: &[usize], jobs: Vec<Waiting>, now: i64) {
+    /// Some partitions were read at a time of the database, with these jobs. Of each of some kinds a partition holds few.
+    pub fn note_read(&self, partitions: &[usize], jobs: Vec<Waiting>, bounded: &[String], now: i64) {
         let mut first = vec![now; self.count()];
+        let mut few: HashMap<(usize, Arc<str>), usize> = HashMap::new();
         for job in jobs {
-            let first = &mut first[self.of(job.id)];
-            *first = job.due.min(*first);
+            let partition = self.of(job.id);
+            first[partition] = job.due.min(first[partition]);
+            if bounded.iter().any(|it| it[..] == job.kind[..]) {
+                let count = few.entry((partition, job.kind.clone())).or_default();
+                *count += 1;
+                if *count > FEW {
+                    continue;
+                }
+            }
             self.note_waiting(job);
         }
         for it in partitions {
@@ -197,6 +217,42 @@ impl Partitions {
     /// The next reading of a partition is of all that waits in it.
     pub fn read_whole(&self, partition: usize) {
         enter(&self.all()[partition]).is_whole = true;
+    }
+
+    /// Those of some kinds of which jobs wait in memory.
+    pub fn waiting_of(&self, kinds: &[String]) -> Vec<String> {
+        let mut found: HashSet<&String> = HashSet::new();
+        for partition in self.all().iter().take_while(|_| !kinds.is_empty()) {
+            for job in enter(partition).held.values().filter_map(Held::waiting) {
+                found.extend(kinds.iter().find(|it| it[..] == job.kind[..]));
+            }
+        }
+        found.into_iter().cloned().collect()
+    }
+
+    /// Forgets the jobs of some kinds that wait in memory: they stand in the table.
+    pub fn forget_kinds(&self, kinds: &[String]) {
+        for partition in self.all().iter().take_while(|_| !kinds.is_empty()) {
+            let mut partition = enter(partition);
+            let before = partition.held.len();
+            partition.held.retain(|_, held| {
+                let is_kept = held.waiting().map_or(true, |job| kinds.iter().all(|it| it[..] != job.kind[..]));
+                if !is_kept {
+                    self.forget(held);
+                }
+                is_kept
+            });
+            partition.waiting -= before - partition.held.len();
+        }
+    }
+
+    /// A job was cancelled: whether somebody has it is asked of the table at his next word.
+    pub fn note_cancelled(&self, id: i64) {
+        let mut partition = self.of_job(id);
+        if let Some(held @ Held::Running(_)) = partition.held.get(&id) {
+            self.forget(held);
+            partition.held.remove(&id);
+        }
     }
 
     /// How many jobs wait in memory, and how many leases there are.
@@ -240,12 +296,19 @@ impl Partitions {
         let mut partition = self.of_job(id);
         let has_room = partition.term.is_some() && partition.waiting < WAITING_ROOM;
         match partition.held.get_mut(&id) {
-            Some(Held::Waiting { key, job: known }) if known.due != job.due => {
+            Some(Held::Waiting { job: known, .. } | Held::Out(known)) if *known == job => {}
+            Some(Held::Running(_)) => {}
+            Some(Held::Waiting { key, job: known }) => {
                 if let Ok(reset) = self.queue.reset_at(key, due) {
                     (*key, *known) = (reset, job);
                 }
             }
-            Some(_) => {}
+            // It comes out once more, as what it is now: whoever finds it as what it was leaves it.
+            Some(held) => {
+                if let Ok(key) = self.queue.insert_at(Due::Job(id), due) {
+                    *held = Held::Waiting { key, job };
+                }
+            }
             None if !has_room => {}
             None => {
                 if let Ok(key) = self.queue.insert_at(Due::Job(id), due) {
@@ -259,17 +322,32 @@ impl Partitions {
     /// A job came out of the queue. None where nobody waits for it any more.
     pub fn note_out(&self, id: i64) -> Option<Waiting> {
         let mut partition = self.of_job(id);
-        let held = partition.held.get_mut(&id).filter(|it| matches!(it, Held::Waiting { .. }))?;
-        match std::mem::replace(held, Held::Out) {
-            Held::Waiting { job, .. } => Some(job),
-            _ => None,
-        }
+        let held = partition.held.get_mut(&id)?;
+        let job = match held {
+            Held::Waiting { job, .. } => job.clone(),
+            _ => return None,
+        };
+        *held = Held::Out(job.clone());
+        Some(job)
     }
 
-    /// Whether a job that is out may be given to a holder.
-    pub fn may_be_given(&self, id: i64) -> bool {
+    /// Whether a job that is out may be given to a holder as one of a kind.
+    pub fn may_be_given(&self, id: i64, kind: &str) -> bool {
         let partition = self.of_job(id);
-        partition.term.is_some() && matches!(partition.held.get(&id), Some(Held::Out))
+        partition.term.is_some() && matches!(partition.held.get(&id), Some(Held::Out(job)) if job.kind[..] == *kind)
+    }
+
+    /// A job that is out comes out again after some time. False where it is later than that by more than it may be.
+    pub fn put_off(&self, id: i64, by: Duration, most: Duration) -> bool {
+        let mut partition = self.of_job(id);
+        let job = match partition.held.get(&id) {
+            Some(Held::Out(job)) if self.clock.now() - job.due < most.as_micros() as i64 => job.clone(),
+            _ => return false,
+        };
+        match self.queue.insert(Due::Job(id), by) {
+            Ok(key) => partition.held.insert(id, Held::Waiting { key, job }).is_some(),
+            Err(_) => false,
+        }
     }
 
     /// The table has been asked about jobs that were out: they aren't held any more. Where one still waits, since not
@@ -278,7 +356,7 @@ impl Partitions {
         for id in ids {
             let mut partition = self.of_job(*id);
             partition.is_whole |= taken < ids.len();
-            if let Some(Held::Out) = partition.held.get(id) {
+            if let Some(Held::Out(_)) = partition.held.get(id) {
                 partition.held.remove(id);
                 partition.waiting -= 1;
             }
@@ -324,26 +402,28 @@ impl Partitions {
         if partition.surely_until.map_or(true, |it| it <= Instant::now()) {
             return Beat::Doubtful;
         }
-        match self.clock.left_until(lease.written) {
-            left if left > 0 => Beat::Extended(left),
-            _ => Beat::Unwritten,
+        if self.clock.left_until(lease.written) > 0 {
+            Beat::Extended(lease.written)
+        } else {
+            Beat::Unwritten
         }
     }
 
-    /// An attempt has ended. What it held is let go; `waits_on` where the job waits again and is to be given out.
-    pub fn end(&self, id: i64, attempt: i32, waits_on: bool) -> bool {
+    /// An attempt has ended. What it held is let go, and true told where the job is out again as it waits now.
+    pub fn end(&self, id: i64, attempt: i32, again: Option<&Waiting>) -> bool {
         let mut partition = self.of_job(id);
         match partition.held.get(&id) {
             Some(held @ Held::Running(lease)) if lease.attempt == attempt => self.forget(held),
             _ => return false,
         }
-        if !waits_on || partition.term.is_none() {
-            partition.held.remove(&id);
-            return false;
+        partition.held.remove(&id);
+        let again = again.filter(|_| partition.term.is_some()).cloned();
+        let is_again = again.is_some();
+        if let Some(job) = again {
+            partition.held.insert(id, Held::Out(job));
+            partition.waiting += 1;
         }
-        partition.held.insert(id, Held::Out);
-        partition.waiting += 1;
-        true
+        is_again
     }
 
     /// The leases of some partitions that were extended since the table was told of them.
@@ -416,7 +496,7 @@ mod tests {
         assert_eq!((extended.len(), extended[0].id), (1, 1));
         it.note_written(&extended[0], 600_000_000);
         assert!(it.extended(&[1]).is_empty());
-        assert!(matches!(it.beat(1, 1, Duration::ZERO), Beat::Extended(500_000..=600_000)));
+        assert_eq!(it.beat(1, 1, Duration::ZERO), Beat::Extended(600_000_000));
         it.lose(1);
         assert!(it.queue.is_empty());
     }
@@ -429,8 +509,9 @@ mod tests {
         (0..=WAITING_ROOM).for_each(|id| it.note_waiting(job(2 * id)));
         it.note_waiting(job(1));
         assert_eq!((it.counts(), it.queue.len()), ((WAITING_ROOM + 1, 0), WAITING_ROOM + 1));
-        assert!(it.note_out(1).is_some() && it.note_out(1).is_none() && it.may_be_given(1));
+        assert!(it.note_out(1).is_some() && it.note_out(1).is_none() && it.may_be_given(1, ""));
+        assert!(!it.may_be_given(1, "mail"));
         it.lose(1);
-        assert!(!it.may_be_given(1));
+        assert!(!it.may_be_given(1, ""));
     }
 }

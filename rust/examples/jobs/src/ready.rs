@@ -1,20 +1,59 @@
-//! The jobs that are due and wait for a holder.
+//! The jobs that are due and wait for a holder, and the kinds of which none may be given out.
 
 use crate::partitions::{Partitions, Waiting};
 use crate::worker::Worker;
 use std::cmp::Reverse;
-use std::collections::{BTreeSet, HashMap};
+use std::collections::{BTreeSet, HashMap, HashSet};
 use std::sync::{Arc, Mutex, MutexGuard, PoisonError};
 use tokio::sync::mpsc::UnboundedReceiver;
 use tokio::sync::Notify;
 use tokio::time::{timeout_at, Instant};
 
+/// The most kinds that a worker tells the others, and what it says after them where it has more.
+const TOLD: usize = 100;
+pub const MORE: &str = "*";
+
 /// The order in which jobs of a kind are given out: by priority, due time and id.
 type Place = (Reverse<i16>, i64, i64);
 
+/// What the table says of kinds.
+#[derive(Default)]
+pub struct Kinds {
+    /// None of them may begin.
+    pub paused: Vec<String>,
+    /// Some at a time may run, which the table counts.
+    pub bounded: Vec<String>,
+    /// None of them may begin, since so many run.
+    full: Vec<String>,
+}
+
+impl Kinds {
+    /// As `READ` tells them, each behind a mark.
+    pub fn of(words: Vec<&str>) -> Kinds {
+        let mut kinds = Kinds::default();
+        for word in words {
+            let (mark, kind) = word.split_at(1);
+            let all = if mark == "-" { &mut kinds.paused } else { &mut kinds.bounded };
+            all.push(kind.to_owned());
+            if mark == "=" {
+                kinds.full.push(kind.to_owned());
+            }
+        }
+        kinds
+    }
+}
+
+#[derive(Default)]
+struct State {
+    jobs: HashMap<Arc<str>, BTreeSet<Place>>,
+    bounded: Vec<String>,
+    /// Of these kinds none is given out, until the table is read again.
+    closed: HashSet<String>,
+}
+
 #[derive(Default)]
 pub struct Ready {
-    jobs: Mutex<HashMap<Arc<str>, BTreeSet<Place>>>,
+    state: Mutex<State>,
     /// Wakes one of those who take any kind.
     filled: Notify,
     /// Wakes all who wait for some kinds, which each looks for.
@@ -25,25 +64,65 @@ impl Ready {
     pub fn push(&self, jobs: impl IntoIterator<Item = Waiting>) {
         let mut ready = self.enter();
         for it in jobs {
-            ready.entry(it.kind).or_default().insert((Reverse(it.priority), it.due, it.id));
+            ready.jobs.entry(it.kind).or_default().insert((Reverse(it.priority), it.due, it.id));
         }
         drop(ready);
+        self.wake();
+    }
+
+    fn wake(&self) {
         self.filled.notify_one();
         self.filled_for_kinds.notify_waiters();
     }
 
-    fn enter(&self) -> MutexGuard<'_, HashMap<Arc<str>, BTreeSet<Place>>> {
-        self.jobs.lock().unwrap_or_else(PoisonError::into_inner)
+    fn enter(&self) -> MutexGuard<'_, State> {
+        self.state.lock().unwrap_or_else(PoisonError::into_inner)
     }
 
-    /// The kinds of which jobs wait for a holder, a hundred of them at most.
+    /// Keeps to what the table says of kinds.
+    pub fn keep_to(&self, kinds: &Kinds) {
+        let mut ready = self.enter();
+        kinds.paused.iter().for_each(|it| drop(ready.jobs.remove(&it[..])));
+        let closed: HashSet<String> = kinds.paused.iter().chain(&kinds.full).cloned().collect();
+        let has_opened = ready.closed.iter().any(|it| !closed.contains(it));
+        (ready.bounded, ready.closed) = (kinds.bounded.clone(), closed);
+        drop(ready);
+        if has_opened {
+            self.wake();
+        }
+    }
+
+    /// The kinds of which some at a time may run.
+    pub fn bounded(&self) -> Vec<String> {
+        self.enter().bounded.clone()
+    }
+
+    /// The table gave none of a job of a kind: where it is bounded, so many run.
+    pub fn note_refused(&self, kind: &str) {
+        let mut ready = self.enter();
+        if ready.bounded.iter().any(|it| it == kind) {
+            ready.closed.insert(kind.to_owned());
+        }
+    }
+
+    /// The kinds of which jobs wait for a holder: a hundred of them at most, and a word where there are more.
     pub fn kinds(&self) -> Vec<String> {
-        self.enter().keys().take(100).map(|it| it.to_string()).collect()
+        let ready = self.enter();
+        let mut kinds = ready.jobs.keys().filter(|it| !ready.closed.contains(&it[..])).map(|it| it.to_string());
+        let mut told: Vec<String> = kinds.by_ref().take(TOLD).collect();
+        told.extend(kinds.next().map(|_| MORE.to_owned()));
+        told
     }
 
     /// At most so many jobs of some kinds, of any where none is named, that may be given to a holder, and at least one
-    /// where one comes in time.
-    pub async fn take(&self, partitions: &Partitions, kinds: &[String], count: usize, until: Instant) -> Vec<i64> {
+    /// where one comes in time: the id of each, and its kind.
+    pub async fn take(
+        &self,
+        partitions: &Partitions,
+        kinds: &[String],
+        count: usize,
+        until: Instant,
+    ) -> Vec<(i64, Arc<str>)> {
         loop {
             // Before the look, so that what comes after the look is heard.
             let filled = if kinds.is_empty() { self.filled.notified() } else { self.filled_for_kinds.notified() };
@@ -56,20 +135,20 @@ impl Ready {
         }
     }
 
-    fn pop(&self, partitions: &Partitions, kinds: &[String], count: usize) -> Vec<i64> {
+    fn pop(&self, partitions: &Partitions, kinds: &[String], count: usize) -> Vec<(i64, Arc<str>)> {
         let mut ready = self.enter();
         let mut taken = Vec::new();
         while taken.len() < count {
-            let (kind, place) = match first(&ready, kinds) {
+            let (kind, place) = match ready.first(kinds) {
                 Some(first) => first,
                 None => break,
             };
-            remove(&mut ready, &kind, &place);
-            if partitions.may_be_given(place.2) {
-                taken.push(place.2);
+            ready.remove(&kind, &place);
+            if partitions.may_be_given(place.2, &kind) {
+                taken.push((place.2, kind));
             }
         }
-        if !ready.is_empty() && !taken.is_empty() {
+        if !ready.jobs.is_empty() && !taken.is_empty() {
             // One word may stand for many jobs: the next who waits is woken by who took some.
             self.filled.notify_one();
         }
@@ -77,19 +156,24 @@ impl Ready {
     }
 }
 
-/// The job that is given out first.
-fn first(ready: &HashMap<Arc<str>, BTreeSet<Place>>, kinds: &[String]) -> Option<(Arc<str>, Place)> {
-    let wanted = ready.iter().filter(|it| kinds.is_empty() || kinds.iter().any(|kind| kind[..] == it.0[..]));
-    let (kind, place) =
-        wanted.filter_map(|(kind, places)| Some((kind, places.iter().next()?))).min_by_key(|it| it.1)?;
-    Some((kind.clone(), *place))
-}
+impl State {
+    /// The job that is given out first.
+    fn first(&self, kinds: &[String]) -> Option<(Arc<str>, Place)> {
+        let is_wanted = |kind: &str| {
+            !self.closed.contains(kind) && (kinds.is_empty() || kinds.iter().any(|it| it[..] == *kind))
+        };
+        let wanted = self.jobs.iter().filter(|it| is_wanted(it.0));
+        let (kind, place) =
+            wanted.filter_map(|(kind, places)| Some((kind, places.iter().next()?))).min_by_key(|it| it.1)?;
+        Some((kind.clone(), *place))
+    }
 
-fn remove(ready: &mut HashMap<Arc<str>, BTreeSet<Place>>, kind: &Arc<str>, place: &Place) {
-    if let Some(places) = ready.get_mut(kind) {
-        places.remove(place);
-        if places.is_empty() {
-            ready.remove(kind);
+    fn remove(&mut self, kind: &Arc<str>, place: &Place) {
+        if let Some(places) = self.jobs.get_mut(kind) {
+            places.remove(place);
+            if places.is_empty() {
+                self.jobs.remove(kind);
+            }
         }
     }
 }

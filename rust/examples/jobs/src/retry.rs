@@ -1,14 +1,15 @@
 //! Brings dead jobs back: they wait again, with some attempts more. The numbers of their attempts go on, since holders
-//! of the old ones may still have a word.
+//! of the old ones may still have a word. And cancels jobs: those come back only by their ids.
 
 use crate::enqueue::connect;
-use crate::options::RetryOptions;
+use crate::options::{CancelOptions, RetryOptions};
 use std::error::Error;
 
-pub const RETRY: &str = "
+const RETRY: &str = "
 UPDATE jobs SET state = 'waiting', due = clock_timestamp(), attempts = attempt + $2::int
 WHERE id = ANY (ARRAY(
-    SELECT id FROM jobs j WHERE state = 'dead' AND ($1::bigint[] IS NULL OR id = ANY($1)) AND (
+    SELECT id FROM jobs j
+    WHERE state = 'dead' AND CASE WHEN $1::bigint[] IS NULL THEN error IS DISTINCT FROM 'cancelled' ELSE id = ANY($1) END AND (
         unique_key IS NULL OR NOT EXISTS (
             SELECT FROM jobs o
             WHERE o.kind = j.kind AND o.unique_key = j.unique_key AND o.state IN ('waiting', 'running')
@@ -29,5 +30,13 @@ pub async fn run(options: &RetryOptions) -> Result<(), Box<dyn Error>> {
         count += rows.len();
     }
     println!("{count} dead jobs wait again");
+    Ok(())
+}
+
+pub async fn cancel(options: &CancelOptions) -> Result<(), Box<dyn Error>> {
+    let session = connect(&options.database).await?;
+    let cancelled = "SELECT count(*) FROM unnest($1::bigint[]) id WHERE jobs_cancel(id)";
+    let count: i64 = session.query(cancelled, &[&options.ids]).await?[0].get(0);
+    println!("{count} jobs are cancelled");
     Ok(())
 }

@@ -1,15 +1,17 @@
 //! Serves holders. What a client sends in one go is answered together: all that are done by one statement, say.
 
 use crate::commands::{fenced, try_again, Attempt, Command};
-use crate::db::{tell, Error, Param};
+use crate::db::{tell, Param};
 use crate::effect::note_lateness;
-use crate::expiry::running;
+use crate::expiry::{adopt, running};
+use crate::fault::Error;
 use crate::partitions::{Beat, Running};
 use crate::redirect::redirect;
 use crate::resp::{Input, Reply};
 use crate::sql;
 use crate::worker::Worker;
-use std::collections::HashMap;
+use socket2::{SockRef, TcpKeepalive};
+use std::collections::{HashMap, HashSet};
 use std::io;
 use std::mem::discriminant;
 use std::sync::Arc;
@@ -29,6 +31,12 @@ const GUESS: Duration = Duration::from_millis(200);
 /// How often a worker looks whether others have jobs while a holder waits for one.
 const ELSEWHERE: Duration = Duration::from_millis(250);
 
+/// Where a client is silent for so long, its host is asked whether it still is there, so many times.
+fn keepalive() -> TcpKeepalive {
+    let (idle, interval) = (Duration::from_secs(300), Duration::from_secs(75));
+    TcpKeepalive::new().with_time(idle).with_interval(interval).with_retries(9)
+}
+
 pub async fn serve(worker: Arc<Worker>, listener: TcpListener) {
     let seats = Arc::new(Semaphore::new(worker.options.clients));
     loop {
@@ -42,6 +50,8 @@ pub async fn serve(worker: Arc<Worker>, listener: TcpListener) {
 async fn talk(worker: Arc<Worker>, mut stream: TcpStream, seat: Option<OwnedSemaphorePermit>) {
     // A reply that waits for a packet to fill would be late.
     let _ = stream.set_nodelay(true);
+    // Nobody would notice that a host has vanished.
+    let _ = SockRef::from(&stream).set_tcp_keepalive(&keepalive());
     match seat {
         None => drop(stream.write_all(b"-ERR max number of clients reached\r\n").await),
         Some(_seat) => {
@@ -80,7 +90,7 @@ impl Holder<'_> {
                 }
             }
             if commands.is_empty() && broken.is_none() {
-                if !self.input.read(stream).await? {
+                if !self.read(stream).await? {
                     return Ok(());
                 }
                 continue;
@@ -96,6 +106,15 @@ impl Holder<'_> {
             if ends {
                 return Ok(());
             }
+        }
+    }
+
+    /// Reads a piece. False where the client has ended, or says nothing for longer than it may.
+    async fn read(&mut self, stream: &mut TcpStream) -> io::Result<bool> {
+        let piece = self.input.read(stream);
+        match self.worker.options.timeout {
+            None => piece.await,
+            Some(limit) => timeout(limit, piece).await.unwrap_or(Ok(false)),
         }
     }
 
@@ -127,7 +146,7 @@ impl Holder<'_> {
                     }
                 }
             }
-            _ => commands.iter().for_each(|it| simple(it).write(&mut self.replies)),
+            _ => commands.iter().for_each(|it| simple(self.worker, it).write(&mut self.replies)),
         }
         Ok(())
     }
@@ -155,22 +174,22 @@ impl Holder<'_> {
         let until = Instant::now() + wait;
         let reply = loop {
             let look_again = until.min(Instant::now() + ELSEWHERE);
-            let ids = tokio::select! {
-                ids = worker.ready.take(&worker.partitions, kinds, count, look_again) => ids,
+            let jobs = tokio::select! {
+                jobs = worker.ready.take(&worker.partitions, kinds, count, look_again) => jobs,
                 _ = gone(stream) => return Err(io::ErrorKind::ConnectionAborted.into()),
                 _ = ending.changed() => Vec::new(),
             };
-            if ids.is_empty() && worker.is_ending() {
+            if jobs.is_empty() && worker.is_ending() {
                 break try_again("this worker drains");
             }
-            if ids.is_empty() {
+            if jobs.is_empty() {
                 match worker.elsewhere(kinds) {
                     Some(place) => break Reply::Error(format!("MOVED {place}")),
                     None if Instant::now() >= until => break Reply::Array(Vec::new()),
                     None => continue,
                 }
             }
-            let given = give(worker, &ids).await;
+            let given = give(worker, &jobs, kinds).await;
             // What was ready may be gone from the table: then the holder goes on waiting.
             if given != Reply::Array(Vec::new()) || Instant::now() >= until {
                 break given;
@@ -189,17 +208,21 @@ impl Holder<'_> {
         let mut beats: Vec<Beat> = attempts.iter().map(extend).collect();
         let is_unknown = |it: &(&Beat, &Attempt)| *it.0 == Beat::Unknown;
         let unknown: Vec<i64> = beats.iter().zip(attempts).filter(is_unknown).map(|it| it.1.id).collect();
+        let mut cancelled = HashSet::new();
         if !unknown.is_empty() {
-            crate::expiry::adopt(worker, &unknown).await;
+            cancelled = adopt(worker, &unknown).await;
             for (beat, it) in beats.iter_mut().zip(attempts).filter(|it| *it.0 == Beat::Unknown) {
                 *beat = extend(it);
             }
         }
         for (beat, it) in beats.into_iter().zip(attempts) {
             let reply = match beat {
-                Beat::Extended(millis) => {
+                Beat::Extended(until) => {
                     worker.metrics.beats.add(1);
-                    Reply::Integer(millis)
+                    Reply::Integer(until / 1_000)
+                }
+                Beat::Unknown if cancelled.contains(&(it.id, it.attempt)) => {
+                    Reply::Error(format!("CANCELLED job {} was cancelled", it.id))
                 }
                 Beat::Doubtful => {
                     try_again("the database doesn't answer: whether this worker still has the job isn't known")
@@ -255,7 +278,7 @@ impl Holder<'_> {
                 None => refuse(self.worker, *it),
             };
             if ended.get(&it.id) != Some(&false) {
-                self.worker.partitions.end(it.id, it.attempt, false);
+                self.worker.partitions.end(it.id, it.attempt, None);
             }
             reply.write(&mut self.replies);
         }
@@ -273,32 +296,42 @@ fn refuse(worker: &Worker, it: Attempt) -> Reply {
     fenced(it)
 }
 
-/// Gives jobs out that are ready, as far as the table has them.
-async fn give(worker: &Worker, ids: &Vec<i64>) -> Reply {
-    let lease = worker.options.lease.as_secs_f64();
-    let answer = worker.links.query(sql::TAKE, &[&worker.number, &worker.partitions.terms(), ids, &lease]).await;
+/// Gives jobs out that are ready, as far as the table has them as some of these kinds.
+async fn give(worker: &Worker, jobs: &[(i64, Arc<str>)], kinds: &[String]) -> Reply {
+    let ids: Vec<i64> = jobs.iter().map(|it| it.0).collect();
+    let (lease, bounded) = (worker.options.lease.as_secs_f64(), worker.ready.bounded());
+    let asked: Vec<&String> = bounded.iter().filter(|it| jobs.iter().any(|job| job.1[..] == it[..])).collect();
+    let params: [Param<'_>; 6] = [&worker.number, &worker.partitions.terms(), &ids, &lease, &kinds, &asked];
+    let answer = worker.links.query(sql::TAKE, &params).await;
     let reply = match &answer {
-        Ok(rows) => Reply::Array(rows.iter().map(|row| given(worker, row)).collect()),
+        Ok(rows) => {
+            let taken: HashSet<i64> = rows.iter().map(|row| row.get(0)).collect();
+            jobs.iter().filter(|it| !taken.contains(&it.0)).for_each(|it| worker.ready.note_refused(&it.1));
+            Reply::Array(rows.iter().map(|row| given(worker, row)).collect())
+        }
         Err(error) => try_again(&error.to_string()),
     };
-    worker.partitions.note_asked(ids, answer.map_or(0, |rows| rows.len()));
+    worker.partitions.note_asked(&ids, answer.map_or(0, |rows| rows.len()));
     reply
 }
 
-/// What a holder is told of a job: its id, its attempt, the milliseconds of its lease, and its payload.
+/// What a holder is told of a job: its id, its attempt, the end of its lease in milliseconds since 1970, and its payload.
 fn given(worker: &Worker, row: &Row) -> Reply {
     let it: Running = running(row);
     worker.partitions.note_running(&it, Duration::ZERO);
     worker.metrics.taken.add(1);
     note_lateness(worker, row.get(4), row.get(5), it.attempt);
-    let left = worker.clock.left_until(it.lease_until);
     let payload: String = row.get(3);
-    let numbers = [it.id, it.attempt.into(), left].map(Reply::Integer);
+    let numbers = [it.id, it.attempt.into(), it.lease_until / 1_000].map(Reply::Integer);
     Reply::Array(numbers.into_iter().chain([Reply::Bulk(payload.into_bytes())]).collect())
 }
 
-fn simple(command: &Command) -> Reply {
+fn simple(worker: &Worker, command: &Command) -> Reply {
     match command {
+        Command::Time => {
+            let now = worker.clock.now();
+            Reply::Array([now / 1_000_000, now % 1_000_000].map(|it| Reply::Bulk(it.to_string().into_bytes())).into())
+        }
         Command::Ping => Reply::Status("PONG"),
         Command::Commands => Reply::Array(Vec::new()),
         Command::Refused(why) => Reply::Error(why.clone()),

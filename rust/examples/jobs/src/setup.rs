@@ -1,6 +1,7 @@
 //! Makes the tables, and changes those of an older program: step by step, without keeping inserts waiting.
 
-use crate::db::{deaf, meet, tell, Database, Delay, Error as DbError, Session};
+use crate::db::{deaf, meet, tell, Database, Delay, Session};
+use crate::fault::{Asked, Error as DbError, Whose};
 use crate::options::SetupOptions;
 use std::error::Error;
 use std::sync::Arc;
@@ -8,7 +9,8 @@ use std::time::{Duration, Instant};
 use tokio_postgres::error::SqlState;
 
 /// What changes the tables of the version before into those of each version.
-const VERSIONS: [&str; 2] = [include_str!("schema/1.sql"), include_str!("schema/2.sql")];
+const VERSIONS: [&str; 3] =
+    [include_str!("schema/1.sql"), include_str!("schema/2.sql"), include_str!("schema/3.sql")];
 /// The least version of PostgreSQL that has all that the statements want.
 const LEAST: u32 = 14;
 /// How many partitions there are where nobody says another number: it stands for it in the steps.
@@ -51,7 +53,7 @@ pub async fn run(SetupOptions { mut database, partitions }: SetupOptions) -> Res
     if let Some(schema) = &database.schema {
         let stands: bool = session.query("SELECT to_regnamespace($1) IS NOT NULL", &[schema]).await?[0].get(0);
         if !stands {
-            insist(&session, &format!("CREATE SCHEMA {schema}")).await?;
+            insist(&session, &format!("CREATE SCHEMA \"{schema}\"")).await?;
         }
     }
     // Two that set up at a time: one waits, without a snapshot that an index would wait for in turn.
@@ -124,7 +126,7 @@ pub async fn check(database: &Database) -> Result<usize, Box<dyn Error>> {
     let (stands, count) = loop {
         match stands(database).await {
             Ok(stands) => break stands?,
-            Err(error) if error.is_passing() => {
+            Err(error) if error.whose(Asked::Own) == Whose::Connection => {
                 tell(format_args!("tried again after {:?}: {error}", delay.wait().await));
             }
             Err(error) if error.code() == Some(&SqlState::UNDEFINED_TABLE) => {

@@ -29,9 +29,10 @@ macro_rules! free {
     };
 }
 
-/// What waits in some partitions, is due since a time of each and within a horizon, with the clock, the number of
-/// workers and of those before this one, the partitions that nobody owns, the terms of this worker and the others that have jobs for holders, so
-/// that a worker with nothing to do asks for one thing alone.
+/// What waits in some partitions, is due since a time of each and within a horizon and isn't of some kinds, with the clock,
+/// the number of workers and of those before this one, the partitions that nobody owns, the terms of this worker, the others
+/// that have jobs for holders, and the kinds that are paused or bounded, and whether more of them may run, so that a worker
+/// with nothing to do asks for one thing alone.
 pub const READ: &str = concat!(
     "
 SELECT clock_timestamp() - pg_postmaster_start_time() < interval '3 seconds',
@@ -48,6 +49,9 @@ SELECT clock_timestamp() - pg_postmaster_start_time() < interval '3 seconds',
             SELECT partition FROM jobs_partitions WHERE owner = w.worker ORDER BY partition LIMIT 1
         ) p ON true WHERE w.worker <> $1 AND w.ready <> '{}' AND w.until > now()),
     waiting.ids, waiting.dues, waiting.priorities, waiting.kinds,
+    (SELECT coalesce(array_agg(CASE WHEN paused THEN '-' WHEN at_most > (
+            SELECT count(*) FROM jobs WHERE state = 'running' AND jobs.kind = k.kind
+        ) THEN '<' ELSE '=' END || kind), '{}') FROM jobs_kinds k WHERE paused OR at_most IS NOT NULL),
     -- When all else of the answer is known.
     clock_timestamp()
 FROM (
@@ -56,22 +60,27 @@ FROM (
     FROM unnest($2::smallint[], $6::timestamptz[]) AS p(partition, since) CROSS JOIN LATERAL (
         SELECT id, due, priority, kind FROM jobs
         WHERE state = 'waiting' AND jobs.partition = p.partition AND due >= p.since
-            AND due < now() + $3::float8 * interval '1 second'
+            AND due < now() + $3::float8 * interval '1 second' AND kind <> ALL ($7::text[])
         ORDER BY due LIMIT $4::bigint
     ) j
 ) waiting"
 );
 
-/// The worker lives, and its terms go on.
+/// Tells who keeps this worker from coming, where one does.
+pub const ENTER: &str = "SELECT jobs_enter($1::bigint, $2::text, $3::text, $4::float8)";
+/// The worker lives, and its terms go on. One that was silent for too long has to come again.
 pub const RENEW: &str = "
 WITH living AS (
-    INSERT INTO jobs_workers (worker, name, address, pid, ready, until)
-    VALUES ($1::bigint, $2::text, $3::text, pg_backend_pid(), $5::text[], now() + $4::float8 * interval '1 second')
-    ON CONFLICT (worker) DO UPDATE SET pid = EXCLUDED.pid, ready = EXCLUDED.ready, until = EXCLUDED.until
+    UPDATE jobs_workers SET pid = pg_backend_pid(), ready = $3::text[], until = now() + $2::float8 * interval '1 second'
+    WHERE worker = $1::bigint AND until > now()
+    RETURNING worker
+), renewed AS (
+    UPDATE jobs_partitions SET until = now() + $2::float8 * interval '1 second'
+    WHERE EXISTS (SELECT FROM living)
+        AND partition = ANY (ARRAY(SELECT partition FROM jobs_partitions WHERE owner = $1 FOR NO KEY UPDATE SKIP LOCKED))
+    RETURNING partition, term
 )
-UPDATE jobs_partitions SET until = now() + $4::float8 * interval '1 second'
-WHERE partition = ANY (ARRAY(SELECT partition FROM jobs_partitions WHERE owner = $1 FOR NO KEY UPDATE SKIP LOCKED))
-RETURNING partition, term";
+SELECT EXISTS (SELECT FROM living), coalesce(array_agg(partition), '{}'), coalesce(array_agg(term), '{}') FROM renewed";
 
 /// Takes partitions that nobody owns any more: a term begins.
 pub const TAKE_PARTITIONS: &str = concat!(
@@ -95,28 +104,37 @@ WHERE partition = ANY (ARRAY(
 ))";
 /// The worker has ended.
 pub const LEAVE: &str = "DELETE FROM jobs_workers WHERE worker = $1::bigint";
-/// The address of the worker that owns a partition.
+/// The address of the worker that owns a partition and serves holders.
 pub const OWNER: &str = "
 SELECT w.address FROM jobs_partitions p JOIN jobs_workers w ON w.worker = p.owner
-WHERE p.partition = $1::smallint AND p.until > now()";
+WHERE p.partition = $1::smallint AND p.until > now() AND w.address <> '-'";
 
 /// The leases of some partitions: all of them, or those that have ended.
 pub const LEASES: &str = "
 SELECT id, attempt, lease_until FROM jobs
 WHERE state = 'running' AND partition = ANY($1::smallint[]) AND ($2::bool OR lease_until <= now())";
-/// The leases of some jobs.
+/// The leases of some jobs, and those that were cancelled, which have none.
 pub const LEASES_OF: &str = "
-SELECT id, attempt, lease_until FROM jobs WHERE state || '' = 'running' AND id = ANY($1::bigint[])";
+SELECT id, attempt, lease_until FROM jobs
+WHERE id = ANY($1::bigint[]) AND (state || '' = 'running' OR state || '' = 'dead' AND error = 'cancelled')";
 
-/// Gives jobs out, each with a lease: as many as begin within the first 4 MiB of their payloads.
+/// Gives jobs out that are of some kinds, of any where none is named, each with a lease: as many as begin within the first
+/// 4 MiB of their payloads, and of some kinds as many as may run.
 pub const TAKE: &str = concat!(
     "
 WITH sized AS MATERIALIZED (
-    SELECT id, sum(octet_length(payload)) OVER (ORDER BY due, id) - octet_length(payload) AS begins FROM jobs
+    SELECT id, kind, sum(octet_length(payload)) OVER (ORDER BY due, id) - octet_length(payload) AS begins,
+        row_number() OVER (PARTITION BY kind ORDER BY priority DESC, due, id) AS place
+    FROM jobs
     WHERE id = ANY($3::bigint[]) AND state || '' = 'waiting' AND due <= now()
+        AND ($5::text[] = '{}' OR kind = ANY($5::text[]))
+), bounded AS MATERIALIZED (
+    SELECT kind, jobs_room(kind) AS room FROM unnest($6::text[]) kind
 ), free AS MATERIALIZED (
     SELECT id FROM jobs
-    WHERE id = ANY (ARRAY(SELECT id FROM sized WHERE begins < 4194304)) AND state || '' = 'waiting' AND due <= now()
+    WHERE id = ANY (ARRAY(
+            SELECT id FROM sized LEFT JOIN bounded USING (kind) WHERE begins < 4194304 AND place <= coalesce(room, place)
+        )) AND state || '' = 'waiting' AND due <= now()
         AND partition = ",
     owned!(),
     "
@@ -128,12 +146,16 @@ WHERE id = ANY (ARRAY(SELECT id FROM free))
 RETURNING id, attempt, lease_until, payload, started, due"
 );
 
-/// Begins the statement that takes jobs and has an effect at once; the effect stands within.
+/// Begins the statement that takes jobs and has an effect at once; the effect stands within. Of a kind that is bounded one
+/// statement at a time has effects, one after another.
 pub const BEGIN_EFFECT: &str = concat!(
     "
-WITH jobs_free AS MATERIALIZED (
+WITH jobs_open AS MATERIALIZED (
+    SELECT kind FROM jobs_kinds WHERE kind = ANY($4::text[]) FOR NO KEY UPDATE SKIP LOCKED
+), jobs_free AS MATERIALIZED (
     SELECT id FROM jobs
     WHERE id = ANY($3::bigint[]) AND state || '' = 'waiting' AND due <= now()
+        AND (kind <> ALL ($4::text[]) OR kind = ANY (ARRAY(SELECT kind FROM jobs_open)))
         AND partition = ",
     owned!(),
     "

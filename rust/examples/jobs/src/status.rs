@@ -1,7 +1,8 @@
 //! What an operator wants to see, from the database alone.
 
-use crate::db::{Database, Error as DbError, Session};
+use crate::db::{Database, Session};
 use crate::enqueue::connect;
+use crate::fault::Error as DbError;
 use std::error::Error;
 use tokio_postgres::Row;
 

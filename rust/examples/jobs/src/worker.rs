@@ -7,17 +7,16 @@ use crate::expiry;
 use crate::metrics::Metrics;
 use crate::options::WorkerOptions;
 use crate::owner;
-use crate::page::Page;
 use crate::partitions::{Due, Partitions, Waiting};
-use crate::ready::Ready;
+use crate::ready::{Ready, MORE};
 use crate::redirect::Redirects;
-use crate::{chores, leases, scrape, server, setup, sql};
+use crate::{chores, fault, leases, scrape, server, setup, sql};
 use std::collections::hash_map::RandomState;
 use std::error::Error;
 use std::hash::{BuildHasher, Hasher};
 use std::io;
 use std::net::SocketAddr;
-use std::sync::atomic::{AtomicBool, Ordering::SeqCst};
+use std::sync::atomic::{AtomicBool, AtomicUsize, Ordering::SeqCst};
 use std::sync::{Arc, Mutex, PoisonError};
 use tokio::net::TcpListener;
 use tokio::signal::unix::{signal, Signal, SignalKind};
@@ -42,7 +41,9 @@ pub struct Worker {
     pub address: String,
     /// True from the moment that it ends.
     pub ending: watch::Receiver<bool>,
-    elsewhere: Mutex<Vec<String>>,
+    elsewhere: Mutex<Vec<Place>>,
+    /// How often a holder was to be sent elsewhere.
+    turn: AtomicUsize,
     /// Rung when the partitions are to be let go.
     pub is_released: Notify,
     released: AtomicBool,
@@ -65,6 +66,7 @@ impl Worker {
             address,
             ending,
             elsewhere: Mutex::new(Vec::new()),
+            turn: AtomicUsize::new(0),
             is_released: Notify::new(),
             released: AtomicBool::new(false),
             options,
@@ -86,20 +88,36 @@ impl Worker {
     }
 
     /// A partition and the address of its worker, which has jobs of some kinds, of any where none is named, that are
-    /// ready and wait for holders.
+    /// ready and wait for holders. Those that have more kinds than they tell are named in turn, and after all of them
+    /// none.
     pub fn elsewhere(&self, kinds: &[String]) -> Option<String> {
         let places = self.elsewhere.lock().unwrap_or_else(PoisonError::into_inner);
-        let has = |it: &&String| {
-            let ready = it.rsplit('/').next().unwrap_or_default();
-            kinds.is_empty() || ready.split(' ').any(|kind| kinds.iter().any(|it| it == kind))
+        let turn = self.turn.fetch_add(1, SeqCst);
+        let of = |kinds: &[String]| -> Vec<&Place> {
+            places.iter().filter(|it| kinds.is_empty() || it.ready.iter().any(|it| kinds.contains(it))).collect()
         };
-        places.iter().find(has).and_then(|it| Some(it.rsplit_once('/')?.0.to_owned()))
+        let (ready, more) = (of(kinds), of(&[MORE.to_owned()]));
+        let place = ready.get(turn % ready.len().max(1)).or_else(|| more.get(turn % (more.len() + 1)));
+        place.map(|it| it.at.clone())
     }
 
     /// What `READ` has said of other workers: partition, address, a slash and kinds.
-    pub fn note_elsewhere(&self, places: Vec<String>) {
+    pub fn note_elsewhere(&self, places: Vec<&str>) {
+        let place = |it: &str| {
+            let (at, ready) = it.rsplit_once('/')?;
+            Some(Place { at: at.to_owned(), ready: ready.split(' ').map(str::to_owned).collect() })
+        };
+        let places = places.into_iter().filter_map(place).collect();
         *self.elsewhere.lock().unwrap_or_else(PoisonError::into_inner) = places;
     }
+}
+
+/// Another worker that has jobs for holders.
+struct Place {
+    /// One of its partitions, and its address.
+    at: String,
+    /// The kinds of these jobs.
+    ready: Vec<String>,
 }
 
 /// Takes out what is due, until the worker ends.
@@ -130,10 +148,10 @@ pub async fn run(options: WorkerOptions) -> Result<(), Box<dyn Error>> {
         Some(_) => None,
         None => Some(bind(options.listen).await?),
     };
-    let address = match (&options.announce, &listener) {
-        (Some(address), _) => address.clone(),
-        (None, Some(listener)) => listener.local_addr()?.to_string(),
-        (None, None) => "-".to_owned(),
+    let address = match (&listener, &options.announce) {
+        (None, _) => "-".to_owned(),
+        (Some(_), Some(address)) => address.clone(),
+        (Some(listener), None) => listener.local_addr()?.to_string(),
     };
     let worker = Arc::new(Worker::new(options, address, ending));
     tell(format_args!("worker {} at {}", worker.options.name, worker.address));
@@ -143,9 +161,12 @@ pub async fn run(options: WorkerOptions) -> Result<(), Box<dyn Error>> {
         Some(effect) => effect::statement(&worker.links, sql::BEGIN_EFFECT, effect).await?,
         None => String::new(),
     };
-    let tasks = begin(&worker, listener, statement.into());
+    let mut tasks = begin(&worker, listener, statement.into());
     let mut signals = Signals::new()?;
-    signals.next().await;
+    tokio::select! {
+        _ = signals.next() => {}
+        ended = &mut tasks.owner => return Ok(ended??),
+    }
     tell(format_args!("worker {} drains", worker.options.name));
     end.send(true)?;
     worker.partitions.queue.close();
@@ -162,15 +183,10 @@ async fn bind(address: SocketAddr) -> Result<TcpListener, String> {
     TcpListener::bind(address).await.map_err(|error| format!("{address}: {error}"))
 }
 
-/// Serves its numbers and its page, where they are wanted.
+/// Serves its numbers, where they are wanted.
 async fn watched(worker: &Arc<Worker>) -> Result<(), Box<dyn Error>> {
     if let Some(address) = worker.options.metrics {
-        tokio::spawn(scrape::serve(worker.clone(), bind(address).await?, None));
-    }
-    if let Some(address) = worker.options.http {
-        let listener = bind(address).await?;
-        let page = Page::new(listener.local_addr()?);
-        tokio::spawn(scrape::serve(worker.clone(), listener, Some(page)));
+        tokio::spawn(scrape::serve(worker.clone(), bind(address).await?));
     }
     Ok(())
 }
@@ -179,7 +195,7 @@ struct Tasks {
     keeper: std::thread::JoinHandle<()>,
     jobs: tokio::task::JoinHandle<()>,
     expiry: tokio::task::JoinHandle<()>,
-    owner: tokio::task::JoinHandle<()>,
+    owner: tokio::task::JoinHandle<Result<(), fault::Error>>,
 }
 
 fn begin(worker: &Arc<Worker>, listener: Option<TcpListener>, effect: Arc<str>) -> Tasks {

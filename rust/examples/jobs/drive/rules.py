@@ -1,0 +1,285 @@
+"""What the tables' rules do: kinds that are paused, bounded, many or changed, jobs that are cancelled or deleted, workers of two
+sorts, holders that are silent, and names and numbers as long as they may be."""
+import subprocess
+import time
+
+from cluster import EFFECT, HANG, LONG, WAIT, cluster, empty, end, exactly_once, free_port, run, wait_for
+from holder import Connection, Refusal
+from leases import metric
+
+
+def serving(it, *words, **more):
+    """A worker that serves holders, and its address."""
+    address = f"127.0.0.1:{free_port()}"
+    worker = it.spawn("worker", "--listen", address, "--lease", LONG, *words, **more)
+    wait_for(lambda: it.number(f"SELECT count(*) FROM jobs_partitions p JOIN jobs_workers w ON w.worker = p.owner WHERE w.address = '{address}'"))
+    return worker, address
+
+
+def sorts(it):
+    """A worker that has an effect isn't begun beside one that serves holders, nor the other way round."""
+    empty(it)
+    worker, address = serving(it)
+    other = it.spawn("worker", "--effect", EFFECT, log="refused")
+    assert other.wait(HANG) == 1 and f"worker at {address} works at this table" in it.logged("refused")
+    end(worker)
+    both = [it.spawn("worker", *words) for words in (["--effect", EFFECT], ["--listen", f"127.0.0.1:{free_port()}"])]
+    wait_for(lambda: [worker.poll() for worker in both].count(1) == 1)
+    (left,) = [worker for worker in both if worker.poll() is None]
+    it.wait_for_owners(1)
+    # It stands still until its terms are over, and another of the other sort comes meanwhile: awake it ends.
+    left.send_signal(subprocess.signal.SIGSTOP)
+    words = ["--effect", EFFECT] if left is both[1] else ["--listen", f"127.0.0.1:{free_port()}"]
+    new = it.spawn("worker", *words)
+    it.wait_for_number(f"SELECT count(*) FROM jobs_workers WHERE until > now() AND (address = '-') = {left is both[1]}", 1)
+    left.send_signal(subprocess.signal.SIGCONT)
+    wait_for(lambda: left.poll() == 1)
+    it.wait_for_owners(1)
+    end(new)
+    print("rules: of two workers of both sorts one was refused, and one that had stood still, once it was awake", flush=True)
+
+
+def follow(address, *words):
+    """The answer of whoever is named last, and how often another was named."""
+    for moved in range(1000):
+        reply = Connection(address).call(*words)
+        if not (isinstance(reply, Refusal) and reply.startswith("MOVED ")):
+            return reply, moved
+        address = reply.split()[2]
+    raise AssertionError(f"{words}: nobody")
+
+
+def many_kinds(it):
+    """Three workers and 400 kinds: a holder that asks one worker has each kind."""
+    empty(it)
+    workers, addresses = zip(*[serving(it) for _ in range(3)])
+    it.wait_for_owners(3)
+    it.sql("INSERT INTO jobs (kind) SELECT 'k' || i FROM generate_series(1, 400) i")
+    kinds, moved = [f"k{number}" for number in range(1, 401)], 0
+
+    def all_given():
+        """each kind is given"""
+        nonlocal moved
+        for kind in list(kinds):
+            reply, more = follow(addresses[0], "JOBS.TAKE", 1, "KIND", kind)
+            moved += more
+            if reply and not isinstance(reply, Refusal):
+                kinds.remove(kind)
+        return not kinds
+
+    wait_for(all_given)
+    end(*workers)
+    print(f"rules: a holder that asked one of three workers had each of 400 kinds, sent on {moved} times", flush=True)
+
+
+def silent(it):
+    """A silent holder is closed where it is told so, and the system asks whether its host is there."""
+    empty(it)
+    worker, address = serving(it, "--clients", "2", "--timeout", "500")
+    held = [Connection(address) for _ in range(2)]
+    port = address.split(":")[1]
+    asked = subprocess.run(["ss", "-tno", f"sport = :{port}"], capture_output=True, text=True, check=True).stdout
+    assert asked.count("timer:(keepalive") == 2, asked
+    wait_for(lambda: Connection(address).call("PING") == "PONG")
+    del held
+    # Who waits for a job isn't silent.
+    assert Connection(address).call("JOBS.TAKE", 1, "WAIT", 1500) == []
+    end(worker)
+    print("rules: two silent holders were closed, and others had their places", flush=True)
+
+
+def ends(it):
+    """A holder is told the end of its lease as the table has it, by the database's clock."""
+    empty(it)
+    worker, address = serving(it, "--write-every", "300")
+    it.jobs("enqueue", "1")
+    asks = Connection(address)
+    ((id, attempt, until, _),) = asks.call("JOBS.TAKE", 1, "WAIT", WAIT)
+    table = "SELECT extract(epoch FROM lease_until) * 1000 FROM jobs"
+    assert it.number(table) == until
+    seconds, micros = map(int, asks.call("TIME"))
+    assert abs(it.number("SELECT extract(epoch FROM clock_timestamp())") - seconds - micros / 1e6) < HANG
+    wait_for(lambda: asks.call("JOBS.BEAT", id, attempt) > until)
+    told = asks.call("JOBS.BEAT", id, attempt)
+    assert told <= it.number(table)
+    # A deleted job is nobody's, also where the worker hears it from its own write alone.
+    it.sql("DELETE FROM jobs")
+    wait_for(lambda: str(asks.call("JOBS.BEAT", id, attempt)).startswith("FENCED"))
+    end(worker)
+    print("rules: a holder was told the end of its lease as the table has it, and that its job was deleted", flush=True)
+
+
+def cancelled(it):
+    """A job is cancelled while it waits, runs, or is over."""
+    empty(it)
+    worker, address = serving(it, "--write-every", str(int(LONG) // 2))
+    it.sql("INSERT INTO jobs (due) SELECT now() + i * interval '1 hour' FROM generate_series(0, 1) i")
+    asks = Connection(address)
+    ((id, attempt, *_),) = asks.call("JOBS.TAKE", 1, "WAIT", WAIT)
+    assert asks.call("JOBS.BEAT", id, attempt) > 0
+    assert it.jobs("cancel", f"{id},{id + 1},{id + 2}") == "2 jobs are cancelled\n"
+    # No lease is written meanwhile: it was told by a notification.
+    wait_for(lambda: asks.call("JOBS.BEAT", id, attempt) == f"CANCELLED job {id} was cancelled")
+    assert asks.call("JOBS.DONE", id, attempt).startswith("FENCED")
+    assert it.sql("SELECT DISTINCT state, error FROM jobs") == [["dead", "cancelled"]]
+    assert it.jobs("cancel", f"{id}") == "0 jobs are cancelled\n"
+    assert it.jobs("retry", "all") == "0 dead jobs wait again\n"
+    assert it.jobs("retry", f"{id}") == "1 dead jobs wait again\n"
+    (((again, *_),),) = [asks.call("JOBS.TAKE", 1, "WAIT", WAIT)]
+    assert again == id
+    end(worker)
+    print("rules: a job that ran and one that waited were cancelled, and the holder told", flush=True)
+
+
+def changed_kind(it):
+    """A job whose kind is changed goes to holders of the new one, whether it is in memory already or not."""
+    empty(it)
+    metrics = free_port()
+    worker, address = serving(it, "--metrics", f"127.0.0.1:{metrics}")
+    it.sql("INSERT INTO jobs (kind) SELECT 'old' FROM generate_series(1, 5)")
+    wait_for(lambda: metric(metrics, "jobs_indexed") == 5)
+    it.sql("UPDATE jobs SET kind = 'new'")
+    asks = Connection(address)
+    assert asks.call("JOBS.TAKE", 5, "KIND", "old") == []
+    got = []
+    wait_for(lambda: got.extend(asks.call("JOBS.TAKE", 5, "WAIT", 1000, "KIND", "new")) or len(got) == 5)
+    assert asks.call("JOBS.TAKE", 5, "KIND", "old") == []
+    end(worker)
+    print("rules: five jobs whose kind was changed went to a holder of the new one", flush=True)
+
+
+def paused(it):
+    """Jobs of a paused kind wait, however many are due before others, and go on after it."""
+    for effect in (True, False):
+        empty(it)
+        it.sql("DELETE FROM jobs_kinds; INSERT INTO jobs_kinds (kind, paused) VALUES ('slow', true)")
+        # More than a worker holds in memory.
+        it.sql(
+            "INSERT INTO jobs (kind, due) SELECT 'slow', now() - interval '1 hour' FROM generate_series(1, 200000); "
+            "INSERT INTO jobs (kind) SELECT 'quick' FROM generate_series(1, 50)"
+        )
+        if effect:
+            worker = it.spawn("worker", "--effect", EFFECT)
+            exactly_once(it, 50)
+        else:
+            worker, address = serving(it)
+            asks, got = Connection(address), []
+            wait_for(lambda: got.extend(asks.call("JOBS.TAKE", 50, "WAIT", 1000)) or len(got) == 50)
+        assert it.sql("SELECT DISTINCT state, attempt FROM jobs WHERE kind = 'slow'") == [["waiting", "0"]]
+        it.sql("DELETE FROM jobs WHERE kind = 'slow' AND id % 100 <> 0; UPDATE jobs_kinds SET paused = false")
+        left = it.number("SELECT count(*) FROM jobs WHERE kind = 'slow'")
+        if effect:
+            exactly_once(it, 50 + int(left))
+        else:
+            wait_for(lambda: got.extend(asks.call("JOBS.TAKE", 100, "WAIT", 1000)) or len(got) == 50 + left)
+        # What is paused while it stands in memory isn't given either.
+        it.sql("UPDATE jobs_kinds SET paused = true")
+        it.sql("INSERT INTO jobs (kind) VALUES ('slow'), ('quick')")
+        it.wait_for_number("SELECT count(*) FROM jobs WHERE kind = 'quick' AND state <> 'waiting'", 50 if not effect else 51)
+        assert it.number("SELECT count(*) FROM jobs WHERE kind = 'slow' AND state = 'waiting'") == 1
+        end(worker)
+    it.sql("DELETE FROM jobs_kinds")
+    print("rules: 200,000 jobs of a paused kind kept no other, and went on after it", flush=True)
+
+
+def bounded(it):
+    """So many jobs of a kind run at a time over all workers, and those that wait keep no other."""
+    empty(it)
+    it.sql(
+        "INSERT INTO jobs_kinds (kind, at_most) VALUES ('slow', 3); "
+        "INSERT INTO jobs (kind, due) SELECT 'slow', now() - interval '1 hour' FROM generate_series(1, 200000); "
+        "INSERT INTO jobs (kind) SELECT 'quick' FROM generate_series(1, 50)"
+    )
+    workers, addresses = zip(*[serving(it) for _ in range(2)])
+    it.wait_for_owners(2)
+    slow, quick, most = [], [], 0
+    over = 0
+
+    def all_had():
+        """the quick ones and some of the slow are done"""
+        nonlocal over, most
+        for address in addresses:
+            jobs = Connection(address).call("JOBS.TAKE", 20, "WAIT", 100)
+            if isinstance(jobs, list):
+                kinds = dict(it.sql("SELECT id, kind FROM jobs WHERE state = 'running'"))
+                slow.extend((address, *job[:2]) for job in jobs if kinds[str(job[0])] == "slow")
+                quick.extend(job for job in jobs if kinds[str(job[0])] == "quick")
+        most = max(most, it.number("SELECT count(*) FROM jobs WHERE kind = 'slow' AND state = 'running'"))
+        if len(slow) == 3:
+            for address, *attempt in slow:
+                reply = follow(address, "JOBS.DONE", *attempt)[0]
+                assert reply == "OK", reply
+            over += 3
+            slow.clear()
+        return len(quick) == 50 and over >= 12
+
+    wait_for(all_had)
+    assert most == 3, most
+    end(*workers)
+    # A worker that has an effect has one statement of the kind at a time.
+    empty(it)
+    it.sql("CREATE TABLE at_once (job bigint, others bigint)")
+    effect = (
+        "INSERT INTO at_once SELECT id, (SELECT count(*) FROM pg_locks WHERE locktype = 'advisory' AND classid = 77) "
+        "FROM taken, LATERAL (SELECT pg_try_advisory_xact_lock(77, id::int), pg_sleep(0.01)) it"
+    )
+    it.sql("INSERT INTO jobs (kind, due) SELECT 'slow', now() + i * interval '2 ms' FROM generate_series(1, 300) i")
+    workers = [it.spawn("worker", "--effect", effect) for _ in range(2)]
+    it.wait_for_number("SELECT count(*) FROM jobs WHERE state = 'done'", 300)
+    assert it.number("SELECT count(DISTINCT job) FROM at_once") == 300
+    end(*workers)
+    it.sql("DELETE FROM jobs_kinds")
+    print(f"rules: {most:.0f} of a bounded kind ran at a time, and 50 others beside 200,000 of it", flush=True)
+
+
+def long_names(it):
+    """A schema whose name is a word of SQL, and jobs whose ids and kinds are as long as they may be."""
+    it.jobs("setup", "--schema", "select")
+    it.sql(
+        'ALTER TABLE "select".jobs ALTER COLUMN id RESTART WITH 9000000000000000000; '
+        "INSERT INTO \"select\".jobs (kind) SELECT repeat('k', 40) FROM generate_series(1, 100)"
+    )
+    worker = it.spawn("worker", "--schema", "select", "--effect", "SELECT FROM taken")
+    it.wait_for_number("SELECT count(*) FROM \"select\".jobs WHERE state = 'done'", 100)
+    end(worker)
+    print("rules: the schema select has jobs whose ids have 19 digits and whose kinds 40 letters", flush=True)
+
+
+def pruned(it):
+    """Jobs that are dead for long are pruned, also where nothing is said of it, and done ones only where it is."""
+    empty(it)
+    it.sql(
+        "INSERT INTO jobs (state, due, ended) SELECT state, now(), now() - days * interval '1 day' "
+        "FROM unnest(ARRAY['dead', 'done']) state, unnest(ARRAY[89, 91]) days"
+    )
+    worker = it.spawn("worker", "--effect", EFFECT)
+    it.wait_for_number("SELECT count(*) FROM jobs", 3)
+    assert it.number("SELECT count(*) FROM jobs WHERE state = 'dead' AND ended < now() - interval '90 days'") == 0
+    end(worker)
+    print("rules: a job that was dead for more than 90 days was pruned", flush=True)
+
+
+def delays(it):
+    """A job is tried 25 times over 20 days, where nobody says otherwise."""
+    rows = it.sql("SELECT extract(epoch FROM sum(jobs_delay(i, 'no such'))) / 86400 FROM generate_series(1, 24) i")
+    assert 20 < float(rows[0][0]) < 21, rows
+    for kind, first, attempt, seconds in [("a", "0.5", 2, 8), ("b", "'Infinity'", 3, 31536000), ("c", "1e300", 30, 31536000)]:
+        it.sql(f"INSERT INTO jobs_kinds (kind, first_delay) VALUES ('{kind}', {first})")
+        assert it.number(f"SELECT extract(epoch FROM jobs_delay({attempt}, '{kind}'))") == seconds, kind
+    it.sql("DELETE FROM jobs_kinds")
+    assert "25 where none is given" in run("--help").stdout
+    print("rules: 25 attempts take 20 days, and no kind has a delay that can't be counted", flush=True)
+
+
+def main():
+    import sys
+    with cluster() as it:
+        cases = [sorts, many_kinds, silent, ends, cancelled, changed_kind, paused, bounded, long_names, pruned, delays]
+        for case in [c for c in cases if not sys.argv[1:] or c.__name__ in sys.argv[1:]]:
+            begun = time.monotonic()
+            case(it)
+            print(f"{case.__name__} {time.monotonic() - begun:.1f} s", flush=True)
+
+
+if __name__ == "__main__":
+    main()

@@ -1,0 +1,165 @@
+//! Why a statement has no answer, and whose fault that is.
+
+use std::fmt;
+use std::time::Duration;
+use tokio_postgres::error::SqlState;
+
+/// How often rows are tried before an error that may pass, or the loss of the session, is theirs.
+const TRIES: usize = 3;
+
+/// Why a statement has no answer.
+#[derive(Debug)]
+pub enum Error {
+    /// The database refused it, or couldn't be reached.
+    Database(tokio_postgres::Error),
+    /// The database was silent for so long. Whether the statement was run isn't known.
+    Silent(Duration),
+    /// A worker of the other sort lives, of this name and at this address.
+    Unlike(String),
+}
+
+/// Whose an error is.
+#[derive(Clone, Copy, Debug, PartialEq, Eq)]
+pub enum Whose {
+    /// The way to the database's, or its state's: the same may be right in a moment.
+    Connection,
+    /// The statement's, which the database refuses whatever rows it meets.
+    Statement,
+    /// One job's of those that were named: each is tried alone, and one that is alone has failed an attempt.
+    Job,
+    /// One schedule's: each is tried alone, and one that is alone waits.
+    Schedule,
+}
+
+/// What was asked.
+#[derive(Clone, Copy)]
+pub enum Asked {
+    /// For a session, to read a statement, or for what the program's own statements do.
+    Own,
+    /// For an effect of jobs, for the time of this number.
+    Jobs(usize),
+    /// For the jobs of schedules, for the time of this number.
+    Schedules(usize),
+}
+
+/// What a statement meets that another session has prepared, or has not.
+const POOLED: [SqlState; 2] = [SqlState::DUPLICATE_PSTATEMENT, SqlState::INVALID_SQL_STATEMENT_NAME];
+const POOLER: &str = ": a pooler in transaction mode stands between, and jobs wants one in session mode";
+
+impl From<tokio_postgres::Error> for Error {
+    fn from(error: tokio_postgres::Error) -> Error {
+        Error::Database(error)
+    }
+}
+
+impl fmt::Display for Error {
+    fn fmt(&self, f: &mut fmt::Formatter<'_>) -> fmt::Result {
+        match self {
+            Error::Silent(limit) => write!(f, "the database didn't answer within {limit:?}"),
+            Error::Unlike(other) => write!(
+                f,
+                "{other} works at this table: workers that serve holders and workers that have an effect never do so together"
+            ),
+            Error::Database(error) => match (error.as_db_error(), std::error::Error::source(error)) {
+                (Some(db), _) => {
+                    let why = if POOLED.contains(db.code()) { POOLER } else { "" };
+                    write!(f, "{} ({}){why}", db.message(), db.code().code())
+                }
+                (None, Some(source)) => write!(f, "{error}: {source}"),
+                (None, None) => write!(f, "{error}"),
+            },
+        }
+    }
+}
+
+impl std::error::Error for Error {}
+
+impl Error {
+    pub fn code(&self) -> Option<&SqlState> {
+        match self {
+            Error::Database(error) => error.code(),
+            Error::Silent(_) | Error::Unlike(_) => None,
+        }
+    }
+
+    /// Whose it is. What a row raises may look like the connection's: it is the row's once it has come again and again.
+    pub fn whose(&self, asked: Asked) -> Whose {
+        match self {
+            Error::Unlike(_) => Whose::Statement,
+            _ => whose(self.code(), asked),
+        }
+    }
+
+    /// Whether a limit of time or of resources ended it: with less it may be right.
+    pub fn is_limit(&self) -> bool {
+        self.code().map_or(false, is_limit)
+    }
+
+    /// Whether it waited in vain for what another session has locked.
+    pub fn is_lock(&self) -> bool {
+        self.code() == Some(&SqlState::LOCK_NOT_AVAILABLE)
+    }
+
+    /// Whether the database may have met it while it read the statement again, as it does where a table has changed.
+    pub fn may_be_of_reading(&self) -> bool {
+        self.code().map_or(false, |it| ["0A", "26", "42"].contains(&class(it)))
+    }
+}
+
+fn class(code: &SqlState) -> &str {
+    &code.code()[..2]
+}
+
+fn is_limit(code: &SqlState) -> bool {
+    class(code) == "53" || [SqlState::QUERY_CANCELED, SqlState::LOCK_NOT_AVAILABLE].contains(code)
+}
+
+/// Whether the same statement may be right in a moment: without an answer the session is lost.
+fn is_passing(code: Option<&SqlState>) -> bool {
+    // Connections, resources, operators, the machine, serialization failures and deadlocks.
+    let passing = |code: &SqlState| {
+        ["08", "53", "57", "58", "40"].contains(&class(code))
+            || [SqlState::LOCK_NOT_AVAILABLE, SqlState::READ_ONLY_SQL_TRANSACTION].contains(code)
+    };
+    code.map_or(true, passing)
+}
+
+fn whose(code: Option<&SqlState>, asked: Asked) -> Whose {
+    let (row, tries) = match asked {
+        Asked::Own if is_passing(code) => return Whose::Connection,
+        Asked::Own => return Whose::Statement,
+        Asked::Jobs(tries) => (Whose::Job, tries),
+        Asked::Schedules(tries) => (Whose::Schedule, tries),
+    };
+    // A row that wants too much wants it again.
+    let is_of_row = !is_passing(code) || code.map_or(false, is_limit) || tries >= TRIES;
+    if is_of_row {
+        row
+    } else {
+        Whose::Connection
+    }
+}
+
+#[cfg(test)]
+mod tests {
+    use super::*;
+
+    #[test]
+    fn what_passes_is_a_rows_after_some_tries_and_what_does_not_at_once() {
+        for code in ["08001", "40001", "57P01", "58030", "25006"].map(SqlState::from_code) {
+            assert_eq!(whose(Some(&code), Asked::Own), Whose::Connection);
+            assert_eq!(whose(Some(&code), Asked::Jobs(TRIES - 1)), Whose::Connection);
+            assert_eq!(whose(Some(&code), Asked::Jobs(TRIES)), Whose::Job);
+        }
+        for code in ["22012", "42P01", "P0001", "XX000"].map(SqlState::from_code) {
+            assert_eq!(whose(Some(&code), Asked::Own), Whose::Statement);
+            assert_eq!(whose(Some(&code), Asked::Schedules(1)), Whose::Schedule);
+        }
+        for code in ["53100", "55P03", "57014"].map(SqlState::from_code) {
+            assert_eq!(whose(Some(&code), Asked::Own), Whose::Connection);
+            assert_eq!(whose(Some(&code), Asked::Jobs(1)), Whose::Job);
+        }
+        assert_eq!(whose(None, Asked::Jobs(1)), Whose::Connection);
+        assert_eq!(whose(None, Asked::Jobs(TRIES)), Whose::Job);
+    }
+}
