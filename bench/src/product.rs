@@ -157,7 +157,7 @@ impl<'c> Product<'c> {
     #[inline(always)]
     fn take(&self) -> Option<Expired<u64>> {
         black_box(Instant::now());
-        self.queue.try_recv()
+        self.queue.try_recv().ok()
     }
 
     fn tick_of(&self, moment: Instant) -> u64 {
@@ -272,7 +272,7 @@ impl Sharded for Product<'_> {
     }
 
     fn poll_alone(&mut self, _shard: usize, _tick: u64) -> Option<(u64, u64)> {
-        let out = self.queue.try_recv()?;
+        let out = self.queue.try_recv().ok()?;
         Some((out.value, self.tick_of(out.deadline)))
     }
 }

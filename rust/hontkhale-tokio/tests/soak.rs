@@ -344,7 +344,7 @@ impl Filled {
             }
         });
         // What was cancelled and nobody freed goes with the last hold of the queue, and a panic there with the others.
-        while guarded(|| self.queue.try_recv().is_none()).is_none() {}
+        while guarded(|| self.queue.try_recv().is_err()).is_none() {}
         let all = self.known.into_inner().unwrap_or_else(PoisonError::into_inner);
         assert!(all.iter().all(|(_, told)| told.is_dropped.load(SeqCst)), "a value is lost");
     }

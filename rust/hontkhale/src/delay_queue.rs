@@ -21,7 +21,7 @@ mod waking;
 
 pub use asynchronous::AsyncReceiver;
 pub use builder::Builder;
-pub use errors::{InsertError, InsertErrorKind, KeyError};
+pub use errors::{InsertError, InsertErrorKind, KeyError, RecvTimeoutError, TryRecvError};
 pub use handle::{Handle, Timeout};
 pub use key::Key;
 pub use receive::{Drain, Iter, TryIter};
@@ -369,15 +369,58 @@ impl<T> DelayQueue<T> {
         self.shared.receive()
     }
 
-    /// Takes an entry out that is due, and waits at most that long until one is. It returns none where none came due, or the
-    /// queue is closed and nothing is due.
-    pub fn recv_timeout(&self, timeout: Duration) -> Option<Expired<T>> {
+    /// Takes an entry out that is due, and waits at most that long until one is: for ever where no clock reaches that moment,
+    /// as with [`Duration::MAX`]. With a time of zero it doesn't wait.
+    ///
+    /// # Errors
+    /// - `Timeout` if none came due in time.
+    /// - `Closed` if the queue is closed and nothing is due.
+    ///
+    /// ```
+    /// use hontkhale::delay_queue::RecvTimeoutError;
+    /// use hontkhale::DelayQueue;
+    /// use std::time::Duration;
+    ///
+    /// let queue = DelayQueue::new();
+    /// queue.insert("session", Duration::from_secs(30))?;
+    /// let soon = Duration::from_millis(1);
+    /// assert_eq!(queue.recv_timeout(soon).unwrap_err(), RecvTimeoutError::Timeout);
+    /// queue.close();
+    /// assert_eq!(queue.recv_timeout(soon).unwrap_err(), RecvTimeoutError::Closed);
+    /// # Ok::<(), Box<dyn std::error::Error>>(())
+    /// ```
+    pub fn recv_timeout(&self, timeout: Duration) -> Result<Expired<T>, RecvTimeoutError> {
         self.shared.receive_within(timeout)
     }
 
-    /// Takes an entry out that is due now, and returns none if no entry is. It takes the locks of those shards alone in which
-    /// something may be due.
-    pub fn try_recv(&self) -> Option<Expired<T>> {
+    /// Takes an entry out that is due, and waits until `when` at most. Where that is over it doesn't wait.
+    ///
+    /// # Errors
+    /// - `Timeout` if none came due in time.
+    /// - `Closed` if the queue is closed and nothing is due.
+    pub fn recv_deadline(&self, when: Instant) -> Result<Expired<T>, RecvTimeoutError> {
+        self.shared.receive_until(when)
+    }
+
+    /// Takes an entry out that is due now. It takes the locks of those shards alone in which something may be due.
+    ///
+    /// # Errors
+    /// - `Empty` if nothing is due by now.
+    /// - `Closed` if the queue is closed and nothing is due.
+    ///
+    /// ```
+    /// use hontkhale::delay_queue::TryRecvError;
+    /// use hontkhale::DelayQueue;
+    /// use std::time::Duration;
+    ///
+    /// let queue = DelayQueue::new();
+    /// queue.insert("session", Duration::from_secs(30))?;
+    /// assert_eq!(queue.try_recv().unwrap_err(), TryRecvError::Empty);
+    /// queue.close();
+    /// assert_eq!(queue.try_recv().unwrap_err(), TryRecvError::Closed);
+    /// # Ok::<(), Box<dyn std::error::Error>>(())
+    /// ```
+    pub fn try_recv(&self) -> Result<Expired<T>, TryRecvError> {
         self.shared.try_receive()
     }
 
@@ -401,6 +444,16 @@ impl<T> DelayQueue<T> {
     /// ```
     pub fn recv_many(&self, row: &mut Vec<Expired<T>>, most: usize) -> usize {
         self.shared.receive_many(row, most)
+    }
+
+    /// Appends entries that are due now to a row, at most so many, and returns how many. It takes several under one lock. It
+    /// returns 0 only where `most` is 0.
+    ///
+    /// # Errors
+    /// - `Empty` if nothing is due by now.
+    /// - `Closed` if the queue is closed and nothing is due.
+    pub fn try_recv_many(&self, row: &mut Vec<Expired<T>>, most: usize) -> Result<usize, TryRecvError> {
+        self.shared.try_receive_many(row, most)
     }
 
     /// What comes out, one entry after the other, until the queue is closed: each step is a [`recv`](DelayQueue::recv).

@@ -81,7 +81,7 @@ fn taken_and_left(ends: impl FnOnce(&DelayQueue<u64>, &ManualClock, &[Key])) -> 
         .for_each(|key| assert!(queue.extend(key, FAR).is_ok()));
     let taken = used() - before;
     ends(&queue, &clock, &keys);
-    assert!(queue.is_empty() && queue.try_recv().is_none());
+    assert!(queue.is_empty() && queue.try_recv().is_err());
     let left = used() - before;
     assert!((0..2 * MILLION as u64)
         .step_by(1_000)
@@ -130,7 +130,7 @@ fn after_a_million_entries_were_cancelled_at_most_a_tenth_stays() {
     at_most_a_tenth_is_left("cancelled", |queue, _, keys| {
         keys.iter().for_each(|key| assert!(queue.cancel(key).is_ok()));
         while queue.stats().cancelled > 0 {
-            assert!(queue.try_recv().is_none());
+            assert!(queue.try_recv().is_err());
         }
     });
 }
@@ -176,7 +176,7 @@ fn segments_go_and_come_under_eight_threads() {
                 barrier.wait();
             }
             assert!(keys.iter().all(|(number, key)| queue.remove(key) == Ok(*number)));
-            assert!(queue.try_recv().is_none());
+            assert!(queue.try_recv().is_err());
             stale = keys.into_iter().map(|(_, key)| key).collect();
         }
     };

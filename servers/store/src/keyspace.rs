@@ -203,7 +203,7 @@ impl Keyspace {
     /// Takes off every key that is due by now. Those that others take out of the queue meanwhile are off too then.
     fn take_off_all(&self) {
         let taker = lock(&self.takers[KEEPERS]);
-        while let Some(out) = self.queue.try_recv() {
+        while let Ok(out) = self.queue.try_recv() {
             self.lose(&out);
         }
         drop(taker);

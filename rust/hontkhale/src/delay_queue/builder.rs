@@ -72,7 +72,7 @@ impl<T> Builder<T> {
     /// use std::time::Instant;
     ///
     /// let queue: DelayQueue<String> = DelayQueue::builder().read_clock(Instant::now).build();
-    /// assert!(queue.try_recv().is_none());
+    /// assert!(queue.try_recv().is_err());
     /// ```
     pub fn read_clock(mut self, now: fn() -> Instant) -> Builder<T> {
         self.clock = Source::Read(now);

@@ -114,3 +114,43 @@ impl fmt::Display for KeyError {
 }
 
 impl Error for KeyError {}
+
+/// Why a [`DelayQueue`](crate::DelayQueue) gives no entry to who doesn't wait.
+#[derive(Clone, Copy, Debug, PartialEq, Eq)]
+pub enum TryRecvError {
+    /// Nothing is due by now.
+    Empty,
+    /// The queue is closed, and nothing is due: nothing comes out any more.
+    Closed,
+}
+
+impl fmt::Display for TryRecvError {
+    fn fmt(&self, f: &mut fmt::Formatter<'_>) -> fmt::Result {
+        f.write_str(match self {
+            TryRecvError::Empty => "nothing is due",
+            TryRecvError::Closed => "the queue is closed",
+        })
+    }
+}
+
+impl Error for TryRecvError {}
+
+/// Why a [`DelayQueue`](crate::DelayQueue) gives no entry to who waits for a time.
+#[derive(Clone, Copy, Debug, PartialEq, Eq)]
+pub enum RecvTimeoutError {
+    /// Nothing came due in time.
+    Timeout,
+    /// The queue is closed, and nothing is due: nothing comes out any more.
+    Closed,
+}
+
+impl fmt::Display for RecvTimeoutError {
+    fn fmt(&self, f: &mut fmt::Formatter<'_>) -> fmt::Result {
+        f.write_str(match self {
+            RecvTimeoutError::Timeout => "nothing came due in time",
+            RecvTimeoutError::Closed => "the queue is closed",
+        })
+    }
+}
+
+impl Error for RecvTimeoutError {}

@@ -1,6 +1,7 @@
 //! How entries come out.
 
 use crate::core::{Expired as Out, Piece, Turn};
+use crate::delay_queue::errors::{RecvTimeoutError, TryRecvError};
 use crate::delay_queue::key::Key;
 use crate::delay_queue::segment::Segment;
 use crate::delay_queue::shared::{Room, Shared, TRIES};
@@ -40,30 +41,38 @@ impl<T> Drop for Seat<'_, T> {
 }
 
 impl<T> Shared<T> {
-    /// What `take` takes, as soon as it takes something; none from `until` on, or once the queue is closed. Values that were
-    /// let go are dropped here, before something is in hand and outside the line.
-    pub fn wait_for<R>(&self, until: Option<Instant>, mut take: impl FnMut() -> Option<R>) -> Option<R> {
+    /// What `take` takes, as soon as it takes something, and why nothing from `until` on, or once the queue is closed. Values
+    /// that were let go are dropped here, before something is in hand and outside the line.
+    pub fn wait_for<R>(
+        &self,
+        until: Option<Instant>,
+        mut take: impl FnMut() -> Option<R>,
+    ) -> Result<R, RecvTimeoutError> {
         loop {
             self.tidy();
             // It is asked first: what was put in before a close, or was due in time, comes out.
-            let is_over = self.is_over(until);
+            let over = self.over(until);
             if let Some(taken) = take() {
-                return Some(taken);
+                return Ok(taken);
             }
-            if is_over {
+            if let Some(over) = over {
                 self.tidy();
-                return None;
+                return Err(over);
             }
             self.use_quiet_moment();
-            let taken = self.wait_in_line(until, &mut take);
-            if taken.is_some() {
-                return taken;
+            if let Some(taken) = self.wait_in_line(until, &mut take) {
+                return Ok(taken);
             }
         }
     }
 
-    fn is_over(&self, until: Option<Instant>) -> bool {
-        self.front.bell.is_closed() || until.is_some_and(|until| until <= self.front.time.now())
+    /// Why a wait is over, where it is.
+    fn over(&self, until: Option<Instant>) -> Option<RecvTimeoutError> {
+        if self.front.bell.is_closed() {
+            return Some(RecvTimeoutError::Closed);
+        }
+        let is_late = until.is_some_and(|until| until <= self.front.time.now());
+        is_late.then_some(RecvTimeoutError::Timeout)
     }
 
     /// What `take` takes; none once values are to be dropped, or the wait is over.
@@ -82,7 +91,7 @@ impl<T> Shared<T> {
                     }
                 }
                 Todo::Sleep(tick) => {
-                    if self.is_over(until) {
+                    if self.over(until).is_some() {
                         return None;
                     }
                     self.sleep(tick, until);
@@ -169,8 +178,16 @@ impl<T> Shared<T> {
         }
     }
 
-    /// Entries that are due, at most so many, and tells how many.
-    pub fn take_many(&self, row: &mut Vec<Expired<T>>, most: usize) -> usize {
+    /// Takes entries that are due, at most so many, and tells how many; none where none is.
+    fn take_some(&self, row: &mut Vec<Expired<T>>, most: usize) -> Option<usize> {
+        match self.take_many(row, most) {
+            0 => None,
+            taken => Some(taken),
+        }
+    }
+
+    /// Takes entries that are due, at most so many, and tells how many.
+    fn take_many(&self, row: &mut Vec<Expired<T>>, most: usize) -> usize {
         let now = self.front.time.tick();
         let before = row.len();
         while row.len() - before < most {
@@ -248,30 +265,48 @@ impl<T> Shared<T> {
 
 impl<T> Shared<T> {
     pub fn receive(&self) -> Option<Expired<T>> {
-        self.wait_for(None, || self.take_one())
+        self.wait_for(None, || self.take_one()).ok()
     }
 
-    pub fn receive_within(&self, timeout: Duration) -> Option<Expired<T>> {
+    pub fn receive_within(&self, timeout: Duration) -> Result<Expired<T>, RecvTimeoutError> {
         // A moment that no clock reaches is waited for without end.
         self.wait_for(self.front.time.now().checked_add(timeout), || self.take_one())
+    }
+
+    pub fn receive_until(&self, when: Instant) -> Result<Expired<T>, RecvTimeoutError> {
+        self.wait_for(Some(when), || self.take_one())
     }
 
     pub fn receive_many(&self, row: &mut Vec<Expired<T>>, most: usize) -> usize {
         if most == 0 {
             return 0;
         }
-        let some = |taken: usize| if taken > 0 { Some(taken) } else { None };
-        self.wait_for(None, || some(self.take_many(row, most))).unwrap_or(0)
+        self.wait_for(None, || self.take_some(row, most)).unwrap_or(0)
     }
 
-    pub fn try_receive(&self) -> Option<Expired<T>> {
+    pub fn try_receive(&self) -> Result<Expired<T>, TryRecvError> {
         self.tidy();
-        let taken = self.take_one();
-        if taken.is_none() {
-            // What was freed is dropped while nothing is in hand.
-            self.use_quiet_moment();
+        self.take_one().map_or_else(|| self.taken_last(|| self.take_one()), Ok)
+    }
+
+    pub fn try_receive_many(&self, row: &mut Vec<Expired<T>>, most: usize) -> Result<usize, TryRecvError> {
+        if most == 0 {
+            return Ok(0);
         }
-        taken
+        self.tidy();
+        self.take_some(row, most)
+            .map_or_else(|| self.taken_last(|| self.take_some(row, most)), Ok)
+    }
+
+    /// Why nothing is taken where nothing was due; or what was put in since, just before a close.
+    fn taken_last<R>(&self, take: impl FnOnce() -> Option<R>) -> Result<R, TryRecvError> {
+        // What was freed is dropped while nothing is in hand.
+        self.use_quiet_moment();
+        if self.front.bell.is_closed() {
+            take().ok_or(TryRecvError::Closed)
+        } else {
+            Err(TryRecvError::Empty)
+        }
     }
 }
 
@@ -313,7 +348,7 @@ impl<T> Iterator for TryIter<'_, T> {
     type Item = Expired<T>;
 
     fn next(&mut self) -> Option<Expired<T>> {
-        self.queue.try_recv()
+        self.queue.try_recv().ok()
     }
 }
 
@@ -420,16 +455,17 @@ mod tests {
             }
             taken
         });
-        assert_eq!(received.map(|expired| expired.value), Some("due"));
+        assert_eq!(received.map(|expired| expired.value), Ok("due"));
         assert!(queue.recv().is_none());
     }
+
     /// It would never sleep otherwise.
     #[test]
     fn a_receiver_of_a_thread_that_panics_comes_to_an_end_of_its_drops() {
         struct Receives(DelayQueue<String>);
         impl Drop for Receives {
             fn drop(&mut self) {
-                assert!(self.0.try_recv().is_none() && self.0.try_recv().is_none());
+                assert!(self.0.try_recv().is_err() && self.0.try_recv().is_err());
                 self.0
                     .insert(self.0.shared.is_tidy().to_string(), Duration::ZERO)
                     .expect("room");

@@ -19,7 +19,7 @@ use std::time::{Duration, Instant};
 /// let queue = DelayQueue::builder().clock(&clock).build();
 /// queue.insert("lease", Duration::from_secs(3_600))?;
 /// clock.advance(Duration::from_secs(3_599));
-/// assert!(queue.try_recv().is_none());
+/// assert!(queue.try_recv().is_err());
 /// clock.advance(Duration::from_secs(1));
 /// assert_eq!(queue.recv().map(|expired| expired.value), Some("lease"));
 /// # Ok::<(), Box<dyn std::error::Error>>(())

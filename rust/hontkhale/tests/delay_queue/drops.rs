@@ -33,7 +33,7 @@ fn within_a_drop(call: impl Fn() + Send + Sync + 'static) -> (DelayQueue<Value>,
     }
     clock.advance(ms(10));
     let receiver = queue.clone();
-    let receives = thread::spawn(move || assert!(receiver.try_recv().is_none()));
+    let receives = thread::spawn(move || assert!(receiver.try_recv().is_err()));
     begins.recv().expect("a drop");
     (queue, drops, receives)
 }
@@ -86,13 +86,13 @@ fn an_insert_that_has_room_drops_nothing() {
     }
     insert(1_001, FAR);
     clock.advance(ms(10));
-    assert_eq!(queue.try_recv().map(|expired| expired.value.number), Some(1_000));
+    assert_eq!(queue.try_recv().map(|expired| expired.value.number), Ok(1_000));
     for number in [1_002, 1_003] {
         insert(number, FAR);
         assert_eq!(dropped(&drops, 1_000), 0);
     }
     assert_eq!(queue.stats().cancelled, 1_000);
-    assert!(queue.try_recv().is_none());
+    assert!(queue.try_recv().is_err());
     assert_eq!((dropped(&drops, 1_000), queue.stats().cancelled), (1_000, 0));
 }
 
@@ -134,7 +134,7 @@ fn an_insert_that_renews_a_shard_drops_nothing() {
     );
     // Whoever receives drops the values, and goes on with the renewal.
     while dropped(&drops, 128) < 128 {
-        assert!(queue.try_recv().is_none());
+        assert!(queue.try_recv().is_err());
     }
     assert_eq!(queue.stats().cancelled, 0);
     (208..5_000).for_each(uses);

@@ -25,7 +25,7 @@ fn an_entry_is_taken_out_at_its_deadline_and_not_before() {
     clock.advance(ms(1));
     assert_eq!((queue.remove_if_due(&key), queue.len()), (Ok(Some("lease")), 0));
     assert_eq!(queue.remove_if_due(&later), Err(KeyError::Ended));
-    assert!(queue.try_recv().is_none());
+    assert!(queue.try_recv().is_err());
 }
 
 #[test]
@@ -194,7 +194,7 @@ fn a_drop_that_panics_in_it_loses_itself_alone() {
             }
         };
         assert_eq!(ended.map(|value| value.map(|it| it.number)), Ok(Some(2 * round + 1)));
-        while catch_unwind(AssertUnwindSafe(|| assert!(queue.try_recv().is_none()))).is_err() {
+        while catch_unwind(AssertUnwindSafe(|| assert!(queue.try_recv().is_err()))).is_err() {
             panicked += 1;
         }
     }

@@ -96,9 +96,9 @@ fn a_receiver_in_a_quiet_moment_frees_what_was_cancelled() {
     let queue = DelayQueue::new();
     let key = queue.insert(drops.value(0), FAR).expect("room");
     queue.cancel(&key).expect("it waits");
-    assert!(queue.recv_timeout(ms(1)).is_none());
+    assert!(queue.recv_timeout(ms(1)).is_err());
     for _ in 0..8 {
-        assert!(queue.recv_timeout(ms(1)).is_none());
+        assert!(queue.recv_timeout(ms(1)).is_err());
     }
     assert_eq!((drops.count(0), queue.stats().cancelled), (1, 0));
 }
@@ -111,7 +111,7 @@ fn receivers_that_rest_at_once_free_all_that_was_cancelled() {
         let begins = Barrier::new(4);
         let rests = || {
             begins.wait();
-            (0..40).for_each(|_| assert!(queue.try_recv().is_none()));
+            (0..40).for_each(|_| assert!(queue.try_recv().is_err()));
         };
         thread::scope(|scope| (0..4).for_each(|_| drop(scope.spawn(rests))));
         assert_eq!(queue.stats().cancelled, 0);
@@ -123,14 +123,14 @@ fn receivers_that_rest_at_once_free_all_that_was_cancelled() {
 fn a_queue_that_grows_meanwhile_frees_all_that_was_cancelled() {
     for turns in 0..40 {
         let queue = queue_of_cancelled(2_000);
-        (0..turns).for_each(|_| assert!(queue.try_recv().is_none()));
+        (0..turns).for_each(|_| assert!(queue.try_recv().is_err()));
         let more: Vec<_> = (0..2_000)
             .map(|number| queue.insert(number, FAR).expect("room"))
             .collect();
         more.iter().for_each(|key| assert!(queue.cancel(key).is_ok()));
-        assert!(queue.try_recv().is_none());
+        assert!(queue.try_recv().is_err());
         queue.reserve(30_000).expect("memory");
-        (0..400).for_each(|_| assert!(queue.try_recv().is_none()));
+        (0..400).for_each(|_| assert!(queue.try_recv().is_err()));
         assert_eq!(queue.stats().cancelled, 0, "{turns} turns");
     }
 }
@@ -157,14 +157,14 @@ fn a_receiver_drops_what_it_freed_before_it_returns_none() {
         clock.advance(ms(1));
     };
     cancels(0..10);
-    assert!(queue.recv_timeout(ms(0)).is_none());
+    assert!(queue.recv_timeout(ms(0)).is_err());
     assert_eq!(queue.stats().cancelled, 0);
     assert!(drops.are_once(10));
     queue.insert(drops.value(10), ms(2)).expect("room");
     cancels(11..20);
     clock.advance(ms(1));
     // The values that were freed on the way to it are dropped with the next call.
-    assert_eq!(queue.try_recv().map(|expired| expired.value.number), Some(10));
+    assert_eq!(queue.try_recv().map(|expired| expired.value.number), Ok(10));
     assert_eq!(queue.stats().cancelled, 9);
     queue.close();
     assert!(queue.recv().is_none());
@@ -179,7 +179,7 @@ fn a_deadline_a_century_away_comes_out_then() {
     let century = Duration::from_secs(100 * 365 * 24 * 3_600);
     queue.insert("far", century).expect("room");
     clock.advance(century - ms(1));
-    assert!(queue.try_recv().is_none());
+    assert!(queue.try_recv().is_err());
     clock.advance(ms(1));
-    assert_eq!(queue.try_recv().map(|expired| expired.value), Some("far"));
+    assert_eq!(queue.try_recv().map(|expired| expired.value), Ok("far"));
 }

@@ -141,7 +141,7 @@ fn a_guard_takes_its_entry_out_where_it_is_dropped() {
     assert!(queue.is_empty() && drops.count(1) == 1);
     let guard = queue.guard(drops.value(2), ms(0)).expect("room");
     assert!(guard.extend(FAR).is_ok());
-    assert!(queue.try_recv().is_none());
+    assert!(queue.try_recv().is_err());
     assert_eq!(guard.cancel().map(|value| value.number), Some(2));
     let key = queue.guard(drops.value(3), FAR).expect("room").forget();
     assert_eq!(queue.remove(&key).map(|value| value.number), Ok(3));

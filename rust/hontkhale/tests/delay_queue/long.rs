@@ -40,7 +40,7 @@ fn days_of_ten_a_second() {
         }
         clock.advance(ms(100));
         let now = clock.now();
-        while let Some(expired) = queue.try_recv() {
+        while let Ok(expired) = queue.try_recv() {
             assert!(expired.deadline <= now, "it is early");
             assert!(now - expired.deadline < ms(100), "it was missed");
             ended += 1;

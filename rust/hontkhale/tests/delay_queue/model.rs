@@ -189,7 +189,7 @@ impl Run {
         let most = self.draw.below(50) as usize;
         let mut row = Vec::new();
         while row.len() < most {
-            match caught(|| self.queue.try_recv()) {
+            match caught(|| self.queue.try_recv().ok()) {
                 Some(Some(expired)) => row.push(expired),
                 Some(None) => break,
                 // Nothing was in hand.
@@ -243,7 +243,7 @@ impl Run {
             (94..=98, Some(_)) => self.clock.advance(ms(self.draw.below(self.setting.reach / 4 + 2))),
             (_, Some(_)) if self.draw.one_in(50) => self.drain(),
             _ => {
-                let expired = caught(|| self.queue.recv_timeout(Duration::ZERO)).flatten();
+                let expired = caught(|| self.queue.recv_timeout(Duration::ZERO).ok()).flatten();
                 expired.into_iter().for_each(|expired| self.came_out(expired));
             }
         }

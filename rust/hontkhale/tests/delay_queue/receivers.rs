@@ -1,7 +1,7 @@
 //! Threads that receive: each is woken in time, and what comes out comes out once.
 
 use crate::kit::{ms, within_the_limit, FAR};
-use hontkhale::delay_queue::{InsertErrorKind, ManualClock};
+use hontkhale::delay_queue::{InsertErrorKind, ManualClock, RecvTimeoutError, TryRecvError};
 use hontkhale::DelayQueue;
 use std::sync::mpsc::channel;
 use std::thread;
@@ -48,7 +48,7 @@ fn a_leader_whose_time_is_over_hands_the_lead_on() {
     within_the_limit(|| {
         let queue = DelayQueue::new();
         let leader = queue.clone();
-        let leads = thread::spawn(move || leader.recv_timeout(ms(60)).is_none());
+        let leads = thread::spawn(move || leader.recv_timeout(ms(60)).is_err());
         thread::sleep(ms(20));
         let follower = queue.clone();
         let follows = thread::spawn(move || follower.recv().map(|expired| expired.value));
@@ -68,11 +68,11 @@ fn a_receiver_waits_no_longer_than_its_time() {
         thread::sleep(ms(20));
         // It follows.
         let start = Instant::now();
-        assert!(queue.recv_timeout(ms(50)).is_none());
+        assert!(queue.recv_timeout(ms(50)).is_err());
         assert!(start.elapsed() >= ms(50));
         queue.close();
         assert!(leads.join().unwrap());
-        assert!(queue.recv_timeout(Duration::MAX).is_none());
+        assert!(queue.recv_timeout(Duration::MAX).is_err());
     });
 }
 
@@ -122,7 +122,7 @@ fn a_clock_that_is_advanced_wakes_leader_and_followers() {
             .map(|(queue, sends, begins)| {
                 thread::spawn(move || {
                     let _ = begins.send(());
-                    let _ = sends.send(queue.recv_timeout(Duration::from_secs(7_200)).is_some());
+                    let _ = sends.send(queue.recv_timeout(Duration::from_secs(7_200)).is_ok());
                 })
             })
             .collect();
@@ -149,7 +149,7 @@ fn many_come_out_by_one_call_and_no_more_than_asked_for() {
     assert_eq!(queue.recv_many(&mut row, 0), 0);
     assert_eq!(queue.recv_many(&mut row, 70), 70);
     assert_eq!(queue.recv_many(&mut row, 1_000), 430);
-    assert!(queue.try_recv().is_none() && queue.len() == 500);
+    assert!(queue.try_recv().is_err() && queue.len() == 500);
     let mut numbers: Vec<u64> = row.iter().map(|expired| expired.value).collect();
     numbers.sort_unstable();
     let due: Vec<u64> = (0..1_000).filter(|number| number % 10 <= 4).collect();
@@ -162,7 +162,7 @@ fn a_queue_that_rests_wakes_nobody() {
     within_the_limit(|| {
         let queue = DelayQueue::new();
         queue.insert((), FAR).expect("room");
-        assert!(queue.recv_timeout(ms(50)).is_none());
+        assert!(queue.recv_timeout(ms(50)).is_err());
         let key = queue.insert((), ms(300)).expect("room");
         let receiver = queue.clone();
         let waits = thread::spawn(move || receiver.recv().is_some());
@@ -183,11 +183,47 @@ fn the_lateness_is_told() {
     assert_eq!(queue.stats().late, ms(2));
     queue.cancel(&second).expect("it waits");
     assert_eq!((queue.stats().waiting, queue.stats().cancelled), (0, 1));
-    assert!(queue.try_recv().is_none());
+    assert!(queue.try_recv().is_err());
     let stats = queue.stats();
     assert_eq!(
         (stats.waiting, stats.cancelled, stats.late, stats.latest),
         (0, 0, ms(0), ms(7))
     );
     assert!(stats.to_string().starts_with("0 waiting, 0 cancelled, "), "{stats}");
+}
+
+#[test]
+fn a_receiver_is_told_whether_nothing_is_due_yet_or_nothing_comes_any_more() {
+    let queue = DelayQueue::new();
+    let mut row = Vec::new();
+    queue.insert("far", FAR).expect("room");
+    let mut answers = |queue: &DelayQueue<&'static str>| {
+        (
+            queue.try_recv().map(|out| out.value),
+            queue.try_recv_many(&mut row, 8),
+            queue.recv_timeout(ms(1)).map(|out| out.value),
+            queue.recv_deadline(Instant::now() + ms(1)).map(|out| out.value),
+        )
+    };
+    let (empty, timeout) = (TryRecvError::Empty, RecvTimeoutError::Timeout);
+    assert_eq!(answers(&queue), (Err(empty), Err(empty), Err(timeout), Err(timeout)));
+    for _ in 0..5 {
+        queue.insert("due", Duration::ZERO).expect("room");
+    }
+    queue.close();
+    assert_eq!(
+        answers(&queue),
+        (
+            Ok("due"),
+            Ok(4),
+            Err(RecvTimeoutError::Closed),
+            Err(RecvTimeoutError::Closed)
+        )
+    );
+    let closed = TryRecvError::Closed;
+    assert_eq!(
+        (queue.try_recv().unwrap_err(), queue.try_recv_many(&mut Vec::new(), 8)),
+        (closed, Err(closed))
+    );
+    assert_eq!(queue.try_recv_many(&mut Vec::new(), 0), Ok(0));
 }

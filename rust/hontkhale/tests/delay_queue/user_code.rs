@@ -11,7 +11,7 @@ fn calls_all(queue: &DelayQueue<crate::kit::Value>, drops: &Drops, number: u64) 
     let key = queue.insert(drops.value(number), FAR).expect("room");
     queue.extend(&key, FAR * 2).expect("it waits");
     queue.reset(&key, FAR).expect("it waits");
-    assert!(queue.recv_timeout(ms(1)).is_none());
+    assert!(queue.recv_timeout(ms(1)).is_err());
     let _ = (queue.stats(), queue.next_deadline(), queue.len());
     queue.handle().cancel(&key).expect("it waits");
 }
@@ -31,10 +31,10 @@ fn a_drop_calls_the_queue_whoever_makes_it() {
         // A receiver that comes upon it, and one in a quiet moment.
         queue.cancel(&insert(0, 1)).expect("it waits");
         thread::sleep(ms(5));
-        assert!(queue.try_recv().is_none() && drops.count(0) == 1);
+        assert!(queue.try_recv().is_err() && drops.count(0) == 1);
         queue.cancel(&insert(1, 100_000)).expect("it waits");
         while drops.count(1) == 0 {
-            assert!(queue.recv_timeout(ms(1)).is_none());
+            assert!(queue.recv_timeout(ms(1)).is_err());
         }
         // A drain that comes upon it, and a clear.
         queue.cancel(&insert(2, 100_000)).expect("it waits");
@@ -70,12 +70,12 @@ fn a_drop_that_panics_loses_itself_alone() {
         let (mut got, mut panicked) = (0, 0);
         while got < keeps.len() {
             match catch_unwind(AssertUnwindSafe(|| queue.try_recv())) {
-                Ok(Some(expired)) => got += usize::from(expired.value.number >= 10),
-                Ok(None) => panic!("an entry is lost"),
+                Ok(Ok(expired)) => got += usize::from(expired.value.number >= 10),
+                Ok(Err(_)) => panic!("an entry is lost"),
                 Err(_) => panicked += 1,
             }
         }
-        while let Err(_panic) = catch_unwind(AssertUnwindSafe(|| queue.try_recv().is_none())) {
+        while let Err(_panic) = catch_unwind(AssertUnwindSafe(|| queue.try_recv().is_err())) {
             panicked += 1;
         }
         assert_eq!((panicked, queue.len()), (10, 0));
@@ -140,7 +140,7 @@ fn drops_many(within: Calls, are_cancelled: bool, all: Calls) {
     while !queue.is_empty() {
         queue.clear();
     }
-    assert!(queue.try_recv().is_none());
+    assert!(queue.try_recv().is_err());
     assert!(drops.are_once(MANY));
     assert_eq!(queue.stats().cancelled, 0);
 }
