@@ -5,6 +5,7 @@
 mod budget;
 mod clock;
 mod handle;
+mod idle;
 mod key;
 mod numbers;
 mod queue;
@@ -21,6 +22,8 @@ mod timer;
 mod unique_ids;
 
 pub use handle::{EntryError, Handle};
+pub use hontkhale;
+pub use idle::{IdleTimeout, IdleTimeouts};
 pub use numbers::Numbers;
 pub use queue::DelayQueue;
 pub use stream::{builder, QueueExt, QueueStream};

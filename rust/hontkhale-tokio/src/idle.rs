@@ -1,0 +1,334 @@
+//! Connections that time out while no byte moves, with one queue and one task for all of them.
+
+use crate::stream::{builder, QueueExt, QueueStream};
+use hontkhale::delay_queue::{InsertErrorKind, Key};
+use hontkhale::DelayQueue;
+use std::io::{self, ErrorKind, IoSlice};
+use std::mem;
+use std::panic::{catch_unwind, AssertUnwindSafe};
+use std::pin::Pin;
+use std::sync::atomic::{AtomicBool, Ordering::SeqCst};
+use std::sync::{Arc, Mutex, MutexGuard, PoisonError};
+use std::task::{Context, Poll, Waker};
+use std::time::Duration;
+use tokio::io::{AsyncRead, AsyncWrite, ReadBuf};
+
+/// The idle timeouts of any number of connections: one queue, and one task that ends those on which no byte moved for a while.
+///
+/// ```
+/// # #[tokio::main(flavor = "current_thread", start_paused = true)]
+/// # async fn main() -> std::io::Result<()> {
+/// use hontkhale_tokio::IdleTimeouts;
+/// use std::io::ErrorKind;
+/// use std::time::Duration;
+/// use tokio::io::{duplex, AsyncReadExt, AsyncWriteExt};
+///
+/// let timeouts = IdleTimeouts::new();
+/// let (mut client, server) = duplex(64);
+/// let mut server = timeouts.wrap(server, Duration::from_secs(30));
+/// client.write_all(b"ping").await?;
+/// server.read_exact(&mut [0; 4]).await?;
+/// let refused = server.read_u8().await.unwrap_err();
+/// assert_eq!(refused.kind(), ErrorKind::TimedOut);
+/// # Ok(()) }
+/// ```
+///
+/// A clone is the same owner. The task is spawned by the first [`wrap`](IdleTimeouts::wrap), in its runtime, and ends once the
+/// owner, its clones and all connections are gone. If its runtime ends before, the next `wrap` spawns the task anew; until then
+/// nothing times out. A connection may be used in any runtime.
+#[derive(Clone, Debug, Default)]
+pub struct IdleTimeouts {
+    shared: Arc<Timeouts>,
+}
+
+/// What the owner, its clones and the connections share, but not the task.
+#[derive(Debug)]
+struct Timeouts {
+    queue: DelayQueue<Arc<Waits>>,
+    has_task: Arc<AtomicBool>,
+}
+
+/// Whether there is a task, which has this.
+struct Runs(Arc<AtomicBool>);
+
+impl IdleTimeouts {
+    /// An owner without connections.
+    #[must_use]
+    pub fn new() -> IdleTimeouts {
+        IdleTimeouts::default()
+    }
+
+    /// Gives a connection, or any other reader and writer, an idle timeout: see [`IdleTimeout`]. It reads the clock, takes the
+    /// lock of one shard of the queue for constant time, and takes memory for the connection's entry.
+    ///
+    /// - `after` is rounded up to milliseconds. Each connection may have another one.
+    /// - A zero timeout is over at once: what is called before the task comes to it is made, and all else errs.
+    /// - A timeout that ends more than 139 years after the owner's making, such as [`Duration::MAX`], never ends.
+    ///
+    /// # Panics
+    /// If it is called outside of a runtime and no task runs, if memory is refused, or if 3 million connections a processor, of
+    /// up to 16 processors, are there already.
+    pub fn wrap<IO>(&self, io: IO, after: Duration) -> IdleTimeout<IO> {
+        self.shared.run();
+        let waits = Arc::new(Waits::default());
+        let key = match self.shared.queue.insert(Arc::clone(&waits), after) {
+            Ok(key) => Some(key),
+            Err(refused) if refused.kind() == InsertErrorKind::TooFar => None,
+            Err(refused) => panic!("an idle timeout has no place: {refused}"),
+        };
+        let timeouts = Arc::clone(&self.shared);
+        IdleTimeout { io, entry: Entry { timeouts, key, after, waits } }
+    }
+}
+
+impl Timeouts {
+    /// Spawns the task, unless one runs.
+    fn run(&self) {
+        if !self.has_task.load(SeqCst) && !self.has_task.swap(true, SeqCst) {
+            let runs = Runs(Arc::clone(&self.has_task));
+            tokio::spawn(end_idle_ones(self.queue.stream(), runs));
+        }
+    }
+}
+
+impl Default for Timeouts {
+    fn default() -> Timeouts {
+        Timeouts { queue: builder().build(), has_task: Arc::default() }
+    }
+}
+
+impl Drop for Timeouts {
+    fn drop(&mut self) {
+        // The task ends: it has a clone of the queue.
+        self.queue.close();
+    }
+}
+
+impl Drop for Runs {
+    fn drop(&mut self) {
+        self.0.store(false, SeqCst);
+    }
+}
+
+async fn end_idle_ones(mut idle: QueueStream<Arc<Waits>>, _runs: Runs) {
+    while let Some(expired) = idle.next().await {
+        expired.value.end();
+    }
+}
+
+/// What a connection and the task share.
+#[derive(Debug, Default)]
+struct Waits {
+    is_over: AtomicBool,
+    reader: WakerCell,
+    writer: WakerCell,
+}
+
+impl Waits {
+    /// Makes a call while time isn't over. One that is pending errs as soon as it is.
+    fn poll<R>(
+        &self,
+        cell: &WakerCell,
+        cx: &mut Context<'_>,
+        call: impl FnOnce(&mut Context<'_>) -> Poll<io::Result<R>>,
+    ) -> Poll<io::Result<R>> {
+        self.check()?;
+        let answer = call(cx);
+        if answer.is_pending() {
+            cell.listen(cx.waker());
+            // The task says first that time is over and then takes the wakers, so one of the two sees the other.
+            self.check()?;
+        }
+        answer
+    }
+
+    fn check(&self) -> io::Result<()> {
+        if self.is_over.load(SeqCst) {
+            return Err(ErrorKind::TimedOut.into());
+        }
+        Ok(())
+    }
+
+    fn end(&self) {
+        self.is_over.store(true, SeqCst);
+        self.reader.wake();
+        self.writer.wake();
+    }
+}
+
+/// Whom to wake. Wakers are the program's code: they are called, cloned and dropped while no lock is held.
+#[derive(Debug, Default)]
+struct WakerCell(Mutex<Option<Waker>>);
+
+impl WakerCell {
+    fn waker(&self) -> MutexGuard<'_, Option<Waker>> {
+        self.0.lock().unwrap_or_else(PoisonError::into_inner)
+    }
+
+    fn listen(&self, waker: &Waker) {
+        if matches!(&*self.waker(), Some(known) if known.will_wake(waker)) {
+            return;
+        }
+        let waker = waker.clone();
+        let before = self.waker().replace(waker);
+        drop(before);
+    }
+
+    /// A waker that panics keeps no other connection waiting: its panic ends here.
+    fn wake(&self) {
+        let waker = self.waker().take();
+        if let Err(panic) = catch_unwind(AssertUnwindSafe(|| waker.map(Waker::wake))) {
+            // Its value may panic as it is dropped.
+            let _ = catch_unwind(AssertUnwindSafe(|| drop(panic))).map_err(mem::forget);
+        }
+    }
+}
+
+/// A reader and writer whose calls err with [`TimedOut`](ErrorKind::TimedOut) once no byte has moved for a while, made by
+/// [`IdleTimeouts::wrap`].
+///
+/// # What counts
+/// Each read and each write that moved a byte gives it the whole time anew, by a call that takes no lock, but for a thread's
+/// first calls. A flush, a shutdown, an empty read or write and the end of the other side's bytes move none. So a connection
+/// whose other side has ended goes on as long as it writes.
+///
+/// # The timeout
+/// The task ends the connection at its deadline or after it, and never before. A read and a write that are pending then are both
+/// woken, and err; so do a flush and a shutdown. From then on each call errs, and nothing is read or written any more. Bytes that
+/// moved are told of before that. The socket stays open until this is dropped or [`into_inner`](IdleTimeout::into_inner) gives
+/// it back. If memory is refused to a thread's first call, the deadline stays as it is.
+///
+/// # Its drop
+/// takes constant time and the lock of one shard, and drops the wakers of pending calls while no lock is held.
+///
+/// The reader and writer has to be `Unpin`, as sockets and TLS streams are; `Box::pin` makes others so.
+#[derive(Debug)]
+pub struct IdleTimeout<IO> {
+    io: IO,
+    entry: Entry,
+}
+
+/// A connection's place in the queue, none where it never times out.
+#[derive(Debug)]
+struct Entry {
+    timeouts: Arc<Timeouts>,
+    key: Option<Key>,
+    after: Duration,
+    waits: Arc<Waits>,
+}
+
+impl Entry {
+    fn extend(&self) {
+        if let Some(key) = &self.key {
+            // Where it has ended, the next call errs.
+            let _ = self.timeouts.queue.extend(key, self.after);
+        }
+    }
+
+    /// A write of some kind.
+    fn poll_write(
+        &self,
+        cx: &mut Context<'_>,
+        write: impl FnOnce(&mut Context<'_>) -> Poll<io::Result<usize>>,
+    ) -> Poll<io::Result<usize>> {
+        let answer = self.waits.poll(&self.waits.writer, cx, write);
+        if matches!(answer, Poll::Ready(Ok(1..))) {
+            self.extend();
+        }
+        answer
+    }
+}
+
+impl Drop for Entry {
+    fn drop(&mut self) {
+        if let Some(key) = &self.key {
+            let _ = self.timeouts.queue.remove(key);
+        }
+    }
+}
+
+impl<IO> IdleTimeout<IO> {
+    /// The reader and writer.
+    pub fn get_ref(&self) -> &IO {
+        &self.io
+    }
+
+    /// The reader and writer. What is read and written by it doesn't count.
+    pub fn get_mut(&mut self) -> &mut IO {
+        &mut self.io
+    }
+
+    /// The reader and writer, without a timeout.
+    pub fn into_inner(self) -> IO {
+        self.io
+    }
+}
+
+impl<IO: AsyncRead + Unpin> AsyncRead for IdleTimeout<IO> {
+    fn poll_read(self: Pin<&mut Self>, cx: &mut Context<'_>, buf: &mut ReadBuf<'_>) -> Poll<io::Result<()>> {
+        let IdleTimeout { io, entry } = self.get_mut();
+        let before = buf.filled().len();
+        let answer = entry.waits.poll(&entry.waits.reader, cx, |cx| Pin::new(io).poll_read(cx, buf));
+        if buf.filled().len() > before {
+            entry.extend();
+        }
+        answer
+    }
+}
+
+impl<IO: AsyncWrite + Unpin> AsyncWrite for IdleTimeout<IO> {
+    fn poll_write(self: Pin<&mut Self>, cx: &mut Context<'_>, buf: &[u8]) -> Poll<io::Result<usize>> {
+        let IdleTimeout { io, entry } = self.get_mut();
+        entry.poll_write(cx, |cx| Pin::new(io).poll_write(cx, buf))
+    }
+
+    fn poll_write_vectored(
+        self: Pin<&mut Self>,
+        cx: &mut Context<'_>,
+        bufs: &[IoSlice<'_>],
+    ) -> Poll<io::Result<usize>> {
+        let IdleTimeout { io, entry } = self.get_mut();
+        entry.poll_write(cx, |cx| Pin::new(io).poll_write_vectored(cx, bufs))
+    }
+
+    fn is_write_vectored(&self) -> bool {
+        self.io.is_write_vectored()
+    }
+
+    fn poll_flush(self: Pin<&mut Self>, cx: &mut Context<'_>) -> Poll<io::Result<()>> {
+        let IdleTimeout { io, entry } = self.get_mut();
+        entry.waits.poll(&entry.waits.writer, cx, |cx| Pin::new(io).poll_flush(cx))
+    }
+
+    fn poll_shutdown(self: Pin<&mut Self>, cx: &mut Context<'_>) -> Poll<io::Result<()>> {
+        let IdleTimeout { io, entry } = self.get_mut();
+        entry.waits.poll(&entry.waits.writer, cx, |cx| Pin::new(io).poll_shutdown(cx))
+    }
+}
+
+#[cfg(test)]
+mod tests {
+    use super::IdleTimeouts;
+    use std::sync::atomic::Ordering::SeqCst;
+    use std::sync::Arc;
+    use std::time::Duration;
+    use tokio::io::duplex;
+    use tokio::task::yield_now;
+
+    #[tokio::test(start_paused = true)]
+    async fn the_task_ends_once_the_owner_and_all_connections_are_gone() {
+        let timeouts = IdleTimeouts::new();
+        let has_task = Arc::clone(&timeouts.shared.has_task);
+        let connections =
+            [Duration::from_secs(30), Duration::MAX].map(|after| timeouts.clone().wrap(duplex(8).0, after));
+        drop(timeouts);
+        for connection in connections {
+            yield_now().await;
+            assert!(has_task.load(SeqCst), "a connection is there");
+            drop(connection);
+        }
+        yield_now().await;
+        assert!(!has_task.load(SeqCst));
+        assert_eq!(Arc::strong_count(&has_task), 1);
+    }
+}

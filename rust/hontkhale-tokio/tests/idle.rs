@@ -1,0 +1,404 @@
+//! Idle timeouts: what extends them, when they end, what they end, and what they leave behind.
+
+mod common;
+
+use common::{ends, ms, paused, threaded, Dice, Wakes};
+use hontkhale_tokio::{IdleTimeout, IdleTimeouts};
+use std::io::{self, ErrorKind, IoSlice};
+use std::pin::Pin;
+use std::sync::Arc;
+use std::task::{Context, Poll, Wake, Waker};
+use std::time::Duration;
+use tokio::io::{duplex, split, AsyncRead, AsyncReadExt, AsyncWrite, AsyncWriteExt, DuplexStream, ReadBuf};
+use tokio::time::{sleep, timeout_at, Instant};
+
+const IDLE: Duration = Duration::from_secs(30);
+
+fn is_over<T>(answer: io::Result<T>) -> bool {
+    matches!(answer, Err(refused) if refused.kind() == ErrorKind::TimedOut)
+}
+
+/// A client, and a server's end of it that times out.
+fn connected(timeouts: &IdleTimeouts, after: Duration) -> (DuplexStream, IdleTimeout<DuplexStream>) {
+    let (client, server) = duplex(8);
+    (client, timeouts.wrap(server, after))
+}
+
+fn poll_read<IO: AsyncRead + Unpin>(io: &mut IO, waker: &Waker) -> Poll<io::Result<()>> {
+    let mut bytes = [0; 8];
+    Pin::new(io).poll_read(&mut Context::from_waker(waker), &mut ReadBuf::new(&mut bytes))
+}
+
+fn poll_write<IO: AsyncWrite + Unpin>(io: &mut IO, waker: &Waker) -> Poll<io::Result<usize>> {
+    Pin::new(io).poll_write(&mut Context::from_waker(waker), &[0; 8])
+}
+
+#[test]
+fn the_types_go_between_threads() {
+    fn sent<T: Send + Sync + Unpin>() {}
+    sent::<IdleTimeouts>();
+    sent::<IdleTimeout<DuplexStream>>();
+}
+
+#[test]
+fn a_read_that_waits_for_too_long_times_out() {
+    ends(|| {
+        paused().block_on(async {
+            let (_client, mut server) = connected(&IdleTimeouts::new(), IDLE);
+            let start = Instant::now();
+            assert!(is_over(server.read_u8().await));
+            assert_eq!(start.elapsed(), IDLE);
+        });
+    });
+}
+
+#[test]
+fn each_read_and_each_write_that_moves_a_byte_extends() {
+    ends(|| {
+        paused().block_on(async {
+            let (mut client, mut server) = connected(&IdleTimeouts::new(), IDLE);
+            for round in 0..9 {
+                sleep(IDLE - ms(1)).await;
+                match round % 3 {
+                    0 => {
+                        client.write_u8(1).await.unwrap();
+                        server.read_u8().await.unwrap();
+                    }
+                    1 => server.write_u8(1).await.unwrap(),
+                    _ => assert_eq!(server.write_vectored(&[IoSlice::new(&[1]), IoSlice::new(&[2])]).await.unwrap(), 1),
+                }
+            }
+            let last = Instant::now();
+            assert!(is_over(server.read_u8().await));
+            assert_eq!(last.elapsed(), IDLE);
+        });
+    });
+}
+
+#[test]
+fn what_moves_no_byte_extends_nothing() {
+    ends(|| {
+        paused().block_on(async {
+            let start = Instant::now();
+            let (mut client, mut server) = connected(&IdleTimeouts::new(), IDLE);
+            client.shutdown().await.unwrap();
+            while start.elapsed() < IDLE - ms(1_000) {
+                sleep(ms(1_000)).await;
+                server.flush().await.unwrap();
+                assert_eq!(server.write(&[]).await.unwrap(), 0);
+                assert_eq!(server.read(&mut []).await.unwrap(), 0);
+                assert_eq!(server.read(&mut [0]).await.unwrap(), 0, "the other side has ended");
+            }
+            sleep(ms(1_001)).await;
+            assert!(is_over(server.write(&[1]).await));
+        });
+    });
+}
+
+#[test]
+fn a_connection_whose_other_side_has_ended_goes_on_as_long_as_it_writes() {
+    ends(|| {
+        paused().block_on(async {
+            let (mut client, mut server) = connected(&IdleTimeouts::new(), IDLE);
+            client.shutdown().await.unwrap();
+            for _ in 0..5 {
+                sleep(IDLE - ms(1)).await;
+                assert_eq!(server.read(&mut [0]).await.unwrap(), 0);
+                server.write_u8(1).await.unwrap();
+            }
+        });
+    });
+}
+
+/// A client that takes a byte now and then keeps a connection that only writes, until it takes none.
+#[test]
+fn a_writer_goes_on_while_its_client_reads_slowly() {
+    ends(|| {
+        paused().block_on(async {
+            let (mut client, mut server) = connected(&IdleTimeouts::new(), IDLE);
+            let written = tokio::spawn(async move { is_over(server.write_all(&[7; 64]).await) });
+            for _ in 0..9 {
+                sleep(IDLE - ms(1)).await;
+                assert_eq!(client.read_u8().await.unwrap(), 7);
+            }
+            let last = Instant::now();
+            assert!(written.await.unwrap());
+            assert_eq!(last.elapsed(), IDLE);
+        });
+    });
+}
+
+#[test]
+fn a_read_and_a_write_that_wait_are_both_woken() {
+    ends(|| {
+        paused().block_on(async {
+            let (_client, server) = connected(&IdleTimeouts::new(), IDLE);
+            let (mut reads, mut writes) = split(server);
+            let reads = tokio::spawn(async move { is_over(reads.read_u8().await) });
+            let writes = tokio::spawn(async move { is_over(writes.write_all(&[0; 64]).await) });
+            assert!(reads.await.unwrap() && writes.await.unwrap());
+        });
+    });
+}
+
+#[test]
+fn after_the_timeout_each_call_errs_and_moves_nothing() {
+    ends(|| {
+        paused().block_on(async {
+            let (mut client, mut server) = connected(&IdleTimeouts::new(), IDLE);
+            client.write_all(b"here").await.unwrap();
+            sleep(IDLE + ms(1)).await;
+            for _ in 0..2 {
+                assert!(is_over(server.read(&mut [0; 4]).await));
+                assert!(is_over(server.write(b"there").await));
+                assert!(is_over(server.write_vectored(&[IoSlice::new(b"there")]).await));
+                assert!(is_over(server.flush().await));
+                assert!(is_over(server.shutdown().await));
+            }
+            let (mut server, mut heard) = (server.into_inner(), [0; 4]);
+            server.read_exact(&mut heard).await.unwrap();
+            assert_eq!(&heard, b"here");
+            drop(server);
+            assert_eq!(client.read(&mut [0]).await.unwrap(), 0);
+        });
+    });
+}
+
+#[test]
+fn a_zero_timeout_is_over_at_once_and_the_longest_never() {
+    ends(|| {
+        paused().block_on(async {
+            let timeouts = IdleTimeouts::new();
+            let start = Instant::now();
+            let (_zero, mut at_once) = connected(&timeouts, Duration::ZERO);
+            assert!(is_over(at_once.read_u8().await));
+            assert_eq!(start.elapsed(), Duration::ZERO);
+            let (_nano, mut soon) = connected(&timeouts, Duration::from_nanos(1));
+            assert!(is_over(soon.read_u8().await));
+            let (mut client, mut never) = connected(&timeouts, Duration::MAX);
+            sleep(Duration::from_secs(365 * 86_400)).await;
+            client.write_u8(1).await.unwrap();
+            never.read_u8().await.unwrap();
+        });
+    });
+}
+
+#[test]
+fn an_inner_connection_that_was_taken_back_has_no_timeout() {
+    ends(|| {
+        paused().block_on(async {
+            let timeouts = IdleTimeouts::new();
+            let (mut client, mut server) = connected(&timeouts, IDLE);
+            assert!(server.get_ref().is_write_vectored() == server.is_write_vectored());
+            server.get_mut().write_u8(1).await.unwrap();
+            let mut server = server.into_inner();
+            sleep(2 * IDLE).await;
+            server.write_u8(2).await.unwrap();
+            assert_eq!(client.read_u16().await.unwrap(), 0x0102);
+        });
+    });
+}
+
+/// Plays a drawn connection against a model: it times out a while after the last byte, and not before.
+async fn play(timeouts: IdleTimeouts, seed: u64) {
+    let mut dice = Dice(seed);
+    let after = 20 + dice.below(500);
+    let (mut client, mut server) = connected(&timeouts, ms(after));
+    let mut last = Instant::now();
+    loop {
+        let over = last + ms(after);
+        let next = Instant::now() + ms(1 + dice.below(after + 10));
+        let heard = timeout_at(next.min(over + ms(1)), server.read_u8()).await;
+        if let Ok(refused) = heard {
+            assert!(is_over(refused), "connection {seed}: nothing was sent");
+            assert_eq!(Instant::now(), over, "connection {seed}");
+            return;
+        }
+        // Which of the two comes first in the millisecond of the deadline isn't said.
+        assert!(next <= over, "connection {seed} has to be over");
+        let moved = match dice.below(5) {
+            0 => client.write_u8(1).await.is_ok() && server.read_u8().await.is_ok(),
+            1 => server.write_u8(1).await.is_ok() && client.read_u8().await.is_ok(),
+            2 => server.write_vectored(&[IoSlice::new(&[1])]).await.is_ok() && client.read_u8().await.is_ok(),
+            _ => false,
+        };
+        let _ = server.flush().await;
+        if moved {
+            last = Instant::now();
+        }
+    }
+}
+
+#[test]
+fn a_thousand_drawn_connections_time_out_as_a_model_says() {
+    ends(|| {
+        paused().block_on(async {
+            let timeouts = IdleTimeouts::new();
+            let played: Vec<_> = (1..=1_000).map(|seed| tokio::spawn(play(timeouts.clone(), seed * 7_919))).collect();
+            for one in played {
+                one.await.unwrap();
+            }
+        });
+    });
+}
+
+/// A waker owns memory that a connection which isn't wholly gone would keep.
+#[test]
+fn a_connection_that_is_dropped_while_it_waits_leaves_nothing() {
+    ends(|| {
+        paused().block_on(async {
+            let (timeouts, wakes) = (IdleTimeouts::new(), Arc::<Wakes>::default());
+            let waker = Waker::from(wakes.clone());
+            for _ in 0..1_000 {
+                let (_client, mut server) = connected(&timeouts, IDLE);
+                while poll_write(&mut server, &waker).is_ready() {}
+                assert!(poll_read(&mut server, &waker).is_pending());
+            }
+            drop(waker);
+            assert_eq!(Arc::strong_count(&wakes), 1);
+            // A stream that is dropped wakes who waits for it.
+            wakes.take();
+            sleep(2 * IDLE).await;
+            assert_eq!(wakes.take(), 0, "nobody is there to be woken");
+        });
+    });
+}
+
+#[test]
+fn a_connection_that_timed_out_leaves_nothing() {
+    ends(|| {
+        paused().block_on(async {
+            let (timeouts, wakes) = (IdleTimeouts::new(), Arc::<Wakes>::default());
+            let waker = Waker::from(wakes.clone());
+            let mut connections: Vec<_> = (0..1_000).map(|_| connected(&timeouts, IDLE)).collect();
+            for (_, server) in &mut connections {
+                assert!(poll_read(server, &waker).is_pending());
+            }
+            sleep(2 * IDLE).await;
+            assert_eq!(wakes.take(), 1_000);
+            for (_, server) in &mut connections {
+                assert!(matches!(poll_read(server, &waker), Poll::Ready(Err(_))));
+                assert!(matches!(poll_write(server, &waker), Poll::Ready(Err(_))));
+            }
+            drop((connections, waker));
+            assert_eq!(Arc::strong_count(&wakes), 1);
+        });
+    });
+}
+
+/// A waker that panics, with a value that panics as it is dropped.
+struct Panics;
+
+struct PanicsInDrop;
+
+impl Wake for Panics {
+    fn wake(self: Arc<Self>) {
+        std::panic::panic_any(PanicsInDrop);
+    }
+}
+
+impl Drop for PanicsInDrop {
+    fn drop(&mut self) {
+        panic!("a panic that is dropped");
+    }
+}
+
+#[test]
+fn a_waker_that_panics_keeps_no_other_connection_waiting() {
+    ends(|| {
+        paused().block_on(async {
+            let (timeouts, wakes, panics) =
+                (IdleTimeouts::new(), Arc::<Wakes>::default(), Waker::from(Arc::new(Panics)));
+            let waker = Waker::from(wakes.clone());
+            let mut connections: Vec<_> = (0..10).map(|_| connected(&timeouts, IDLE)).collect();
+            for (at, (_, server)) in connections.iter_mut().enumerate() {
+                assert!(poll_read(server, if at % 2 == 0 { &panics } else { &waker }).is_pending());
+                // The stream within would call its own waker as it is dropped.
+                assert!(poll_read(server.get_mut(), &waker).is_pending());
+                while poll_write(server, &waker).is_ready() {}
+            }
+            sleep(IDLE + ms(1)).await;
+            assert_eq!(wakes.take(), 15, "ten that write, and five that read");
+            let (_client, mut later) = connected(&timeouts, IDLE);
+            assert!(is_over(later.read_u8().await));
+        });
+    });
+}
+
+/// A waker that takes a connection back and makes another, as a task does that is polled where it is woken.
+struct Reconnects {
+    timeouts: IdleTimeouts,
+    connection: std::sync::Mutex<Option<IdleTimeout<DuplexStream>>>,
+}
+
+impl Wake for Reconnects {
+    fn wake(self: Arc<Self>) {
+        let before = self.connection.try_lock().expect("no connection is polled").take();
+        drop(before);
+        drop(connected(&self.timeouts, IDLE));
+    }
+}
+
+#[test]
+fn a_waker_may_drop_its_own_connection_and_make_another() {
+    ends(|| {
+        paused().block_on(async {
+            let timeouts = IdleTimeouts::new();
+            let (_client, server) = connected(&timeouts, IDLE);
+            let reconnects = Arc::new(Reconnects { timeouts, connection: Some(server).into() });
+            let waker = Waker::from(reconnects.clone());
+            assert!(poll_read(reconnects.connection.lock().unwrap().as_mut().unwrap(), &waker).is_pending());
+            sleep(IDLE + ms(1)).await;
+            assert!(reconnects.connection.lock().unwrap().is_none());
+        });
+    });
+}
+
+#[test]
+fn a_second_runtime_goes_on_where_the_first_one_has_ended() {
+    ends(|| {
+        let timeouts = IdleTimeouts::new();
+        for _ in 0..3 {
+            paused().block_on(async {
+                let (_client, mut server) = connected(&timeouts, IDLE);
+                assert!(is_over(server.read_u8().await));
+            });
+        }
+    });
+}
+
+/// Threads that extend race the task that times out: what moved a byte has the whole time from then on.
+#[test]
+fn no_connection_of_four_threads_is_over_before_its_time() {
+    ends(|| {
+        threaded(4).block_on(async {
+            let timeouts = IdleTimeouts::new();
+            let talks = |seed| {
+                let timeouts = timeouts.clone();
+                async move {
+                    let (mut dice, after) = (Dice(seed), ms(5));
+                    let (mut client, mut server) = connected(&timeouts, after);
+                    loop {
+                        let before = Instant::now();
+                        let moved = match client.write_u8(1).await {
+                            Ok(()) => server.read_u8().await,
+                            Err(refused) => panic!("the server is there: {refused}"),
+                        };
+                        match moved {
+                            Err(refused) => return assert_eq!(refused.kind(), ErrorKind::TimedOut),
+                            Ok(_) if dice.below(50) > 0 => sleep(ms(dice.below(4))).await,
+                            Ok(_) => {
+                                assert!(is_over(server.read_u8().await));
+                                return assert!(before.elapsed() >= after);
+                            }
+                        }
+                    }
+                }
+            };
+            let talking: Vec<_> = (1..=400).map(|seed| tokio::spawn(talks(seed * 104_729))).collect();
+            for one in talking {
+                one.await.unwrap();
+            }
+        });
+    });
+}
