@@ -6,6 +6,7 @@ pub mod CellRows
 pub mod Clearing
 pub mod DeferredBits
 pub mod Finds
+pub mod Folds
 pub mod FreeBits
 pub mod Inserts
 pub mod Law

@@ -39,6 +39,10 @@ cell_of stamp born value =
 abbrev pub unused_cell : {T : Type 0} → CellRow T
 unused_cell = record { row = unused; aside = None }
 
+-- a cell that holds nothing, at a stamp
+abbrev pub empty_cell : {T : Type 0} → ℕ → CellRow T
+empty_cell stamp = record { row = record { stamp = stamp; held = None }; aside = None }
+
 -- what is set aside where a cell holds nothing any more
 abbrev pub let_go_value : {T : Type 0} → Option (Held T) → Option T → Option T
 let_go_value None aside = aside

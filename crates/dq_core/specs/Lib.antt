@@ -4,6 +4,7 @@ pub mod Cells
 pub mod Core
 pub mod Deferred
 pub mod Entries
+pub mod Folds
 pub mod FreeSlots
 pub mod KeyCalls
 pub mod Machine

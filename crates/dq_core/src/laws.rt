@@ -1,5 +1,6 @@
 //! Laws over the calls of a queue, each the contract of an empty function.
 
+ghost use Rattle.dq_core.specs.Folds.{FoldsComeToTicks};
 ghost use Rattle.dq_core.specs.Readers.{PeeksBoundDeadlines, WakesBoundDeadlines};
 ghost use Rattle.dq_core.specs.Rests.{RestsLeaveNoCancelled};
 
@@ -21,4 +22,10 @@ pub fn peeks_bound_deadlines<T, W: Words>()
 /// late that is polled for then.
 pub fn wakes_bound_deadlines<T, W: Words>()
     ensures { WakesBoundDeadlines T W }
+{}
+
+/// A folded queue that comes to a tick is a queue machine that notes the tick, and then passes to the greatest one that
+/// it noted.
+pub fn folds_come_to_ticks<T, W: Words>()
+    ensures { FoldsComeToTicks T W }
 {}

@@ -15,6 +15,7 @@ ghost use Rattle.dq_core.specs.FreeSlots.{free_times, room_of};
 ghost use Rattle.dq_core.specs.SlotRowsKept.{GivesSlot};
 
 use crate::free_slots::{DeferredDrops, FreeSlots};
+use crate::words::Words;
 use dq_ticks::LAST_STAMP;
 use dq_wheel::Beside;
 use std::alloc::{AllocError, Allocator, Global};
@@ -52,13 +53,24 @@ impl<T> Model for Cell<T> {
 
 impl<T> Cell<T> {
     ghost use Rattle.dq_core.specs.Slots.{is_held, IsBorn};
-    ghost use Rattle.dq_core.specs.Cells.{unused_cell, filled_cell, vacated_cell, let_go_cell, emptied_cell, forgotten_cell, raised_cell};
+    ghost use Rattle.dq_core.specs.Cells.{unused_cell, empty_cell, filled_cell, vacated_cell, let_go_cell, emptied_cell, forgotten_cell, raised_cell};
 
     fn unused() -> Self
         ensures { result ≡ unused_cell }
     {
         Cell {
             stamp: 0,
+            born: 0,
+            value: None,
+        }
+    }
+
+    // One that holds nothing, at a stamp.
+    fn at(stamp: u32) -> Self
+        ensures { result ≡ empty_cell stamp }
+    {
+        Cell {
+            stamp,
             born: 0,
             value: None,
         }
@@ -226,6 +238,53 @@ impl<T, A: Allocator + Clone> Slots<T, A> {
             last,
             held_count: 0,
             free_count: capacity,
+            cells,
+            free,
+            deferred,
+            deferred_worn,
+        })
+    }
+}
+
+impl<T, A: Allocator + Clone> Slots<T, A> {
+    ghost use Rattle.std.specs.Prelude.{OnErr};
+    ghost use Rattle.dq_ticks.specs.declared.words.Parts.{Parts};
+    ghost use Rattle.dq_ticks.specs.declared.TheConstants.{CAPACITY_LIMIT, LAST_STAMP};
+    ghost use Rattle.dq_core.specs.Words.{StillBegun};
+    ghost use Rattle.dq_core.specs.Folds.{AreOver, AreVacant};
+
+    /// A row of slots that hold nothing, each at its word's stamp.
+    pub fn over<W: Words>(alloc: A, last: u32, words: &mut W) -> Result<Slots<T, A>, AllocError>
+        requires size { length (W.known words.old) ≤ CAPACITY_LIMIT }
+        requires used { 0 < last }
+        requires bound { last ≤ LAST_STAMP }
+        requires over { AreOver last (W.known words.old) }
+        ensures rows { IfOk result (λ s. (s.last_stamp ≡ last) × AreVacant s.rows (W.known words.old)) }
+        ensures refused { OnErr result (words.new ≡ words.old) }
+        ensures known { W.known words.new ≡ W.known words.old }
+        ensures counts { W.counts words.new ≡ W.counts words.old }
+        ensures origin { W.origin words.new ≡ W.origin words.old }
+        ensures begun { StillBegun W.begun words.old words.new }
+    {
+        let capacity = words.rows();
+        let deferred = DeferredDrops::new(alloc.clone()?, capacity)?;
+        let deferred_worn = DeferredDrops::new(alloc.clone()?, capacity)?;
+        let mut free = FreeSlots::new(alloc.clone()?, capacity)?;
+        // No cell is made and no word is looked at before all memory is there.
+        let mut cells = Vec::with_capacity(alloc, capacity)?;
+        let mut free_count = 0;
+        for index in 0..capacity {
+            let stamp = words.look(index).stamp;
+            cells.push_reserved(Cell::at(stamp));
+            if stamp < last {
+                free.set(index);
+                free_count += 1;
+            }
+        }
+        Ok(Slots {
+            last,
+            held_count: 0,
+            free_count,
             cells,
             free,
             deferred,

@@ -5,7 +5,7 @@
 
 ghost use Rattle.std.specs.Prelude.{◌≡◌, ℕ, ◌+◌, ◌<◌, ◌≤◌, length, slice_set, List, Bool, Result, IfOk};
 ghost use Rattle.dq_ticks.specs.declared.words.Parts.{Parts};
-ghost use Rattle.dq_core.specs.Words.{Counts, live, removed, word_at, IsOver, IsInForce, Learned, IsSettled, IsChanged, begun_counts, settled_counts, finished_counts, StillBegun, look_by};
+ghost use Rattle.dq_core.specs.Words.{Counts, never, live, removed, word_at, IsOver, IsInForce, Learned, IsSettled, IsChanged, begun_counts, settled_counts, finished_counts, StillBegun, look_by};
 
 use dq_ticks::{LAST_STAMP, LAST_TICK, Mark, Parts};
 use std::fmt;
@@ -147,6 +147,7 @@ pub trait Words {
     fn look(&mut self, index: usize) -> Parts
         requires { index < length (known self.old) }
         ensures learned { Learned shared (word_at (known self.old) index) result }
+        ensures unused { word_at (known self.old) index ≡ never → result ≡ never }
         ensures known { known self.new ≡ slice_set (known self.old) index result }
         ensures counts { counts self.new ≡ counts self.old }
         ensures origin { origin self.new ≡ origin self.old }

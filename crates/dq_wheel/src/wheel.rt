@@ -293,6 +293,13 @@ impl<A: Allocator> Wheel<A> {
         Some(next)
     }
 
+    /// Goes on with the count of moves of another wheel, whose place this one takes.
+    pub fn count_from(&mut self, moved: u64)
+        ensures { self.new ≡ record self.old { filing = record self.old.filing { moved = moved } } }
+    {
+        self.moved = moved;
+    }
+
     /// Files a loose index at a tick from the wheel's own on, at most [`REACH`] ticks ahead. It has not moved then.
     pub fn link(&mut self, index: usize, filed: u64)
         requires index_in { index < length self.old.filing.filed }

@@ -111,6 +111,16 @@ row_known xs ys i n inside is = row_set xs ys i n (word_at (parts_row ys) i) is 
 pub learned_at : (xs : List ℕ) (i n : ℕ) (p : Parts) → LearnedWord (get_or xs i 0) n → parts_of n ≡ p → Learned true (word_at (parts_row xs) i) p
 learned_at xs i n p h e = let P : Parts × Parts → Type 0 = λ x. Learned true x.0 x.1 in subst P (λ q. (sym (row_at xs i) q, e q)) (learned_parts (get_or xs i 0) n h)
 
+-- a word that was never used stays so
+pub unused_at : (xs : List ℕ) (i n : ℕ) (p : Parts) → LearnedWord (get_or xs i 0) n → parts_of n ≡ p → word_at (parts_row xs) i ≡ never → p ≡ never
+unused_at xs i n p h e unused =
+    ⊎_elim (λ same. sym e ∙ ap parts_of same ∙ sym (row_at xs i) ∙ unused)
+    (λ (l : Grown (get_or xs i 0) n).
+    let none : l.0 ≡ 0 = ap (λ (q : Parts). q.stamp) (sym (live_is l.0 l.1 (get_or xs i 0) l.2 l.4) ∙ sym (row_at xs i) ∙ unused) in
+    let some = l.3 in
+    absurd (omega arith))
+    h
+
 pub open_at : (xs : List ℕ) (i s f : ℕ) → IsInForce s f (word_at (parts_row xs) i) → IsOpen (get_or xs i 0) s × (mark_of (get_or xs i 0) ≡ 0 → f ≤ field_of (get_or xs i 0))
 open_at xs i s f h = in_force_open s f (get_or xs i 0) (let P : Parts → Type 0 = λ p. IsInForce s f p in subst P (row_at xs i) h)
 

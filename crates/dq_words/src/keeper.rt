@@ -3,7 +3,7 @@ ghost use Rattle.std.specs.Prelude.{◌≡◌, ◌+◌, ◌<◌, ◌≤◌, leng
 ghost use Rattle.atomic_table.specs.Seated.{TableId};
 ghost use Rattle.dq_core.specs.Words.{AreFresh, live, removed, begun_counts, settled_counts};
 ghost use Rattle.dq_core.specs.Words.{finished_counts, IsChanged, IsInForce, IsOver, IsSettled};
-ghost use Rattle.dq_core.specs.Words.{Learned, StillBegun};
+ghost use Rattle.dq_core.specs.Words.{Learned, never, StillBegun};
 ghost use Rattle.dq_words.specs.AtTheCall.{KnowsNothing, NoCallerAfter, NoKeeperFor, StepsAtMost};
 ghost use Rattle.dq_words.specs.KeeperCalls.{known_of, known_word, counts_by, EndsFit, HasBegun};
 ghost use Rattle.dq_words.specs.KeeperCalls.{KeeperIsMade, KeeperBegins, KeeperLooks};
@@ -257,6 +257,7 @@ impl<A: Allocator> Words for Keeper<A> {
     fn look(&mut self, index: usize) -> Parts
         requires { index < length (known_of self.old) }
         ensures learned { Learned true (known_word self.old index) result }
+        ensures unused { known_word self.old index ≡ never → result ≡ never }
         ensures known { known_of self.new ≡ slice_set (known_of self.old) index result }
         ensures counts { counts_by self.new ≡ counts_by self.old }
         ensures origin { self.new.table ≡ self.old.table }

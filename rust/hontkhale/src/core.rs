@@ -11,6 +11,7 @@
 mod callers;
 mod entries;
 mod errors;
+mod fold;
 mod free_slots;
 mod front;
 mod key_calls;
@@ -29,6 +30,7 @@ mod words;
 
 pub use entries::{Entries, LiveEntry};
 pub use errors::{BadNumber, CoreConfig, CoreError, ReapError};
+pub use fold::Folded;
 pub use outcomes::{Expired, Piece, Removed, Swept, Tally, Turn};
 pub use plain::{Pending, PlainQueue, PlainTurn};
 pub use queue::DelayCore;

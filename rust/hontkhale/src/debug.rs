@@ -1,6 +1,6 @@
 //! How the types are shown that hold entries: by their numbers, and never by an entry's value.
 
-use crate::core::{DelayCore, Entries, Held, LiveEntry, Pending, PlainQueue, PlainTurn, VecWords, Words};
+use crate::core::{DelayCore, Entries, Folded, Held, LiveEntry, Pending, PlainQueue, PlainTurn, VecWords, Words};
 use crate::words::{Caller, Keeper};
 use core::fmt::{Debug, Formatter, Result};
 
@@ -13,6 +13,17 @@ impl<T, W: Words> Debug for DelayCore<T, W> {
             .field("tick", &self.tick())
             .field("noted", &self.noted())
             .field("next_wake", &self.next_wake())
+            .finish_non_exhaustive()
+    }
+}
+
+impl<W: Words> Debug for Folded<W> {
+    fn fmt(&self, f: &mut Formatter<'_>) -> Result {
+        f.debug_struct("Folded")
+            .field("shard", &self.shard())
+            .field("noted", &self.noted())
+            .field("capacity", &self.capacity())
+            .field("worn", &self.worn())
             .finish_non_exhaustive()
     }
 }

@@ -137,8 +137,8 @@ pub mod owner {
     //! Its keys, entries and errors are those of [`shards`](crate::shards) and [`lasting`](crate::lasting) too.
 
     pub use crate::core::{
-        BadNumber, CallError, CoreConfig, CoreError, DelayCore, Entries, Expired, LiveEntry, Look, Pending, Piece,
-        PlainQueue, PlainTurn, ReapError, Removed, RenewError, Swept, Tally, Turn, VecWords,
+        BadNumber, CallError, CoreConfig, CoreError, DelayCore, Entries, Expired, Folded, LiveEntry, Look, Pending,
+        Piece, PlainQueue, PlainTurn, ReapError, Removed, RenewError, Swept, Tally, Turn, VecWords,
     };
     pub use crate::ticks::{is_same_entry, is_same_key, EntryId, Key, CAPACITY_LIMIT, LAST_STAMP, LAST_TICK};
     #[cfg(feature = "std")]

@@ -17,6 +17,8 @@ mod extends;
 mod fates;
 #[path = "hostile/first_callers.rs"]
 mod first_callers;
+#[path = "hostile/folds.rs"]
+mod folds;
 #[path = "hostile/forged.rs"]
 mod forged;
 #[path = "hostile/join.rs"]

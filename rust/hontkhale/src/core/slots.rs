@@ -9,6 +9,7 @@
 //! drops a value: no impl here says that one may be dropped.
 
 use crate::core::free_slots::{DeferredDrops, FreeSlots};
+use crate::core::words::Words;
 use crate::index::{nth, nth_mut};
 use crate::memory::{room_for, AllocError};
 use crate::ticks::LAST_STAMP;
@@ -37,6 +38,15 @@ impl<T> Cell<T> {
     fn unused() -> Self {
         Cell {
             stamp: 0,
+            born: 0,
+            value: None,
+        }
+    }
+
+    // One that holds nothing, at a stamp.
+    fn at(stamp: u32) -> Self {
+        Cell {
+            stamp,
             born: 0,
             value: None,
         }
@@ -157,6 +167,40 @@ impl<T> Slots<T> {
             last,
             held_count: 0,
             free_count: capacity,
+            cells,
+            free,
+            deferred,
+            deferred_worn,
+        })
+    }
+}
+
+impl<T> Slots<T> {
+    /// A row of slots that hold nothing, each at its word's stamp.
+    pub fn over<W: Words>(last: u32, words: &mut W) -> Result<Slots<T>, AllocError> {
+        // requires length (W.known words.old) ≤ CAPACITY_LIMIT
+        // requires 0 < last
+        // requires last ≤ LAST_STAMP
+        // requires AreOver last (W.known words.old)
+        let capacity = words.rows();
+        let deferred = DeferredDrops::new(capacity)?;
+        let deferred_worn = DeferredDrops::new(capacity)?;
+        let mut free = FreeSlots::new(capacity)?;
+        // No cell is made and no word is looked at before all memory is there.
+        let mut cells = room_for(capacity)?;
+        let mut free_count = 0;
+        for index in 0..capacity {
+            let stamp = words.look(index).stamp;
+            cells.push(Cell::at(stamp));
+            if stamp < last {
+                free.set(index);
+                free_count += 1;
+            }
+        }
+        Ok(Slots {
+            last,
+            held_count: 0,
+            free_count,
             cells,
             free,
             deferred,

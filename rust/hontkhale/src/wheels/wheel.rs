@@ -189,6 +189,11 @@ impl Wheel {
         self.lists.after(index)
     }
 
+    /// Goes on with the count of moves of another wheel, whose place this one takes.
+    pub fn count_from(&mut self, moved: u64) {
+        self.moved = moved;
+    }
+
     /// Files a loose index at a tick from the wheel's own on, at most [`REACH`] ticks ahead. It has not moved then.
     ///
     /// [`REACH`]: crate::wheel::REACH

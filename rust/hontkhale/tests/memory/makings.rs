@@ -5,7 +5,7 @@ use hontkhale::cache::TtlCache;
 use hontkhale::directory::{AddError, Clerk};
 use hontkhale::lasting::{HandleError, HandleRenewError, Kept, LastingConfig, LastingQueue, OpenError, ReopenError};
 use hontkhale::owner::{
-    numbered_queue, CoreConfig, CoreError, DelayCore, Keeper, PlainQueue, Turn, WordsError, LAST_STAMP,
+    numbered_queue, CoreConfig, CoreError, DelayCore, Folded, Keeper, PlainQueue, Turn, WordsError, LAST_STAMP,
 };
 use hontkhale::replay::{run, ReplayFault};
 use hontkhale::sessions::IdleSessions;
@@ -55,6 +55,28 @@ fn asks<T, E: Into<NoMemory>>(grants: u64, call: impl FnOnce() -> Result<T, E>) 
 type Boxes = SharedDelayQueue<Box<u64>>;
 
 type Lasting = LastingQueue<Box<u64>>;
+
+// A queue is unfolded, and where memory was refused it is unfolded once more: each slot goes on with its next stamp.
+fn unfold(grants: u64) -> (Answer, u64) {
+    let mut queue = DelayCore::with_capacity(4).expect("a queue");
+    let first = queue.insert_or_drop(Box::new(1), 5).expect("a key");
+    queue.remove(&first.entry()).expect("an entry");
+    let tally = queue.tally();
+    let folded = queue.fold().expect("an empty queue");
+    let (unfolded, asked) = refusing(grants, || folded.unfold::<Box<u64>>());
+    let answer = match &unfolded {
+        Ok(_) => Ok(()),
+        Err(_) => Err(NoMemory),
+    };
+    let mut queue = unfolded.or_else(Folded::unfold).expect("memory");
+    assert_eq!((queue.capacity(), queue.tally()), (4, tally));
+    for value in 0..4 {
+        let key = queue.insert_or_drop(Box::new(value), 5).expect("a key");
+        let was_used = key.entry().index() == first.entry().index();
+        assert_eq!(key.stamp(), if was_used { 2 } else { 1 });
+    }
+    (answer, asked)
+}
 
 fn handle_of_a_queue(grants: u64) -> (Answer, u64) {
     let queue = Boxes::new(QueueConfig::of(3, 4)).expect("a queue");
@@ -211,6 +233,13 @@ const ROWS: &[Row] = &[
         aborting: &[],
         makes: |grants| asks(grants, || DelayCore::<Box<u64>, _>::with_capacity(4_096)),
     },
+    // The wheel's row and what the slots take: the words are there.
+    Row {
+        name: "an unfold",
+        allocations: 6,
+        aborting: &[],
+        makes: unfold,
+    },
     Row {
         name: "a queue over shared words",
         allocations: 8,
@@ -364,6 +393,7 @@ fn each_is_refused(row: &Row) {
     }
 }
 
+// promise: core.fold
 #[test]
 fn each_allocation_is_refused() {
     ROWS.iter().for_each(each_is_refused);

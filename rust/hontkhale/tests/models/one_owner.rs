@@ -6,11 +6,27 @@ use super::ticks::{deadline, key, tick, Round, ROUND};
 use super::value::{Living, Value};
 use hontkhale::owner::{
     numbered_queue, CallError, Caller, CoreConfig, CoreError, DelayCore, EntryId, Keeper, Key, Look, Piece, ReapError,
-    Removed, Swept, Tally, Turn, VecWords, LAST_STAMP,
+    Removed, Swept, Tally, Turn, VecWords, LAST_STAMP, LAST_TICK,
 };
 use hontkhale::wheel::Place;
 
 type Over<W> = DelayCore<Value, W>;
+
+// A queue that was folded, came to a tick and was unfolded.
+macro_rules! folded_and_unfolded {
+    ($queue:expr, $tick:expr) => {{
+        let told = ($queue.capacity(), $queue.worn(), $queue.noted(), $queue.tally());
+        let mut folded = $queue.fold()?;
+        let noted = folded.noted();
+        assert_eq!(
+            (folded.capacity(), folded.worn(), noted, folded.tally()),
+            told,
+            "folded"
+        );
+        assert_eq!(folded.come_to($tick).is_ok(), $tick <= LAST_TICK, "come_to");
+        Ok(folded.unfold().expect("memory"))
+    }};
+}
 
 // The calls that a queue has over both kinds of words.
 macro_rules! queues {
@@ -18,19 +34,22 @@ macro_rules! queues {
         $($call:ident($($name:ident: $type:ty),*) -> $answer:ty,)*
         ; $($change:ident($($by:ident: $of:ty),*) -> $told:ty,)*
     ) => {
-        trait Queue {
+        trait Queue: Sized {
             $(fn $call(&self $(, $name: $type)*) -> $answer;)*
             $(fn $change(&mut self $(, $by: $of)*) -> $told;)*
+            fn fold_and_unfold(self, tick: u64) -> Result<Self, Self>;
         }
 
         impl Queue for Over<VecWords> {
             $(fn $call(&self $(, $name: $type)*) -> $answer { DelayCore::$call(self $(, $name)*) })*
             $(fn $change(&mut self $(, $by: $of)*) -> $told { DelayCore::$change(self $(, $by)*) })*
+            fn fold_and_unfold(self, tick: u64) -> Result<Self, Self> { folded_and_unfolded!(self, tick) }
         }
 
         impl Queue for Over<Keeper> {
             $(fn $call(&self $(, $name: $type)*) -> $answer { DelayCore::$call(self $(, $name)*) })*
             $(fn $change(&mut self $(, $by: $of)*) -> $told { DelayCore::$change(self $(, $by)*) })*
+            fn fold_and_unfold(self, tick: u64) -> Result<Self, Self> { folded_and_unfolded!(self, tick) }
         }
     };
 }
@@ -234,6 +253,29 @@ impl<Q: Queue, C: ByKey<Q>> Play<Q, C> {
         }
     }
 
+    // Exactly where the queue holds nothing it is folded and unfolded. To the model only a tick is noted by it.
+    fn fold(mut self, draw: &mut Draw) -> Self {
+        let is_empty = self.queue.len() + self.queue.aside() == 0;
+        let tally = self.queue.tally();
+        let tick = tick(draw, self.model.noted, None);
+        match self.queue.fold_and_unfold(tick) {
+            Ok(unfolded) => {
+                assert!(is_empty, "a queue that holds something is folded");
+                self.queue = unfolded;
+                if self.model.note(tick).is_ok() {
+                    self.model.tick = self.model.noted;
+                }
+            }
+            Err(queue) => {
+                assert!(!is_empty, "an empty queue isn't folded");
+                self.queue = queue;
+            }
+        }
+        assert_eq!(self.queue.tally(), tally, "a fold counts something");
+        self.compares_totals();
+        self
+    }
+
     fn end_many(&mut self, draw: &mut Draw) {
         match draw.below(8) {
             0 => assert_eq!(self.queue.sweep(), self.model.sweep(), "sweep"),
@@ -327,12 +369,15 @@ fn plays<Q: Queue, C: ByKey<Q>>(seed: u64, new: impl Fn(Round) -> Play<Q, C>) {
         let mut play = new(Round::draw(&mut draw));
         for _ in 0..ROUND {
             play.call(&mut draw);
+            if draw.one_in(8) {
+                play = play.fold(&mut draw);
+            }
         }
         play.end();
     }
 }
 
-// promise: core.removed-cleared
+// promise: core.fold core.folded core.removed-cleared
 #[test]
 fn the_queue_of_one_owner_answers_as_a_map_does() {
     plays(1, |round| {
@@ -341,6 +386,7 @@ fn the_queue_of_one_owner_answers_as_a_map_does() {
     });
 }
 
+// promise: core.fold core.folded
 #[test]
 fn the_queue_over_shared_words_answers_as_a_map_does() {
     plays(2, |round| {

@@ -2,7 +2,7 @@ use Rattle.std.proofs.Common.{sym, ap}
 use Rattle.dq_words.specs.Plays.{KeeperLoads}
 use Rattle.dq_words.specs.Seats.{Sat}
 use Rattle.dq_words.specs.declared.views.View.{View}
-use Rattle.dq_words.proofs.Bridge.{row_set}
+use Rattle.dq_words.proofs.Bridge.{row_set, unused_at}
 use Rattle.dq_words.proofs.Begun.{load_stays, load_once}
 use Rattle.dq_words.proofs.keeper.KeeperWords.look.Goals as goal
 
@@ -22,3 +22,9 @@ returns-clause-one_step g c =
     let own = ap (λ (s : Sat). s.view) (sym c.self.view_is) in
     let h : KeeperLoads c.args.self.now.view c.keeper_load.new.self.view c.args.index c.keeper_load.result = rw own c.keeper_load.ensures.step in
     load_once c.args.self.now.view c.keeper_load.new.self.view c.args.index c.keeper_load.result h
+
+pub returns-clause-unused : goal.returns-clause-unused
+returns-clause-unused g c =
+    let own = ap (λ (s : Sat). s.view) (sym c.self.view_is) in
+    let h : KeeperLoads c.args.self.now.view c.keeper_load.new.self.view c.args.index c.keeper_load.result = rw own c.keeper_load.ensures.step in
+    unused_at c.args.self.now.view.seen c.args.index c.keeper_load.result _ h.1 (sym c.unpack.ensures)
