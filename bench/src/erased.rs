@@ -1,26 +1,66 @@
 //! Our queue as plain Rust has it: the cargo crate, which is the erased source.
 
-use hontkhale::owner::{shared_queue, Caller, DelayCore, Expired, Keeper, Key, Turn};
+use hontkhale::owner::{shared_queue, CallError, Caller, CoreConfig, DelayCore, Expired, Keeper, Key, OpenWords, Turn};
 
 use crate::queue::{Extends, Parts, Polls, Queue, Shared};
 
-/// The queue, and a caller in its owner's hands, by which the owner extends and cancels.
-pub struct Erased {
-    queue: DelayCore<u64, Keeper>,
-    caller: Caller,
+/// By what the owner extends and cancels.
+pub trait Calls {
+    fn extend(&mut self, key: &Key, deadline: u64) -> Result<u64, CallError>;
+
+    fn cancel(&mut self, key: &Key) -> Result<u64, CallError>;
 }
 
-impl Erased {
-    pub fn new(capacity: usize) -> Erased {
+impl Calls for Caller {
+    #[inline(always)]
+    fn extend(&mut self, key: &Key, deadline: u64) -> Result<u64, CallError> {
+        Caller::extend(self, key, deadline)
+    }
+
+    #[inline(always)]
+    fn cancel(&mut self, key: &Key) -> Result<u64, CallError> {
+        Caller::cancel(self, key)
+    }
+}
+
+impl Calls for OpenWords {
+    #[inline(always)]
+    fn extend(&mut self, key: &Key, deadline: u64) -> Result<u64, CallError> {
+        OpenWords::extend(self, key, deadline)
+    }
+
+    #[inline(always)]
+    fn cancel(&mut self, key: &Key) -> Result<u64, CallError> {
+        OpenWords::cancel(self, key)
+    }
+}
+
+/// The queue, and a caller of it or its open words.
+pub struct Erased<C> {
+    queue: DelayCore<u64, Keeper>,
+    calls: C,
+}
+
+impl Erased<Caller> {
+    pub fn new(capacity: usize) -> Erased<Caller> {
         let mut queue = shared_queue(capacity).expect("a queue of that capacity");
-        let caller = queue.issue().expect("a first caller");
-        Erased { queue, caller }
+        let calls = queue.issue().expect("a first caller");
+        Erased { queue, calls }
+    }
+}
+
+impl Erased<OpenWords> {
+    pub fn open(capacity: usize) -> Erased<OpenWords> {
+        let mut keeper = Keeper::new(capacity).expect("a keeper of that capacity");
+        let calls = keeper.open().expect("open words");
+        let queue = DelayCore::new(CoreConfig::of(capacity), keeper).expect("a queue of that capacity");
+        Erased { queue, calls }
     }
 }
 
 #[inline(always)]
-fn extended(caller: &mut Caller, key: Key, deadline: u64) -> u64 {
-    caller.extend(&key, deadline).expect("the entry is live")
+fn extended(calls: &mut impl Calls, key: Key, deadline: u64) -> u64 {
+    calls.extend(&key, deadline).expect("the entry is live")
 }
 
 #[inline(always)]
@@ -31,7 +71,7 @@ fn polled(queue: &mut DelayCore<u64, Keeper>, tick: u64) -> Option<Expired<u64>>
     }
 }
 
-impl Queue for Erased {
+impl<C: Calls> Queue for Erased<C> {
     type Key = Key;
     type Out = Expired<u64>;
 
@@ -42,7 +82,7 @@ impl Queue for Erased {
 
     #[inline(always)]
     fn extend(&mut self, key: Key, deadline: u64) -> u64 {
-        extended(&mut self.caller, key, deadline)
+        extended(&mut self.calls, key, deadline)
     }
 
     #[inline(always)]
@@ -61,7 +101,7 @@ impl Queue for Erased {
 
     #[inline(always)]
     fn cancel(&mut self, key: Key) {
-        self.caller.cancel(&key).expect("the entry is live");
+        self.calls.cancel(&key).expect("the entry is live");
     }
 
     #[inline(always)]
@@ -78,7 +118,7 @@ impl Queue for Erased {
     }
 }
 
-impl Shared for Erased {
+impl Shared for Erased<Caller> {
     fn share(&mut self, threads: usize) -> Parts<impl Extends<Key>, impl Polls<Expired<u64>>> {
         let queue = &mut self.queue;
         let extends = (0..threads)

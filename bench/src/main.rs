@@ -181,6 +181,7 @@ fn mine_of(timed: Timed) -> &'static [&'static str] {
             "lasting-now",
             "rust-checked-shards",
         ],
+        Timed::One(Row::Extend) if is_unchecked => &["rust", "rust-open"],
         _ if is_unchecked => &["rust"],
         Timed::One(Row::Callers) => &["rust-checked", "adapter-handle", "queue"],
         _ => &["rust-checked", "adapter", "adapter-handle", "queue"],
@@ -324,6 +325,8 @@ fn rounds_of_one<'a>(asked: &'a Asked, peer: &str, clocks: &'a Clocks<'a>) -> Ro
         "hashed-wheel" => owned(asked, HashedWheel::new(entries), &NoClock),
         #[cfg(feature = "rust")]
         "rust" | "rust-checked" => shared(asked, Erased::new(entries), &NoClock),
+        #[cfg(feature = "rust")]
+        "rust-open" => owned(asked, Erased::open(entries), &NoClock),
         #[cfg(feature = "rust")]
         "adapter" => owned(asked, Adapter::new(clock, entries, Touching::Owner), clock),
         #[cfg(feature = "rust")]
@@ -565,6 +568,7 @@ mod tests {
         #[cfg(feature = "rust")]
         {
             keeps_deadlines(Erased::new(4), &NoClock);
+            keeps_deadlines(Erased::open(4), &NoClock);
             for touching in [Touching::Owner, Touching::Handle] {
                 let clock = PausedClock::new();
                 keeps_deadlines(Adapter::new(&clock, 4, touching), &clock);

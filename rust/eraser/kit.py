@@ -21,6 +21,7 @@ def early(tokens, lent):
     for token in tokens:
         token.before = token.before.replace(WAKES, "")
     rewritten(tokens, "early")
+    rewritten(tokens, "receipts")
     forever(tokens, lent)
 
 

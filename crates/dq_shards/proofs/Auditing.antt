@@ -46,7 +46,7 @@ totals w t accounts inserted expired removed sum = record {
   removed = removed;
   others = λ s r at.
       let told = accounts s r at in
-      (told.0, told.1, omega (arith, told.2, inserted, expired, removed, sum));
+      (told.0, told.1, λ none. omega (arith, told.2 none, inserted, expired, removed, sum));
 }
 
 -- a shard's queue before and after its callers were heard of, and the poller

@@ -4,7 +4,7 @@ use Rattle.atomic_table.specs.Table.{State}
 use Rattle.dq_core.specs.declared.outcomes.Tally.{Tally}
 use Rattle.dq_words.specs.declared.views.View.{View}
 use Rattle.dq_words.specs.Counts.{begins_in, expiries_in, removals_in, total, goes, own_cancels}
-use Rattle.dq_words.specs.Counts.{lives, below, most_begins}
+use Rattle.dq_words.specs.Counts.{lives, below, most_begins, NoPasserCancelled}
 use Rattle.dq_words.specs.KeeperCalls.{Returns}
 use Rattle.dq_shards.specs.declared.audit.Totals.{Totals}
 use Rattle.dq_shards.specs.declared.audit.HandlesOut.{HandlesOut}
@@ -14,12 +14,13 @@ use Rattle.dq_shards.specs.Endings.{InEveryTable}
 use Rattle.dq_shards.specs.Sums.{total_of}
 
 -- Every caller that the keeper issued was given back. The accepted cancels of all callers, and the
--- entries that are live by the true words, are those of the totals.
+-- entries that are live by the true words, are those of the totals; the live ones as long as no
+-- passer cancelled, which nobody is where the words aren't opened.
 abbrev pub CancelledAndLive : View → Totals → State ℕ View → Type 0
 CancelledAndLive w totals t =
     (total goes t.views ≡ w.issued)
     × (total own_cancels t.views ≡ totals.cancelled)
-    × (below lives t.words (length w.seen) ≡ totals.live)
+    × (NoPasserCancelled t.views → below lives t.words (length w.seen) ≡ totals.live)
 
 -- these are the entries that the keeper began and ended, and those that it did not end
 pub record IsTotals (w : View) (t : Totals) : Type 0 where

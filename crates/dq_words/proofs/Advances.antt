@@ -73,6 +73,7 @@ pub record Moves (rows : ℕ) (t : State ℕ View) (i id : ℕ) (v w : View) (n 
   pub saw : w.seen ≡ set v.seen i n'
   pub keeps : w.keeps ≡ v.keeps
   pub stays : v.keeps ≡ true → w.gone ≡ v.gone
+  pub passes : w.passes ≡ v.passes
   pub no_calls : v.keeps ≡ true → w.calls ≡ v.calls
   pub no_writes : v.keeps ≡ false → w.writes ≡ v.writes
   pub grows : (j s : ℕ) → Grows (file j s t.views) (file j s (set t.views id w))
@@ -89,14 +90,19 @@ pub role_here : (j : ℕ) (v : View) → Role j v → v.keeps ≡ true → v.gon
 role_here zero v r k = r.1
 role_here (suc j) v r k = absurd (true≢false (sym k ∙ r.0))
 
+-- a keeper is no passer
+pub role_issuer : (j : ℕ) (v : View) → Role j v → v.keeps ≡ true → v.passes ≡ false
+role_issuer zero v r k = r.3
+role_issuer (suc j) v r k = absurd (true≢false (sym k ∙ r.0))
+
 -- two views of one seat have one role
 pub role_same : (j : ℕ) (v w : View) → Role j v → Role j w → w.keeps ≡ v.keeps
 role_same zero v w r s = s.0 ∙ sym r.0
 role_same (suc j) v w r s = s.0 ∙ sym r.0
 
-pub role_after : (j : ℕ) (v w : View) → w.keeps ≡ v.keeps → (v.keeps ≡ true → w.gone ≡ v.gone) → (v.keeps ≡ true → w.calls ≡ v.calls) → (v.keeps ≡ false → w.writes ≡ v.writes) → Role j v → Role j w
-role_after zero v w k g c e r = (k ∙ r.0, g r.0 ∙ r.1, c r.0 ∙ r.2)
-role_after (suc j) v w k g c e r = (k ∙ r.0, e r.0 ∙ r.1)
+pub role_after : (j : ℕ) (v w : View) → w.keeps ≡ v.keeps → w.passes ≡ v.passes → (v.keeps ≡ true → w.gone ≡ v.gone) → (v.keeps ≡ true → w.calls ≡ v.calls) → (v.keeps ≡ false → w.writes ≡ v.writes) → Role j v → Role j w
+role_after zero v w k q g c e r = (k ∙ r.0, g r.0 ∙ r.1, c r.0 ∙ r.2, q ∙ r.3)
+role_after (suc j) v w k q g c e r = (k ∙ r.0, e r.0 ∙ r.1)
 
 -- the word i becomes n' and the view of the seat w
 abbrev pub after : State ℕ View → ℕ → ℕ → ℕ → List (ℕ × ℕ) → View → State ℕ View
@@ -141,7 +147,7 @@ module _ (rows : ℕ) (t : State ℕ View) (r : Kept rows t) (i id : ℕ) (v w :
 
   mine : Sees rows (set t.words i n') (set t.views id w) id w
   mine = record {
-    role = role_after id v w m.keeps m.stays m.no_calls m.no_writes was.role;
+    role = role_after id v w m.keeps m.passes m.stays m.no_calls m.no_writes was.role;
     row = seen_row;
     below = λ j h. by_index i j (get_or w.seen j 0 ≤ get_or (set t.words i n') j 0)
         (λ e. let a = seen_here j e in let b = word_here j e in omega arith)

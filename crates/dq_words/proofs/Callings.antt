@@ -47,7 +47,7 @@ covers_by calls i n s d fair at live low =
     subst P at (((λ x h. let b = own.0 x h in omega arith), own.1), fair.1)
 
 -- a refusal shows that the step missed
-missed_by : (n s : ℕ) (e : CallError) → Refuses n s e → stamp_of n ≡ s → mark_of n ≡ 0 → ⊥
+pub missed_by : (n s : ℕ) (e : CallError) → Refuses n s e → stamp_of n ≡ s → mark_of n ≡ 0 → ⊥
 missed_by n s (TooFar limit) h a b = h
 missed_by n s Unknown h a b = omega arith
 missed_by n s (Stale seen) h a b = let x = h.0 in let y = h.1 in omega arith

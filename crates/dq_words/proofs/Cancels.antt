@@ -8,14 +8,14 @@ use Rattle.dq_words.specs.declared.views.Call.TheVariants.{Cancel}
 use Rattle.dq_words.specs.declared.views.StepKind.TheVariants.{CallerLoad}
 use Rattle.dq_ticks.specs.Word.{word, stamp_of, mark_of, field_of}
 use Rattle.dq_words.specs.Word.{LearnedWord}
-use Rattle.dq_words.specs.Counts.{lives}
+use Rattle.dq_words.specs.Counts.{lives, withdrawn}
 use Rattle.dq_words.specs.Files.{is_at, File, file, IsIn, Among, extends_at, cancels_at, bases_at, ends_at, gathered, keeper_writes}
 use Rattle.dq_words.specs.Rule.{LivingStamp, CancelledStamp, Law, Kept, Ruled}
 use Rattle.dq_words.specs.Plays.{WordMe, Knowing, cancelling, cancel_made}
 use Rattle.dq_words.proofs.Gathers.{at_other_slot, at_other_stamp, if_here, if_other, has_with_if, gathered_same, gathered_one, gathered_grows, writes_same, file_of, set_at}
 use Rattle.dq_words.proofs.Advances.{by_index, by_order, Grows, Moves, still, after}
 use Rattle.dq_words.proofs.Knowing.{knows}
-use Rattle.dq_words.proofs.Tallies.{lives_yes, lives_no, counts_calls, ruled_after, all_cancels}
+use Rattle.dq_words.proofs.Tallies.{lives_yes, lives_no, withdrawn_yes, withdrawn_no, counts_calls, gone_none, ruled_after, all_cancels}
 use Rattle.dq_words.proofs.Steps.{law_live, fair, missed, Outcome}
 use Rattle.dq_words.proofs.Extends.{by_hit}
 
@@ -89,6 +89,7 @@ module _ (rows : ℕ) (t : State ℕ View) (r : Kept rows t) (i id : ℕ) (v : V
         saw = refl;
         keeps = refl;
         stays = λ _. refl;
+        passes = refl;
         no_calls = λ yes. absurd (true≢false (sym yes ∙ caller));
         no_writes = λ _. refl;
         grows = cancel_grows t.views id v w at i s d refl refl;
@@ -110,9 +111,11 @@ module _ (rows : ℕ) where
       by_hit n k (Outcome rows t i id me (max n k) (cancel_made (step slots i k 0 none) me n))
       (λ same nm. let w : View = cancelling me.0 i k (field_of n) k in
       let one : lives n ≡ 1 = lives_yes n nm (omega arith) in
+      let shut : withdrawn k ≡ 1 = withdrawn_yes k (omega arith) in
+      let not_shut : withdrawn n ≡ 0 = withdrawn_no n (λ e. omega arith) in
       let none_left : lives k ≡ 0 = lives_no k (λ e. omega arith) in
       let ruled : Ruled rows (after t i k id me.1 w) = ruled_after rows t r i id me.0 w n k (given_up rows t r.kept i id me.0 inside at caller n k refl pos ks same nm)
-      (counts_calls rows t i id me.0 w n k inside at refl small here refl refl refl refl (omega arith) (sym same)) me.1 in
+      (counts_calls rows t i id me.0 w n k inside at refl small here refl refl (gone_none w here ∙ sym (gone_none me.0 here)) refl refl refl refl (omega arith) (omega arith) (sym same)) me.1 in
       let P : ℕ → Type 0 = λ m. Outcome rows t i id me m (cancel_made (step slots i k 0 none) me n) in
       let e : k ≡ max n k = omega arith in
       subst P e (w, keeps, tt, ruled, (low, fair rows t r.kept i id me.0 inside at, inl ((same, nm), refl, all_cancels rows (after t i k id me.1 w) ruled id w (set_at t.views id me.0 w at)))))

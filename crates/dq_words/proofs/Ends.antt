@@ -82,7 +82,7 @@ ends rows t r i s = by_order rows i _
       nothing e = ((λ x h. absurd (none_of (file i s t.views).ends x (ap (λ (g : File). g.ends) e) h)), λ d h. absurd (none_of (file i s t.views).cancels d (ap (λ (g : File). g.cancels) e) h))
 
 -- a word that was seen ended is still ended
-still_ended : (x n : ℕ) → LearnedWord x n → IsEnded x → IsEnded n
+pub still_ended : (x n : ℕ) → LearnedWord x n → IsEnded x → IsEnded n
 still_ended x n h over = ⊎_elim
     (λ (e : n ≡ x). let P : ℕ → Type 0 = λ y. IsEnded y in subst P (sym e) over)
     (λ (l : Grown x n). let a = l.2 in let b = l.3 in let c = l.4 in absurd (over (omega arith) (omega arith)))

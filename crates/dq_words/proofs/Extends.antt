@@ -10,14 +10,14 @@ use Rattle.dq_words.specs.declared.views.Call.TheVariants.{Extend}
 use Rattle.dq_words.specs.declared.views.StepKind.TheVariants.{CallerLoad}
 use Rattle.dq_ticks.specs.Word.{word, stamp_of, mark_of, field_of}
 use Rattle.dq_words.specs.Word.{LearnedWord}
-use Rattle.dq_words.specs.Counts.{cancels_in, lives}
+use Rattle.dq_words.specs.Counts.{cancels_in, lives, withdrawn}
 use Rattle.dq_words.specs.Files.{is_at, File, file, IsIn, Among, extends_at, cancels_at, bases_at, ends_at, gathered, keeper_writes}
 use Rattle.dq_words.specs.Rule.{LivingStamp, Law, Kept, Ruled}
 use Rattle.dq_words.specs.Plays.{WordMe, Knowing, extending, extend_made}
 use Rattle.dq_words.proofs.Gathers.{at_other_slot, at_other_stamp, if_here, if_other, has_with_if, gathered_same, gathered_back, gathered_grows, gathered_own, writes_same, file_of, set_at}
 use Rattle.dq_words.proofs.Advances.{by_index, by_order, Grows, Moves, still}
 use Rattle.dq_words.proofs.Knowing.{knows}
-use Rattle.dq_words.proofs.Tallies.{lives_yes, counts_calls, ruled_after}
+use Rattle.dq_words.proofs.Tallies.{lives_yes, withdrawn_no, counts_calls, ruled_after}
 use Rattle.dq_words.proofs.Steps.{law_live, fair, missed, Outcome}
 
 -- two cases of what a fetch_max may find
@@ -111,6 +111,7 @@ module _ (rows : ℕ) (t : State ℕ View) (r : Kept rows t) (i id : ℕ) (v : V
         saw = refl;
         keeps = refl;
         stays = λ _. refl;
+        passes = refl;
         no_calls = λ yes. absurd (true≢false (sym yes ∙ caller));
         no_writes = λ _. refl;
         grows = extend_grows t.views id v w at i s d refl refl;
@@ -130,12 +131,12 @@ module _ (rows : ℕ) where
       let n : ℕ = get_or t.words i 0 in
       let low = (r.kept.sees id me.0 at).below i inside in
       by_hit n k (Outcome rows t i id me (max n k) (extend_made (step slots i k 0 none) me n))
-      (λ same nm. let w : View = extending me.0 i k (max n k) in let live : lives (max n k) ≡ lives n = lives_yes (max n k) (omega arith) (omega arith) ∙ sym (lives_yes n nm (omega arith)) in (
+      (λ same nm. let w : View = extending me.0 i k (max n k) in let live : lives (max n k) ≡ lives n = lives_yes (max n k) (omega arith) (omega arith) ∙ sym (lives_yes n nm (omega arith)) in let shut : withdrawn (max n k) ≡ withdrawn n = withdrawn_no (max n k) (λ z. omega arith) ∙ sym (withdrawn_no n (λ z. omega arith)) in (
         w,
         keeps,
         tt,
         ruled_after rows t r i id me.0 w n (max n k) (accepted rows t r.kept i id me.0 inside at caller n k refl pos km same nm)
-            (counts_calls rows t i id me.0 w n (max n k) inside at refl (omega arith) here refl refl refl refl (ap (λ z. cancels_in me.0.calls + z) live) (omega arith)) me.1,
+            (counts_calls rows t i id me.0 w n (max n k) inside at refl (omega arith) here refl refl refl refl refl refl refl (ap (λ z. cancels_in me.0.calls + z) live) (ap (λ z. cancels_in me.0.calls + z) shut) (omega arith)) me.1,
         (low, fair rows t r.kept i id me.0 inside at, inl ((same, nm), refl)),
       ))
       (λ no. missed rows t r i id me CallerLoad (max n k) (extend_made (step slots i k 0 none) me n) inside at here

@@ -4,12 +4,13 @@ use mathlib.Core.Option.{some, some-injective, some-ne-none}
 use lib.ListN.{get_elem?}
 use Rattle.atomic_table.specs.Table.{State, Allows}
 use Rattle.dq_words.specs.declared.views.View.{View}
-use Rattle.dq_words.specs.Counts.{issued_in}
+use Rattle.dq_words.specs.Counts.{issued_in, passes_of, total}
 use Rattle.dq_words.specs.Plays.{WordMe}
 use Rattle.dq_words.specs.Rule.{Ruled}
 use Rattle.dq_words.specs.Plays.{SeatGoesOn}
-use Rattle.dq_words.proofs.Advances.{role_first, role_same}
+use Rattle.dq_words.proofs.Advances.{role_first, role_issuer, role_same}
 use Rattle.dq_words.proofs.Gathers.{set_at}
+use Rattle.dq_words.proofs.Tallies.{total_set, passes_none}
 
 pub issued_first : (vs : List View) (v : View) → get_elem? vs 0 ≡ some v → issued_in vs ≡ v.issued
 issued_first [] v at = absurd (some-ne-none v (sym at))
@@ -17,7 +18,7 @@ issued_first (u ∷ vs) v at = ap (λ (x : View). x.issued) (some-injective u v 
 
 module _ (rows : ℕ) (t : State ℕ View) (r : Ruled rows t) (id : ℕ) (v : View) (at : get_elem? t.views id ≡ some v) where
   -- the seat after a step that keeps the rule
-  goes_on : (u : State ℕ View) (w : View) → Ruled rows u → u.views ≡ set t.views id w → SeatGoesOn v w
+  pub goes_on : (u : State ℕ View) (w : View) → Ruled rows u → u.views ≡ set t.views id w → SeatGoesOn v w
   goes_on u w s is =
       let P : List View → Type 0 = λ vs. get_elem? vs id ≡ some w in
       let there : get_elem? u.views id ≡ some w = subst P (sym is) (set_at t.views id v w at) in
@@ -35,6 +36,10 @@ module _ (rows : ℕ) (t : State ℕ View) (r : Ruled rows t) (id : ℕ) (v : Vi
             let S : ℕ → Type 0 = λ j. get_elem? u.views j ≡ some w in
             let a = issued_first t.views v (subst R first at) in
             let b = issued_first u.views w (subst S first there) in
+            let p = passes_none v (role_issuer id v old.role keeper) in
+            let q = passes_none w (role_issuer id w mine.role (role ∙ keeper)) in
+            let tot = total_set passes_of t.views id v w at in
+            let same : total passes_of u.views ≡ total passes_of (set t.views id w) = ap (total passes_of) is in
             let c = r.tallied.issued in
             let d = s.tallied.issued in
             let e : length u.views ≡ length t.views = ap length is ∙ length-set t.views id w in

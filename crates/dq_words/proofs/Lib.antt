@@ -10,6 +10,7 @@ pub mod Extends
 pub mod Gathers
 pub mod Keepings
 pub mod Knowing
+pub mod OpenCalls
 pub mod Outs
 pub mod Places
 pub mod Returns

@@ -1,18 +1,18 @@
 -- What the rule of the words says of the seats it says of all places.
-use Rattle.std.proofs.Common.{◌≡◌, ◌≢◌, ◌⊎◌, ℕ, zero, suc, ◌+◌, ◌%◌, ◌<◌, ◌≤◌, ◌^◌, eqb, max, if◌then◌else◌, Bool, true, false, true≢false, List, [], ◌∷◌, ◌++◌, length, get_or, set, replicate, sym, refl, ap, ◌∙◌, subst, inl, inr, ⊎_elim, arith}
+use Rattle.std.proofs.Common.{◌≡◌, ◌≢◌, ℕ, zero, suc, ◌+◌, ◌%◌, ◌<◌, ◌≤◌, ◌^◌, eqb, max, if◌then◌else◌, Bool, true, false, List, [], ◌∷◌, ◌++◌, get_or, set, replicate, sym, refl, ap, ◌∙◌, subst, inr, ⊎_elim}
 use mathlib.Core.Option.{some, none, some-injective, some-ne-none}
 use mathlib.Core.Logic.{dite}
 use native.Mathlib.Decide.{ℕ_discrete}
 use prog.Atomic.{either}
 use lib.ListN.{get_elem?}
-use Rattle.atomic_table.specs.Table.{State, step, keeps, homes_after, opening, Allows, Splits, Joins}
+use Rattle.atomic_table.specs.Table.{step, keeps, homes_after, opening, Allows, Splits, Joins}
 use Rattle.atomic_table.proofs.Lists.{at_set, at_snoc, at_longer, set_else, set_again}
 use Rattle.dq_words.specs.declared.views.Call.{Call}
 use Rattle.dq_words.specs.declared.views.Place.{Place}
 use Rattle.dq_words.specs.declared.views.View.{View}
 use Rattle.dq_words.specs.Files.{IsIn}
-use Rattle.dq_words.specs.Places.{views_in, seats_of, IsShown, AreShown, Placed, standing, placed, carrier, carried, hearing, PlaceMe, InPlace, StoodWith, told_loaded}
-use Rattle.dq_words.specs.Plays.{WordMe, Knowing, issuing, newcomer, caller_loaded, keeper_loaded, extend_made, cancel_made, begin_made, exchange_made, give_back_made, return_loaded, LiveFor, MissedStep, extending, cancelling}
+use Rattle.dq_words.specs.Places.{views_in, seats_of, AreShown, Placed, standing, placed, carrier, carried, hearing, PlaceMe, InPlace, told_loaded}
+use Rattle.dq_words.specs.Plays.{WordMe, Knowing, issuing, newcomer, caller_loaded, keeper_loaded, extend_made, cancel_made, begin_made, exchange_made, give_back_made, return_loaded, LiveFor, MissedStep, extending}
 use Rattle.dq_words.specs.Rule.{Ruled, first_keeper}
 use Rattle.dq_words.proofs.Advances.{role_first}
 use Rattle.dq_words.proofs.Gathers.{set_at}
@@ -62,7 +62,7 @@ carrier_set (r ∷ ps) zero p q at on now =
     carrier_first q ps now ∙ sym (carrier_first r ps f)
 carrier_set (r ∷ ps) (suc id) p q at on now = ap (λ (vs : List View). if r.carries then vs else r.view ∷ vs) (carrier_set ps id p q at on now)
 
-seat_new : (ps : List Place) (q : Place) → q.carries ≡ false → views_in (ps ++ q ∷ []) ≡ views_in ps ++ q.view ∷ []
+pub seat_new : (ps : List Place) (q : Place) → q.carries ≡ false → views_in (ps ++ q ∷ []) ≡ views_in ps ++ q.view ∷ []
 seat_new [] q off = seat_first q [] off
 seat_new (r ∷ ps) q off = by r.carries (seat_new ps q off)
   where
@@ -96,10 +96,10 @@ shown_set vs k v w at has calls shown c h =
     (k, w, set_at vs k v w at, has c (subst Q same s.3)))
     (λ ne. (s.0, s.1, set_else vs k s.0 w ne ∙ s.2, s.3))
 
-shown_new : (vs : List View) (u : View) (calls : List Call) → AreShown vs calls → AreShown (vs ++ u ∷ []) calls
+pub shown_new : (vs : List View) (u : View) (calls : List Call) → AreShown vs calls → AreShown (vs ++ u ∷ []) calls
 shown_new vs u calls shown c h = let s = shown c h in (s.0, s.1, at_longer vs (u ∷ []) s.0 s.1 s.2, s.3)
 
-shown_same : (vs ws : List View) (calls : List Call) → ws ≡ vs → AreShown vs calls → AreShown ws calls
+pub shown_same : (vs ws : List View) (calls : List Call) → ws ≡ vs → AreShown vs calls → AreShown ws calls
 shown_same vs ws calls e shown = let P : List View → Type 0 = λ l. AreShown l calls in subst P (sym e) shown
 
 -- a step of a seat
@@ -249,7 +249,7 @@ hears rows id p other q off on s r at apart there =
           (at_set (set s.views id b) other j e u now);
     }
 
-word_again : (ws : List ℕ) (i : ℕ) → set ws i (get_or ws i 0) ≡ ws
+pub word_again : (ws : List ℕ) (i : ℕ) → set ws i (get_or ws i 0) ≡ ws
 word_again [] i = refl
 word_again (w ∷ ws) zero = refl
 word_again (w ∷ ws) (suc i) = ap (λ (l : List ℕ). w ∷ l) (word_again ws i)

@@ -8,15 +8,15 @@ use Rattle.atomic_table.proofs.Lists.{at_set, at_snoc}
 use Rattle.dq_words.specs.declared.views.View.{View}
 use Rattle.dq_ticks.specs.Word.{stamp_of}
 use Rattle.dq_words.specs.Word.{LearnedWord}
-use Rattle.dq_words.specs.Counts.{begins_in, expiries_in, removals_in, total, goes, gone_cancels, own_cancels, lives, below, issued_in, returns_in, given_in, InOrder}
+use Rattle.dq_words.specs.Counts.{begins_in, expiries_in, removals_in, total, goes, gone_cancels, made_cancels, lives, below, issued_in, returns_in, given_in, InOrder, passes_of, withdrawn, reaped_in}
 use Rattle.dq_words.specs.Files.{File, file, keeper_writes, bases_at, ends_at, extends_at, cancels_at}
 use Rattle.dq_words.specs.Rule.{Law, HadAt, Had, Role, Sees, Kept, Tallied, Ruled, zeros, first_keeper}
 use Rattle.dq_words.specs.Plays.{issuing, newcomer}
 use Rattle.dq_words.proofs.Gathers.{writes_same, writes_new, gathered_same, gathered_new, file_of}
 use Rattle.dq_words.proofs.Advances.{role_first}
-use Rattle.dq_words.proofs.Tallies.{total_set, total_new, lives_none}
+use Rattle.dq_words.proofs.Tallies.{total_set, total_new, lives_none, withdrawn_none}
 
-zero_at : (n i : ℕ) → get_or (zeros n) i 0 ≡ 0
+pub zero_at : (n i : ℕ) → get_or (zeros n) i 0 ≡ 0
 zero_at zero i = refl
 zero_at (suc n) zero = refl
 zero_at (suc n) (suc i) = zero_at n i
@@ -37,7 +37,7 @@ starts_kept rows words is =
 
     mine : Sees rows words (first_keeper rows ∷ []) 0 (first_keeper rows)
     mine = record {
-      role = (refl, refl, refl);
+      role = (refl, refl, refl, refl);
       row = length-replicate rows 0;
       below = λ i h. let a = zero_at rows i in omega arith;
       had = λ i h. inl (zero_at rows i);
@@ -125,6 +125,7 @@ starts rows words is few =
     let all = λ (i : ℕ). let e : get_or words i 0 ≡ 0 = ap (λ (ws : List ℕ). get_or ws i 0) is ∙ zero_at (rows + 1) i in e in
     let l = zero_below lives lives_none words all rows in
     let s = zero_below stamp_of refl words all rows in
+    let sh = zero_below withdrawn withdrawn_none words all rows in
     record {
       kept = starts_kept rows words is;
       tallied = record {
@@ -136,6 +137,7 @@ starts rows words is few =
         older = zero-le;
         same = λ h. sym (all rows);
         balance = omega arith;
+        reaped = omega arith;
         ordered = tt;
         given = λ i h. ap stamp_of (sym (all i));
         bounded = omega arith;
@@ -157,6 +159,11 @@ returns_more [] id v u first at = absurd (some-ne-none v (sym at))
 returns_more (x ∷ vs) zero v u first at = ap (λ (y : View). y.returns) (sym (some-injective x v at))
 returns_more (x ∷ vs) (suc id) v u first at = absurd (omega arith)
 
+reaped_more : (vs : List View) (id : ℕ) (v u : View) → id ≡ 0 → get_elem? vs id ≡ some v → reaped_in (set vs id (issuing v) ++ u ∷ []) ≡ reaped_in vs
+reaped_more [] id v u first at = absurd (some-ne-none v (sym at))
+reaped_more (x ∷ vs) zero v u first at = ap (λ (y : View). y.reaped) (sym (some-injective x v at))
+reaped_more (x ∷ vs) (suc id) v u first at = absurd (omega arith)
+
 issued_tallied : (rows : ℕ) (t : State ℕ View) (r : Tallied rows t) (id : ℕ) (v : View) → get_elem? t.views id ≡ some v → id ≡ 0 → v.issued < 1024 → Tallied rows record { words = t.words; homes = t.homes; views = set t.views id (issuing v) ++ newcomer v ∷ [] }
 issued_tallied rows t r id v at first room =
     let vs : List View = set t.views id (issuing v) in
@@ -169,10 +176,12 @@ issued_tallied rows t r id v at first room =
     let same_total = λ (f : View → ℕ) (e : f (issuing v) ≡ f v) (z : f (newcomer v) ≡ 0). let a = total_set f t.views id v (issuing v) at in let b = total_new f vs (newcomer v) in let h : total f all ≡ total f t.views = omega arith in h in
     let g = same_total goes refl refl in
     let gc = same_total gone_cancels refl refl in
-    let oc = same_total own_cancels refl refl in
+    let oc = same_total made_cancels refl refl in
+    let pc = same_total passes_of refl refl in
     let is = issued_own t.views id v first at in
     let more = issued_more t.views id v (newcomer v) first at in
     let ret = returns_more t.views id v (newcomer v) first at in
+    let rea = reaped_more t.views id v (newcomer v) first at in
     let ret' : returns_in all % 2048 ≡ returns_in t.views % 2048 = ap (λ z. z % 2048) ret in
     let len : length all ≡ length vs + 1 = length-append vs (newcomer v ∷ []) in
     let len' : length vs ≡ length t.views = length-set t.views id (issuing v) in
@@ -186,6 +195,7 @@ issued_tallied rows t r id v at first room =
       older = omega arith;
       same = λ h. let f : returns_in t.views % 2048 ≡ total goes t.views = sym ret' ∙ h ∙ g in ret ∙ r.same f;
       balance = omega arith;
+      reaped = let a = r.reaped in omega arith;
       ordered = subst InOrder (sym k) r.ordered;
       given = λ j h. ap (given_in j) k ∙ r.given j h;
       bounded = omega arith;

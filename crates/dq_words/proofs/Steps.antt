@@ -79,6 +79,7 @@ stays rows t r i id v inside at here kind held =
       saw = refl;
       keeps = refl;
       stays = λ _. refl;
+      passes = refl;
       no_calls = λ _. refl;
       no_writes = λ _. refl;
       grows = λ j s. grows_same (file j s t.views) (file j s (set t.views id w)) (same j s);
@@ -86,7 +87,7 @@ stays rows t r i id v inside at here kind held =
       cells = λ s pos. let P : File → Type 0 = λ f. Law n s f in subst P (sym (same i s)) (r.kept.cells i s inside pos);
       learns = λ _ x h. h;
     })
-    (counts_calls rows t i id v w n n inside at refl (r.tallied.wide i inside) here refl refl refl refl refl refl)
+    (counts_calls rows t i id v w n n inside at refl (r.tallied.wide i inside) here refl refl refl refl refl refl refl refl refl refl)
     held
 
 -- what a step gives, at one state

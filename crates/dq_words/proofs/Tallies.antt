@@ -6,7 +6,7 @@ use Rattle.atomic_table.specs.Table.{State}
 use Rattle.dq_words.specs.declared.views.View.{View}
 use Rattle.dq_words.specs.declared.views.Write.{Write}
 use Rattle.dq_ticks.specs.Word.{stamp_of, mark_of}
-use Rattle.dq_words.specs.Counts.{most_begins, begins_in, expiries_in, removals_in, cancels_in, total, goes, gone_cancels, own_cancels, lives, below, issued_in, returns_in, given_in, InOrder}
+use Rattle.dq_words.specs.Counts.{most_begins, begins_in, expiries_in, removals_in, cancels_in, total, goes, gone_cancels, made_cancels, lives, below, issued_in, returns_in, given_in, InOrder, passes_of, reaped_in, withdrawn}
 use Rattle.dq_words.specs.Files.{keeper_writes}
 use Rattle.dq_words.specs.Rule.{Tallied, Ruled}
 use Rattle.dq_words.proofs.Gathers.{writes_same}
@@ -67,10 +67,47 @@ pub returns_same : (vs : List View) (id : ℕ) (v w : View) → get_elem? vs id 
 returns_same vs id v w at e = head_same (λ (x : View). x.returns) returns_in (λ x xs. refl) vs id v w at e
 
 pub goes_none : (v : View) → v.gone ≡ false → goes v ≡ 0
-goes_none v h = ap (λ (b : Bool). if b then 1 else 0) h
+goes_none v h = by v.passes v.gone h where
+  by : (p b : Bool) → b ≡ false → ◌≡◌ {A = ℕ} (if p then 0 else (if b then 1 else 0)) 0
+  by true b e = refl
+  by false b e = ap (λ (x : Bool). if x then 1 else 0) e
 
 pub gone_none : (v : View) → v.gone ≡ false → gone_cancels v ≡ 0
-gone_none v h = ap (λ (b : Bool). if b then cancels_in v.calls else 0) h
+gone_none v h = by v.passes v.gone h where
+  by : (p b : Bool) → b ≡ false → ◌≡◌ {A = ℕ} (if p then 0 else (if b then cancels_in v.calls else 0)) 0
+  by true b e = refl
+  by false b e = ap (λ (x : Bool). if x then cancels_in v.calls else 0) e
+
+pub withdrawn_no : (n : ℕ) → mark_of n ≢ 1 → withdrawn n ≡ 0
+withdrawn_no n m = ap (λ (p : Bool). if p then 1 else 0) (ne_eqb (mark_of n) 1 m)
+
+pub withdrawn_yes : (n : ℕ) → mark_of n ≡ 1 → withdrawn n ≡ 1
+withdrawn_yes n m = ap (λ (p : Bool). if p then 1 else 0) (eq-eqb (mark_of n) 1 m)
+
+pub withdrawn_none : withdrawn 0 ≡ 0
+withdrawn_none = refl
+
+pub gone_same : (v w : View) → w.passes ≡ v.passes → w.gone ≡ v.gone → cancels_in w.calls ≡ cancels_in v.calls → gone_cancels w ≡ gone_cancels v
+gone_same v w p g c = ap (λ (x : Bool × Bool × ℕ). if x.0 then 0 else (if x.1 then x.2 else 0)) (λ k. (p k, g k, c k))
+
+pub passes_same : (v w : View) → w.passes ≡ v.passes → passes_of w ≡ passes_of v
+passes_same v w e = ap (λ (b : Bool). if b then 1 else 0) e
+
+pub passes_none : (v : View) → v.passes ≡ false → passes_of v ≡ 0
+passes_none v e = ap (λ (b : Bool). if b then 1 else 0) e
+
+pub reaped_same : (vs : List View) (id : ℕ) (v w : View) → get_elem? vs id ≡ some v → w.reaped ≡ v.reaped → reaped_in (set vs id w) ≡ reaped_in vs
+reaped_same vs id v w at e = head_same (λ (x : View). x.reaped) reaped_in (λ x xs. refl) vs id v w at e
+
+pub reaped_own : (vs : List View) (id : ℕ) (v : View) → get_elem? vs id ≡ some v → id ≡ 0 → reaped_in vs ≡ v.reaped
+reaped_own [] id v at first = absurd (some-ne-none v (sym at))
+reaped_own (u ∷ vs) zero v at first = ap (λ (x : View). x.reaped) (some-injective u v at)
+reaped_own (u ∷ vs) (suc id) v at first = absurd (omega arith)
+
+pub reaped_first : (vs : List View) (id : ℕ) (v w : View) → get_elem? vs id ≡ some v → id ≡ 0 → reaped_in (set vs id w) ≡ w.reaped
+reaped_first [] id v w at first = absurd (some-ne-none v (sym at))
+reaped_first (u ∷ vs) zero v w at first = refl
+reaped_first (u ∷ vs) (suc id) v w at first = absurd (omega arith)
 
 -- what a step on the slot i owes to the numbers
 pub record Counts (rows : ℕ) (t : State ℕ View) (i id : ℕ) (v w : View) (n n' : ℕ) : Type 0 where
@@ -80,6 +117,9 @@ pub record Counts (rows : ℕ) (t : State ℕ View) (i id : ℕ) (v w : View) (n
   pub wide : n' < 18446744073709551616
   pub here : v.gone ≡ false
   pub stays : w.gone ≡ false
+  pub passes : w.passes ≡ v.passes
+  pub counted : gone_cancels w ≡ gone_cancels v
+  pub reaped : (reaped_in (set t.views id w) + cancels_in v.calls) + withdrawn n' ≡ (reaped_in t.views + cancels_in w.calls) + withdrawn n
   pub issued : w.issued ≡ v.issued
   pub returns : w.returns ≡ v.returns
   pub balance : begins_in (keeper_writes (set t.views id w)) + (((expiries_in (keeper_writes t.views) + removals_in (keeper_writes t.views)) + cancels_in v.calls) + lives n) ≡ begins_in (keeper_writes t.views) + (((expiries_in (keeper_writes (set t.views id w)) + removals_in (keeper_writes (set t.views id w))) + cancels_in w.calls) + lives n')
@@ -102,10 +142,11 @@ counts_on rows t r sized i id v w n n' c held =
     let gw = goes_none w c.stays in
     let goes_now : total goes (set t.views id w) ≡ total goes t.views = omega arith in
     let gc = total_set gone_cancels t.views id v w c.seat in
-    let gcv = gone_none v c.here in
-    let gcw = gone_none w c.stays in
+    let gcs = c.counted in
     let gone_now : total gone_cancels (set t.views id w) ≡ total gone_cancels t.views = omega arith in
-    let own = total_set own_cancels t.views id v w c.seat in
+    let pas = total_set passes_of t.views id v w c.seat in
+    let pas' = passes_same v w c.passes in
+    let own = total_set made_cancels t.views id v w c.seat in
     let iss = issued_same t.views id v w c.seat c.issued in
     let ret = returns_same t.views id v w c.seat c.returns in
     let len = length_of t.views id w in
@@ -116,12 +157,13 @@ counts_on rows t r sized i id v w n n' c held =
       wide = λ j h. by_index i j (get_or (set t.words i n') j 0 < 18446744073709551616)
           (λ e. let a = get_here t.words i j n' in_words e in let b = c.wide in omega arith)
           (λ ne. let a = get_or-set_other t.words i j n' 0 ne in let b = r.wide j h in omega arith);
-      issued = len ∙ ri ∙ ap (λ z. z + 1) (sym iss);
+      issued = omega arith;
       limit = omega arith;
       returned = omega arith;
       older = omega arith;
       same = λ e. let f : returns_in t.views % 2048 ≡ total goes t.views = sym ret' ∙ e ∙ goes_now in ret ∙ r.same f ∙ sym last;
       balance = let b = r.balance in let s = below_set lives t.words i n' rows inside in_words in let f : lives (get_or t.words i 0) ≡ lives n = ap lives c.found in let cb = c.balance in omega arith;
+      reaped = let b = r.reaped in let s = below_set withdrawn t.words i n' rows inside in_words in let f : withdrawn (get_or t.words i 0) ≡ withdrawn n = ap withdrawn c.found in let cb = c.reaped in omega arith;
       ordered = c.orders r.ordered (r.given i inside ∙ ap stamp_of c.found);
       given = λ j h. by_index i j (given_in j (keeper_writes (set t.views id w)) ≡ stamp_of (get_or (set t.words i n') j 0))
           (λ e. let a : stamp_of (get_or (set t.words i n') j 0) ≡ stamp_of n' = ap stamp_of (get_here t.words i j n' in_words e) in
@@ -131,9 +173,10 @@ counts_on rows t r sized i id v w n n' c held =
     }
 
 -- a caller's step
-pub counts_calls : (rows : ℕ) (t : State ℕ View) (i id : ℕ) (v w : View) (n n' : ℕ) → i < rows → get_elem? t.views id ≡ some v → get_or t.words i 0 ≡ n → n' < 18446744073709551616 → v.gone ≡ false → w.gone ≡ v.gone
-    → w.issued ≡ v.issued → w.returns ≡ v.returns → w.writes ≡ v.writes → cancels_in w.calls + lives n' ≡ cancels_in v.calls + lives n → stamp_of n' ≡ stamp_of n → Counts rows t i id v w n n'
-counts_calls rows t i id v w n n' inside at found wide here gone issued returns writes calls stamps =
+pub counts_calls : (rows : ℕ) (t : State ℕ View) (i id : ℕ) (v w : View) (n n' : ℕ) → i < rows → get_elem? t.views id ≡ some v → get_or t.words i 0 ≡ n → n' < 18446744073709551616 → v.gone ≡ false → w.gone ≡ v.gone → w.passes ≡ v.passes → gone_cancels w ≡ gone_cancels v
+    → w.issued ≡ v.issued → w.returns ≡ v.returns → w.writes ≡ v.writes → w.reaped ≡ v.reaped → cancels_in w.calls + lives n' ≡ cancels_in v.calls + lives n → cancels_in v.calls + withdrawn n' ≡ cancels_in w.calls + withdrawn n → stamp_of n' ≡ stamp_of n → Counts rows t i id v w n n'
+counts_calls rows t i id v w n n' inside at found wide here gone passes counted issued returns writes reaped calls shut stamps =
+    let re = reaped_same t.views id v w at reaped in
     let k = writes_same t.views id v w at writes in
     let kb : begins_in (keeper_writes (set t.views id w)) ≡ begins_in (keeper_writes t.views) = ap begins_in k in
     let ke : expiries_in (keeper_writes (set t.views id w)) ≡ expiries_in (keeper_writes t.views) = ap expiries_in k in
@@ -145,6 +188,9 @@ counts_calls rows t i id v w n n' inside at found wide here gone issued returns 
       wide = wide;
       here = here;
       stays = gone ∙ here;
+      passes = passes;
+      counted = counted;
+      reaped = omega arith;
       issued = issued;
       returns = returns;
       balance = omega arith;
@@ -155,11 +201,11 @@ counts_calls rows t i id v w n n' inside at found wide here gone issued returns 
     }
 
 -- the keeper's step
-pub counts_writes : (rows : ℕ) (t : State ℕ View) (i id : ℕ) (v w : View) (x : Write) (n n' : ℕ) → i < rows → get_elem? t.views id ≡ some v → get_or t.words i 0 ≡ n → n' < 18446744073709551616 → v.gone ≡ false → w.gone ≡ v.gone
-    → w.issued ≡ v.issued → w.returns ≡ v.returns → keeper_writes (set t.views id w) ≡ x ∷ keeper_writes t.views → w.calls ≡ v.calls
+pub counts_writes : (rows : ℕ) (t : State ℕ View) (i id : ℕ) (v w : View) (x : Write) (n n' : ℕ) → i < rows → get_elem? t.views id ≡ some v → get_or t.words i 0 ≡ n → n' < 18446744073709551616 → v.gone ≡ false → w.gone ≡ v.gone → w.passes ≡ v.passes
+    → w.issued ≡ v.issued → w.returns ≡ v.returns → keeper_writes (set t.views id w) ≡ x ∷ keeper_writes t.views → w.calls ≡ v.calls → reaped_in (set t.views id w) + withdrawn n' ≡ reaped_in t.views + withdrawn n
     → ((ws : List Write) → begins_in (x ∷ ws) + ((expiries_in ws + removals_in ws) + lives n) ≡ begins_in ws + ((expiries_in (x ∷ ws) + removals_in (x ∷ ws)) + lives n')) → ((ws : List Write) → begins_in (x ∷ ws) + stamp_of n ≤ begins_in ws + stamp_of n')
     → ((ws : List Write) → given_in i ws ≡ stamp_of n → InOrder ws → InOrder (x ∷ ws)) → ((ws : List Write) → given_in i ws ≡ stamp_of n → given_in i (x ∷ ws) ≡ stamp_of n') → ((ws : List Write) (j : ℕ) → j ≢ i → given_in j (x ∷ ws) ≡ given_in j ws) → Counts rows t i id v w n n'
-counts_writes rows t i id v w x n n' inside at found wide here gone issued returns k calls balance bounded orders gives others =
+counts_writes rows t i id v w x n n' inside at found wide here gone passes issued returns k calls reaped balance bounded orders gives others =
     let ws : List Write = keeper_writes t.views in
     let kb : begins_in (keeper_writes (set t.views id w)) ≡ begins_in (x ∷ ws) = ap begins_in k in
     let ke : expiries_in (keeper_writes (set t.views id w)) ≡ expiries_in (x ∷ ws) = ap expiries_in k in
@@ -174,6 +220,9 @@ counts_writes rows t i id v w x n n' inside at found wide here gone issued retur
       wide = wide;
       here = here;
       stays = gone ∙ here;
+      passes = passes;
+      counted = gone_same v w passes gone kc;
+      reaped = omega arith;
       issued = issued;
       returns = returns;
       balance = omega arith;
@@ -195,7 +244,7 @@ ruled_after rows t r i id v w n n' m c held = record { kept = advances rows t r.
 -- a caller's cancels are few
 pub all_cancels : (rows : ℕ) (t : State ℕ View) (r : Ruled rows t) (id : ℕ) (v : View) → get_elem? t.views id ≡ some v → cancels_in v.calls ≤ most_begins
 all_cancels rows t r id v at =
-    let a = total_le own_cancels t.views id v at in
+    let a = total_le made_cancels t.views id v at in
     let b = r.tallied.balance in
     let c = r.tallied.bounded in
     let d = below_bound t.words rows r.tallied.wide in

@@ -1,15 +1,11 @@
 -- A caller's accepted calls in the files of all views.
-use Rattle.std.proofs.Common.{◌≡◌, ℕ, suc, ◌+◌, ◌<◌, ◌≤◌, ◌⊎◌, Bool, true, false, List, [], ◌∷◌, length, get_or, sym, refl, ap, ◌∙◌, subst, inl, inr, ⊎_elim, arith}
-use mathlib.Core.Option.{some}
-use lib.ListN.{get_elem?}
-use Rattle.atomic_table.specs.Table.{State}
+use Rattle.std.proofs.Common.{◌≡◌, ℕ, ◌⊎◌, Bool, true, false, List, [], ◌∷◌, length, get_or, sym, refl, ap, subst, inl, inr, ⊎_elim, arith}
 use Rattle.dq_words.specs.declared.views.Call.{Call}
 use Rattle.dq_words.specs.declared.views.Call.TheVariants.{Extend, Cancel}
 use Rattle.dq_words.specs.declared.views.View.{View}
-use Rattle.dq_words.specs.Files.{File, blank, file, IsIn, is_at, with_if, ends_at, extends_at, cancels_at, gathered, keeper_writes}
+use Rattle.dq_words.specs.Files.{File, file, IsIn, is_at, with_if, ends_at, extends_at, cancels_at, gathered}
 use Rattle.dq_words.specs.Places.{AreShown, StoodWith}
-use Rattle.dq_words.specs.Plays.{Covers}
-use Rattle.dq_words.specs.Rule.{UnbornStamp, LivingStamp, CancelledStamp, EndedStamp, Law, Ruled}
+use Rattle.dq_words.specs.Rule.{UnbornStamp, LivingStamp, CancelledStamp, EndedStamp, Law}
 use Rattle.dq_words.specs.Together.{EndsCover}
 use Rattle.dq_words.proofs.Advances.{by_order}
 use Rattle.dq_words.proofs.Ends.{ends}

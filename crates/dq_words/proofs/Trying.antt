@@ -1,9 +1,10 @@
 -- What the keeper's tries leave of its view.
-use Rattle.std.proofs.Common.{◌≡◌, ◌∷◌, ℕ, suc, ◌<◌, length, get_or, ap, ◌∙◌, subst, get_or-set_same, set-set}
+use Rattle.std.proofs.Common.{◌≡◌, ◌≢◌, ◌∷◌, ℕ, suc, ◌<◌, length, get_or, ap, ◌∙◌, subst, ⊎_elim, get_or-set_same, set-set, arith}
 use Rattle.dq_words.specs.declared.views.View.{View}
 use Rattle.dq_words.specs.declared.views.StepKind.TheVariants.{KeeperLoad, FailedExchange}
 use Rattle.dq_words.specs.Keeping.{IsOpen}
-use Rattle.dq_words.specs.KeeperCalls.{failed_on, after_failures}
+use Rattle.dq_ticks.specs.Word.{word, mark_of, field_of}
+use Rattle.dq_words.specs.KeeperCalls.{failed_on, after_failures, FindsCancelled}
 use Rattle.dq_words.specs.Plays.{stepping}
 use Rattle.dq_words.specs.Plays.{SeatGoesOn}
 use Rattle.dq_words.specs.Word.{LearnedWord}
@@ -27,6 +28,13 @@ loaded_more v u w i s x y inside l learned is =
       learned = learned_on (get_or v.seen i 0) x y l.learned new;
       open_word = open_on x y s l.open_word new;
     }
+
+-- where the last word that was seen isn't live, it is cancelled
+pub found_cancelled : (v w : View) (i s x : ℕ) → Loaded v w i s x → mark_of x ≢ 0 → FindsCancelled v i s w
+found_cancelled v w i s x l ended =
+    let is : x ≡ word s 1 0 = ⊎_elim (λ (e : x ≡ word s 1 0). e) (λ (e : x ≡ word s 0 (field_of x)). absurd (ended (omega arith))) l.open_word.1 in
+    let P : ℕ → Type 0 = λ y. LearnedWord (get_or v.seen i 0) y in
+    (subst P is l.learned, (l.many, l.is ∙ ap (λ y. after_failures v i y l.many) is))
 
 pub goes_more : (u v w : View) → SeatGoesOn u v → SeatGoesOn v w → SeatGoesOn u w
 goes_more u v w a b = record { knew = b.knew; row = b.row ∙ a.row; role = b.role ∙ a.role; issued = λ k. b.issued (a.role ∙ k) ∙ a.issued k }

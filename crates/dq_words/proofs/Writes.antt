@@ -11,14 +11,14 @@ use Rattle.dq_words.specs.declared.views.Write.TheVariants.{Begin, Expired, Rene
 use Rattle.dq_words.specs.declared.views.StepKind.TheVariants.{FailedExchange}
 use Rattle.dq_ticks.specs.Word.{stamp_unit, word, stamp_of, mark_of, field_of}
 use Rattle.dq_words.specs.Word.{Left, LearnedWord}
-use Rattle.dq_words.specs.Counts.{lives}
+use Rattle.dq_words.specs.Counts.{lives, withdrawn, reaped_in}
 use Rattle.dq_words.specs.Files.{is_at, with_if, File, file_of_lists, blank, file, IsIn, Among, IsDeadline, bases_at, ends_at, extends_at, cancels_at, gathered, keeper_writes}
 use Rattle.dq_words.specs.Rule.{UnbornStamp, LivingStamp, CancelledStamp, EndedStamp, Law, Kept, Ruled}
 use Rattle.dq_words.specs.Plays.{WordMe, Knowing, beginning, settling, renewing, finishing, begin_made, exchange_made}
 use Rattle.dq_words.proofs.Gathers.{at_other_slot, at_other_stamp, if_here, if_other, has_with_if, gathered_same, writes_own, file_of, set_at}
 use Rattle.dq_words.proofs.Advances.{by_index, Grows, Moves, still, role_first, role_here, after}
 use Rattle.dq_words.proofs.Knowing.{knows}
-use Rattle.dq_words.proofs.Tallies.{lives_yes, lives_no, lives_none, counts_writes, one_here, none_other, ruled_after}
+use Rattle.dq_words.proofs.Tallies.{lives_yes, lives_no, lives_none, withdrawn_no, reaped_same, reaped_own, reaped_first, counts_writes, one_here, none_other, ruled_after}
 use Rattle.dq_words.proofs.Steps.{law_live, law_beyond, missed, Outcome}
 
 bases_grow : (x : Write) (ws : List Write) (j z y : ℕ) → IsIn (bases_at j z ws) y → IsIn (bases_at j z (x ∷ ws)) y
@@ -101,9 +101,9 @@ module _ (rows : ℕ) (t : State ℕ View) (r : Kept rows t) (i id : ℕ) (v : V
   my_id = role_first id v (r.sees id v at).role keeper
 
   -- what is left of a keeper's step once its write is known
-  moved : (w : View) (x : Write) (n n' : ℕ) → get_or t.words i 0 ≡ n → n ≤ n' → (n' < stamp_unit → n' ≡ 0) → w.seen ≡ set v.seen i n' → w.keeps ≡ v.keeps → w.gone ≡ v.gone → w.calls ≡ v.calls → w.writes ≡ x ∷ v.writes
+  moved : (w : View) (x : Write) (n n' : ℕ) → get_or t.words i 0 ≡ n → n ≤ n' → (n' < stamp_unit → n' ≡ 0) → w.seen ≡ set v.seen i n' → w.keeps ≡ v.keeps → w.gone ≡ v.gone → w.passes ≡ v.passes → w.calls ≡ v.calls → w.writes ≡ x ∷ v.writes
       → ((j z : ℕ) → (j ≢ i) ⊎ (z ≡ 0) → file j z (set t.views id w) ≡ file j z t.views) → ((z : ℕ) → 0 < z → Law n' z (file i z (set t.views id w))) → Moves rows t i id v w n n'
-  moved w x n n' found greater unused saw kept stayed calls writes elsewhere cells = record {
+  moved w x n n' found greater unused saw kept stayed passed calls writes elsewhere cells = record {
     inside = inside;
     seat = at;
     found = found;
@@ -112,6 +112,7 @@ module _ (rows : ℕ) (t : State ℕ View) (r : Kept rows t) (i id : ℕ) (v : V
     saw = saw;
     keeps = kept;
     stays = λ _. stayed;
+    passes = passed;
     no_calls = λ _. calls;
     no_writes = λ h. absurd (true≢false (sym keeper ∙ h));
     grows = written_grows t.views id v w at my_id x calls writes;
@@ -128,7 +129,7 @@ module _ (rows : ℕ) (t : State ℕ View) (r : Kept rows t) (i id : ℕ) (v : V
       let w : View = beginning v i k in let s : ℕ = stamp_of k in let b : ℕ = field_of k in let x : Write = Begin i s b in
       let ks : k ≡ word s 0 b = omega arith in
       let same = λ (j z : ℕ) (o : is_at j z i s ≡ false). written_same t.views id v w at my_id x refl refl j z (if_other (is_at j z i s) b (bases_at j z (keeper_writes t.views)) o) refl in
-      moved w x n k found (omega arith) (λ h. absurd (omega arith)) refl refl refl refl refl
+      moved w x n k found (omega arith) (λ h. absurd (omega arith)) refl refl refl refl refl refl
       (λ j z far. same j z (off j z i s (omega arith) far))
       (λ z p. by_index s z (Law k z (file i z (set t.views id w)))
       (λ e. let P : ℕ → Type 0 = λ y. Law k y (file i y (set t.views id w)) in
@@ -143,13 +144,13 @@ module _ (rows : ℕ) (t : State ℕ View) (r : Kept rows t) (i id : ℕ) (v : V
       (λ no. still n k z (file i z t.views) (λ h. omega arith) (λ h. (omega arith, omega arith)) (law_at n z found p)))))
 
   -- an end that leaves the stamp in the word
-  closes_at : (w : View) (x : Write) (m n k : ℕ) → get_or t.words i 0 ≡ n → 0 < stamp_of n → mark_of n ≡ 0 → stamp_of k ≡ stamp_of n → mark_of k ≡ m → 1 < m → field_of k ≡ field_of n → w.seen ≡ set v.seen i k → w.keeps ≡ v.keeps → w.gone ≡ v.gone → w.calls ≡ v.calls → w.writes ≡ x ∷ v.writes
+  closes_at : (w : View) (x : Write) (m n k : ℕ) → get_or t.words i 0 ≡ n → 0 < stamp_of n → mark_of n ≡ 0 → stamp_of k ≡ stamp_of n → mark_of k ≡ m → 1 < m → field_of k ≡ field_of n → w.seen ≡ set v.seen i k → w.keeps ≡ v.keeps → w.gone ≡ v.gone → w.passes ≡ v.passes → w.calls ≡ v.calls → w.writes ≡ x ∷ v.writes
       → ((j z : ℕ) (ws : List Write) → bases_at j z (x ∷ ws) ≡ bases_at j z ws)
       → ((j z : ℕ) (ws : List Write) → ends_at j z (x ∷ ws) ≡ with_if (is_at j z i (stamp_of n)) (m, field_of n) (ends_at j z ws)) → Moves rows t i id v w n k
-  closes_at w x m n k found pos nm same_stamp km ended same_field saw kept stayed calls writes bs es =
+  closes_at w x m n k found pos nm same_stamp km ended same_field saw kept stayed passed calls writes bs es =
       let s : ℕ = stamp_of n in let d : ℕ = field_of n in
       let same = λ (j z : ℕ) (o : is_at j z i s ≡ false). written_same t.views id v w at my_id x calls writes j z (bs j z (keeper_writes t.views)) (es j z (keeper_writes t.views) ∙ if_other (is_at j z i s) (m, d) (ends_at j z (keeper_writes t.views)) o) in
-      moved w x n k found (omega arith) (λ h. absurd (omega arith)) saw kept stayed calls writes
+      moved w x n k found (omega arith) (λ h. absurd (omega arith)) saw kept stayed passed calls writes
       (λ j z far. same j z (off j z i s pos far))
       (λ z p. by_index s z (Law k z (file i z (set t.views id w)))
       (λ e. let P : ℕ → Type 0 = λ y. Law k y (file i y (set t.views id w)) in
@@ -163,12 +164,12 @@ module _ (rows : ℕ) (t : State ℕ View) (r : Kept rows t) (i id : ℕ) (v : V
   settles_at : (n k : ℕ) → get_or t.words i 0 ≡ n → 0 < stamp_of n → mark_of n ≡ 0 → stamp_of k ≡ stamp_of n → mark_of k ≡ 2 → field_of k ≡ field_of n → Moves rows t i id v (settling v i n k) n k
   settles_at n k found pos nm same_stamp km same_field =
       let two : 1 < 2 = omega arith in
-      closes_at (settling v i n k) (Expired i (stamp_of n) (field_of n)) 2 n k found pos nm same_stamp km two same_field refl refl refl refl refl (λ j z ws. refl) (λ j z ws. refl)
+      closes_at (settling v i n k) (Expired i (stamp_of n) (field_of n)) 2 n k found pos nm same_stamp km two same_field refl refl refl refl refl refl (λ j z ws. refl) (λ j z ws. refl)
 
   finishes_at : (n k : ℕ) → get_or t.words i 0 ≡ n → 0 < stamp_of n → mark_of n ≡ 0 → stamp_of k ≡ stamp_of n → mark_of k ≡ 3 → field_of k ≡ field_of n → Moves rows t i id v (finishing v i n k) n k
   finishes_at n k found pos nm same_stamp km same_field =
       let three : 1 < 3 = omega arith in
-      closes_at (finishing v i n k) (Removed i (stamp_of n) (field_of n)) 3 n k found pos nm same_stamp km three same_field refl refl refl refl refl (λ j z ws. refl) (λ j z ws. refl)
+      closes_at (finishing v i n k) (Removed i (stamp_of n) (field_of n)) 3 n k found pos nm same_stamp km three same_field refl refl refl refl refl refl (λ j z ws. refl) (λ j z ws. refl)
 
   renews_at : (n k : ℕ) → get_or t.words i 0 ≡ n → 0 < stamp_of n → mark_of n ≡ 0 → stamp_of k ≡ stamp_of n + 1 → mark_of k ≡ 0 → Moves rows t i id v (renewing v i n k) n k
   renews_at n k found pos nm next km =
@@ -176,7 +177,7 @@ module _ (rows : ℕ) (t : State ℕ View) (r : Kept rows t) (i id : ℕ) (v : V
       let ks : k ≡ word (s + 1) 0 b = omega arith in
       let same = λ (j z : ℕ) (o : is_at j z i s ≡ false) (o' : is_at j z i (s + 1) ≡ false). written_same t.views id v w at my_id x refl refl j z
       (if_other (is_at j z i (s + 1)) b (bases_at j z (keeper_writes t.views)) o') (if_other (is_at j z i s) (0, d) (ends_at j z (keeper_writes t.views)) o) in
-      moved w x n k found (omega arith) (λ h. absurd (omega arith)) refl refl refl refl refl
+      moved w x n k found (omega arith) (λ h. absurd (omega arith)) refl refl refl refl refl refl
       (λ j z far. same j z (off j z i s pos far) (off j z i (s + 1) (omega arith) far))
       (λ z p. by_index s z (Law k z (file i z (set t.views id w)))
       (λ e. let P : ℕ → Type 0 = λ y. Law k y (file i y (set t.views id w)) in
@@ -208,14 +209,16 @@ module _ (rows : ℕ) where
       let w : View = beginning me.0 i k in
       let dead : lives n ≡ 0 = ⊎_elim (λ ended. lives_no n ended) (λ never. ap lives never ∙ lives_none) shut' in
       let live : lives k ≡ 1 = lives_yes k km (omega arith) in
+      let open_new : withdrawn k ≡ 0 = withdrawn_no k (λ z. omega arith) in
       let first = my_id rows t r.kept i id me.0 inside at keeper in
       let y : Write = Begin i (stamp_of k) (field_of k) in
+      let re : reaped_in (set t.views id w) ≡ reaped_in t.views + withdrawn n = reaped_first t.views id me.0 w at first ∙ ap (λ z. me.0.reaped + withdrawn z) (sym same) ∙ ap (λ z. z + withdrawn n) (sym (reaped_own t.views id me.0 at first)) in
       let one = one_here i in (
         w,
         keeps,
         tt,
         ruled_after rows t r i id me.0 w n k (begins_at rows t r.kept i id me.0 inside at keeper n k refl shut' next' km)
-            (counts_writes rows t i id me.0 w y n k inside at refl small here refl refl refl (now_written t.views id me.0 w at first y refl refl) refl
+            (counts_writes rows t i id me.0 w y n k inside at refl small here refl refl refl refl (now_written t.views id me.0 w at first y refl refl) refl (omega arith)
             (λ ws. omega arith) (λ ws. omega arith) (λ ws g o. (omega arith, o)) (λ ws g. omega arith) (λ ws j ne. let z = none_other j i ne in omega arith)) me.1,
         refl,
       ))
@@ -236,25 +239,28 @@ module _ (rows : ℕ) where
       → Allows (Ruled rows) slots id me i (λ n. either (eqb n old) new n) (Knowing (exchange_made settling) (step slots i old new none) me)
   settles slots id me i old new inside keeper pos om ns nm nf small = swap settling slots id me i old new inside keeper
       (λ t r at here e. let w : View = settling me.0 i old new in let y : Write = Expired i (stamp_of old) (field_of old) in
+      let re = reaped_same t.views id me.0 w at refl in let open_old : withdrawn old ≡ 0 = withdrawn_no old (λ z. omega arith) in let open_new : withdrawn new ≡ 0 = withdrawn_no new (λ z. omega arith) in
       let live : lives old ≡ 1 = lives_yes old om pos in let dead : lives new ≡ 0 = lives_no new (λ z. omega arith) in
       ruled_after rows t r i id me.0 w old new (settles_at rows t r.kept i id me.0 inside at keeper old new e pos om ns nm nf)
-      (counts_writes rows t i id me.0 w y old new inside at e small here refl refl refl (now_written t.views id me.0 w at (my_id rows t r.kept i id me.0 inside at keeper) y refl refl) refl
+      (counts_writes rows t i id me.0 w y old new inside at e small here refl refl refl refl (now_written t.views id me.0 w at (my_id rows t r.kept i id me.0 inside at keeper) y refl refl) refl (omega arith)
       (λ ws. omega arith) (λ ws. omega arith) (λ ws g o. (sym g, o)) (λ ws g. g ∙ sym ns) (λ ws j ne. refl)) me.1)
 
   pub finishes : (slots id : ℕ) (me : WordMe) (i old new : ℕ) → i < rows → me.0.keeps ≡ true → 0 < stamp_of old → mark_of old ≡ 0 → stamp_of new ≡ stamp_of old → mark_of new ≡ 3 → field_of new ≡ field_of old → new < 18446744073709551616
       → Allows (Ruled rows) slots id me i (λ n. either (eqb n old) new n) (Knowing (exchange_made finishing) (step slots i old new none) me)
   finishes slots id me i old new inside keeper pos om ns nm nf small = swap finishing slots id me i old new inside keeper
       (λ t r at here e. let w : View = finishing me.0 i old new in let y : Write = Removed i (stamp_of old) (field_of old) in
+      let re = reaped_same t.views id me.0 w at refl in let open_old : withdrawn old ≡ 0 = withdrawn_no old (λ z. omega arith) in let open_new : withdrawn new ≡ 0 = withdrawn_no new (λ z. omega arith) in
       let live : lives old ≡ 1 = lives_yes old om pos in let dead : lives new ≡ 0 = lives_no new (λ z. omega arith) in
       ruled_after rows t r i id me.0 w old new (finishes_at rows t r.kept i id me.0 inside at keeper old new e pos om ns nm nf)
-      (counts_writes rows t i id me.0 w y old new inside at e small here refl refl refl (now_written t.views id me.0 w at (my_id rows t r.kept i id me.0 inside at keeper) y refl refl) refl
+      (counts_writes rows t i id me.0 w y old new inside at e small here refl refl refl refl (now_written t.views id me.0 w at (my_id rows t r.kept i id me.0 inside at keeper) y refl refl) refl (omega arith)
       (λ ws. omega arith) (λ ws. omega arith) (λ ws g o. (sym g, o)) (λ ws g. g ∙ sym ns) (λ ws j ne. refl)) me.1)
 
   pub renews : (slots id : ℕ) (me : WordMe) (i old new : ℕ) → i < rows → me.0.keeps ≡ true → 0 < stamp_of old → mark_of old ≡ 0 → stamp_of new ≡ stamp_of old + 1 → mark_of new ≡ 0 → new < 18446744073709551616
       → Allows (Ruled rows) slots id me i (λ n. either (eqb n old) new n) (Knowing (exchange_made renewing) (step slots i old new none) me)
   renews slots id me i old new inside keeper pos om next nm small = swap renewing slots id me i old new inside keeper
       (λ t r at here e. let w : View = renewing me.0 i old new in let y : Write = Renewed i (stamp_of old) (field_of old) (field_of new) in
+      let re = reaped_same t.views id me.0 w at refl in let open_old : withdrawn old ≡ 0 = withdrawn_no old (λ z. omega arith) in let open_new : withdrawn new ≡ 0 = withdrawn_no new (λ z. omega arith) in
       let live : lives old ≡ 1 = lives_yes old om pos in let still_live : lives new ≡ 1 = lives_yes new nm (omega arith) in let one = one_here i in
       ruled_after rows t r i id me.0 w old new (renews_at rows t r.kept i id me.0 inside at keeper old new e pos om next nm)
-      (counts_writes rows t i id me.0 w y old new inside at e small here refl refl refl (now_written t.views id me.0 w at (my_id rows t r.kept i id me.0 inside at keeper) y refl refl) refl
+      (counts_writes rows t i id me.0 w y old new inside at e small here refl refl refl refl (now_written t.views id me.0 w at (my_id rows t r.kept i id me.0 inside at keeper) y refl refl) refl (omega arith)
       (λ ws. omega arith) (λ ws. omega arith) (λ ws g o. (sym g, o)) (λ ws g. omega arith) (λ ws j ne. let z = none_other j i ne in omega arith)) me.1)

@@ -57,21 +57,41 @@ abbrev pub total : (View → ℕ) → List View → ℕ
 total f [] = 0
 total f (v ∷ vs) = f v + total f vs
 
+-- 1 for a passer: a seat that a load made, for one call, and that the keeper never issued
+abbrev pub passes_of : View → ℕ
+passes_of v = if v.passes then 1 else 0
+
 -- 1 for a caller that was given back
 abbrev pub goes : View → ℕ
-goes v = if v.gone then 1 else 0
+goes v = if v.passes then 0 else (if v.gone then 1 else 0)
 
 -- the cancels of a caller that was given back
 abbrev pub gone_cancels : View → ℕ
-gone_cancels v = if v.gone then cancels_in v.calls else 0
+gone_cancels v = if v.passes then 0 else (if v.gone then cancels_in v.calls else 0)
 
 -- the cancels of a caller, given back or not
 abbrev pub own_cancels : View → ℕ
-own_cancels v = cancels_in v.calls
+own_cancels v = if v.passes then 0 else cancels_in v.calls
+
+-- the cancels of a passer
+abbrev pub passed_cancels : View → ℕ
+passed_cancels v = if v.passes then cancels_in v.calls else 0
+
+-- the cancels of a seat, a caller's or a passer's
+abbrev pub made_cancels : View → ℕ
+made_cancels v = cancels_in v.calls
 
 -- 1 where the word is live at a stamp above 0
 abbrev pub lives : ℕ → ℕ
 lives n = if (mark_of n == 0) && not (stamp_of n == 0) then 1 else 0
+
+-- no passer cancelled anything, as where nobody opened the words
+abbrev pub NoPasserCancelled : List View → Type 0
+NoPasserCancelled vs = total passed_cancels vs ≡ 0
+
+-- 1 where the word is cancelled
+abbrev pub withdrawn : ℕ → ℕ
+withdrawn n = if mark_of n == 1 then 1 else 0
 
 -- f of each of the first k words, added up
 abbrev pub below : (ℕ → ℕ) → List ℕ → ℕ → ℕ
@@ -87,6 +107,11 @@ issued_in (v ∷ vs) = v.issued
 abbrev pub returns_in : List View → ℕ
 returns_in [] = 0
 returns_in (v ∷ vs) = v.returns
+
+-- how many cancelled words the keeper overwrote by a begin
+abbrev pub reaped_in : List View → ℕ
+reaped_in [] = 0
+reaped_in (v ∷ vs) = v.reaped
 
 -- how many stamps the writes give the slot i
 abbrev pub given_in : ℕ → List Write → ℕ

@@ -20,10 +20,10 @@ use Rattle.dq_words.specs.declared.keeper.WordsError.TheVariants.{BadConfig, NoM
 use Rattle.dq_words.specs.declared.keeper.WordsError.TheVariants.{TooManyHandles}
 use Rattle.dq_words.specs.declared.keeper.TheConstants.{HANDLE_LIMIT}
 use Rattle.dq_words.specs.Counts.{gone_by, cancels_by, begins_in, expiries_in, removals_in, total}
-use Rattle.dq_words.specs.Counts.{goes, own_cancels}
+use Rattle.dq_words.specs.Counts.{goes, made_cancels, own_cancels, withdrawn, NoPasserCancelled}
 use Rattle.dq_words.specs.Counts.{lives, below}
 use Rattle.dq_words.specs.Files.{IsIn}
-use Rattle.dq_words.specs.Keeping.{Stood, counts_of}
+use Rattle.dq_words.specs.Keeping.{NoneLive, Stood, counts_of}
 use Rattle.dq_words.specs.Plays.{beginning, settling, renewing, finishing, issuing, newcomer}
 use Rattle.dq_words.specs.Plays.{loading_return, KeeperLoads, KeeperMisses}
 use Rattle.dq_words.specs.Rule.{Ruled, first_keeper}
@@ -138,13 +138,35 @@ Returns v (Err out) w =
 
 -- Whatever the words are, where the rule holds of them and the keeper has this view: all callers
 -- that it issued are gone, with that many cancels in their lists. What was begun and has not ended
--- is then live by the words.
+-- is then live by the words, as long as no passer cancelled.
 abbrev pub AccountsFor : View → ℕ → Type 0
 AccountsFor w c =
     (t : State ℕ View) → Ruled (length w.seen) t → get_elem? t.views 0 ≡ some w
     → (total goes t.views ≡ w.issued) × (total own_cancels t.views ≡ c)
-    × (begins_in w.writes
+    × (NoPasserCancelled t.views → begins_in w.writes
     ≡ expiries_in w.writes + removals_in w.writes + c + below lives t.words (length w.seen))
+
+-- Whatever the words are, where the rule holds of them and the keeper has this view, and whoever is
+-- out: the accepted cancels of all callers and passers are as many as the cancelled words that the
+-- keeper overwrote, and those that are cancelled still. What was begun was ended by the keeper, is
+-- one of those, or is live.
+abbrev pub AccountsAnyhow : View → Type 0
+AccountsAnyhow w =
+    (t : State ℕ View) → Ruled (length w.seen) t → get_elem? t.views 0 ≡ some w
+    → (total made_cancels t.views ≡ w.reaped + below withdrawn t.words (length w.seen))
+    × (begins_in w.writes
+    ≡ expiries_in w.writes + removals_in w.writes
+    + (w.reaped + below withdrawn t.words (length w.seen)) + below lives t.words (length w.seen))
+
+-- Once the keeper saw no word live, its own view tells how many cancels of callers and passers were
+-- accepted, whoever is out.
+abbrev pub CountsCancels : View → Type 0
+CountsCancels w =
+    NoneLive w → (t : State ℕ View) → Ruled (length w.seen) t → get_elem? t.views 0 ≡ some w
+    → (total made_cancels t.views ≡ w.reaped + below withdrawn w.seen (length w.seen))
+    × (begins_in w.writes
+    ≡ expiries_in w.writes + removals_in w.writes
+    + (w.reaped + below withdrawn w.seen (length w.seen)))
 
 -- what was ended by the keeper and cancelled by c accepted cancels is no more than what was begun
 abbrev pub EndsFit : Counts → ℕ → Type 0

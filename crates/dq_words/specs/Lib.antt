@@ -6,6 +6,7 @@ pub mod Endings
 pub mod Files
 pub mod Keeping
 pub mod Many
+pub mod OpenCalls
 pub mod Places
 pub mod Plays
 pub mod Rule

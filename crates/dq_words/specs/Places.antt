@@ -7,7 +7,7 @@ use Rattle.dq_words.specs.declared.views.Call.{Call}
 use Rattle.dq_words.specs.declared.views.Place.{Place}
 use Rattle.dq_words.specs.declared.views.View.{View}
 use Rattle.dq_words.specs.Files.{IsIn}
-use Rattle.dq_words.specs.Plays.{WordMe, Told}
+use Rattle.dq_words.specs.Plays.{Told}
 use Rattle.dq_words.specs.Rule.{Ruled, new_view}
 
 -- the views of the seats alone

@@ -22,7 +22,7 @@ use Rattle.dq_words.specs.Files.{IsIn, extends_at, cancels_at}
 use Rattle.dq_words.specs.Rule.{new_view}
 use Rattle.dq_words.specs.Keeping.{Knew}
 use Rattle.dq_words.specs.Counts.{most_begins, gone_by, cancels_by, cancels_in, begins_in}
-use Rattle.dq_words.specs.Counts.{expiries_in, removals_in}
+use Rattle.dq_words.specs.Counts.{expiries_in, removals_in, withdrawn}
 
 -- The deadline d of the slot i at the stamp s covers a caller's own accepted calls: no extend of it
 -- there is later, and it cancelled nothing there.
@@ -65,7 +65,10 @@ cancelling v i k d n = with_call (stepping v i n CancelMax) (Cancel i (stamp_of 
 
 -- the view of the keeper that stored the word k
 abbrev pub beginning : View → ℕ → ℕ → View
-beginning v i k = with_write (stepping v i k BeginStore) (Begin i (stamp_of k) (field_of k))
+beginning v i k =
+    record (with_write (stepping v i k BeginStore) (Begin i (stamp_of k) (field_of k))) {
+      reaped = v.reaped + withdrawn (slice_index v.seen i);
+    }
 
 -- the view of the keeper that exchanged the live word `old` for the expired word `new`
 abbrev pub settling : View → ℕ → ℕ → ℕ → View

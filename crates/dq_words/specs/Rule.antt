@@ -12,8 +12,8 @@ use Rattle.dq_words.specs.declared.views.View.{View}
 use Rattle.dq_words.specs.declared.views.Write.{Write}
 use Rattle.dq_words.specs.Word.{Left, LearnedWord}
 use Rattle.dq_words.specs.Counts.{gone_by, begins_in, expiries_in, removals_in, total, goes}
-use Rattle.dq_words.specs.Counts.{gone_cancels}
-use Rattle.dq_words.specs.Counts.{own_cancels, lives, below, issued_in, returns_in, given_in}
+use Rattle.dq_words.specs.Counts.{gone_cancels, passes_of, reaped_in, withdrawn}
+use Rattle.dq_words.specs.Counts.{made_cancels, lives, below, issued_in, returns_in, given_in}
 use Rattle.dq_words.specs.Counts.{InOrder}
 use Rattle.dq_words.specs.Files.{File, blank, file, keeper_writes, IsIn, Among, IsDeadline}
 
@@ -72,10 +72,10 @@ HadAt x s f =
 abbrev pub Had : ℕ → ℕ → List View → Type 0
 Had x i views = (x ≡ 0) ⊎ ((s : ℕ) × HadAt x s (file i s views))
 
--- the first view is the keeper's, which makes no calls and stays; the others are callers', and a
--- caller makes no writes
+-- the first view is the keeper's, which makes no calls and stays; the others are callers' and
+-- passers', and these make no writes
 abbrev pub Role : ℕ → View → Type 0
-Role zero v = (v.keeps ≡ true) × (v.gone ≡ false) × (v.calls ≡ [])
+Role zero v = (v.keeps ≡ true) × (v.gone ≡ false) × (v.calls ≡ []) × (v.passes ≡ false)
 Role (suc j) v = (v.keeps ≡ false) × (v.writes ≡ [])
 
 -- what the seat saw may have become the present words by callers' steps alone
@@ -115,7 +115,7 @@ AreGiven rows words ws = (i : ℕ) → i < rows → given_in i ws ≡ stamp_of (
 pub record Tallied (rows : ℕ) (t : State ℕ View) : Type 0 where
   pub few : rows ≤ CAPACITY_LIMIT
   pub wide : (i : ℕ) → i < rows → slice_index t.words i < 18446744073709551616
-  pub issued : length t.views ≡ issued_in t.views + 1
+  pub issued : length t.views ≡ (issued_in t.views + 1) + total passes_of t.views
   pub limit : issued_in t.views ≤ HANDLE_LIMIT
   pub returned :
       slice_index t.words rows ≡ total goes t.views + ONE_CANCEL * total gone_cancels t.views
@@ -124,7 +124,8 @@ pub record Tallied (rows : ℕ) (t : State ℕ View) : Type 0 where
       gone_by (returns_in t.views) ≡ total goes t.views →
       returns_in t.views ≡ slice_index t.words rows
   pub balance :
-      IsBalanced (keeper_writes t.views) (total own_cancels t.views) (below lives t.words rows)
+      IsBalanced (keeper_writes t.views) (total made_cancels t.views) (below lives t.words rows)
+  pub reaped : total made_cancels t.views ≡ reaped_in t.views + below withdrawn t.words rows
   pub ordered : InOrder (keeper_writes t.views)
   pub given : AreGiven rows t.words (keeper_writes t.views)
   pub bounded : begins_in (keeper_writes t.views) ≤ below stamp_of t.words rows
@@ -146,10 +147,16 @@ new_view keeper rows = record {
   steps = [];
   calls = [];
   gone = false;
+  passes = false;
   writes = [];
   issued = 0;
   returns = 0;
+  reaped = 0;
 }
+
+-- the view of a passer that made no step yet
+abbrev pub passer : ℕ → View
+passer rows = record (new_view false rows) { passes = true }
 
 -- the keeper's view at the start
 abbrev pub first_keeper : ℕ → View

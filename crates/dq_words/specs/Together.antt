@@ -1,7 +1,7 @@
 -- What the keeper and a caller of one table know together.
-use Rattle.std.specs.Prelude.{◌≡◌, ℕ, ◌≤◌, [], true}
+use Rattle.std.specs.Prelude.{ℕ}
 use Rattle.dq_words.specs.declared.views.View.{View}
-use Rattle.dq_words.specs.Files.{IsIn, ends_at, extends_at, cancels_at}
+use Rattle.dq_words.specs.Files.{IsIn, ends_at}
 use Rattle.dq_words.specs.Places.{StoodWith}
 use Rattle.dq_words.specs.Plays.{Covers}
 use Rattle.dq_words.specs.Seats.{Sat}

@@ -56,11 +56,12 @@ impl<A: Allocator> Model for Caller<A> {
     ghost view = { λ k. k.seat };
 
     ghost invariant = { λ k. (k.seat.view.keeps ≡ false) × (k.seat.view.gone ≡ false)
-        × (k.cancels ≡ cancels_in k.seat.view.calls) × (k.cancels ≤ most_begins) };
+        × (k.cancels ≡ cancels_in k.seat.view.calls) × (k.cancels ≤ most_begins)
+        × (k.seat.view.passes ≡ false) };
 }
 
 // The deadline of the word that a step of a stamp found live at that stamp, or why the word refuses the stamp.
-fn deadline_at(found: u64, asked: u32) -> Result<u64, CallError>
+pub(crate) fn deadline_at(found: u64, asked: u32) -> Result<u64, CallError>
     requires { asked ≤ stamp_of found }
     ensures { MatchResult result
         (λ d. (stamp_of found ≡ asked) × (mark_of found ≡ 0) × (d ≡ field_of found))
@@ -80,7 +81,8 @@ fn deadline_at(found: u64, asked: u32) -> Result<u64, CallError>
 
 impl<A: Allocator> Caller<A> {
     pub(crate) fn of(seat: Seated<A>) -> Caller<A>
-        requires { (seat.view.keeps ≡ false) × (seat.view.gone ≡ false) × (seat.view.calls ≡ []) }
+        requires { (seat.view.keeps ≡ false) × (seat.view.gone ≡ false) × (seat.view.calls ≡ [])
+            × (seat.view.passes ≡ false) }
         ensures { result ≡ seat }
     {
         Caller { seat, cancels: 0 }

@@ -2,7 +2,8 @@
 //!
 //! Each slot of a queue has one word of 64 bits, which says how its entry stands: its stamp, its mark and a deadline.
 //! The [`Keeper`] belongs to the queue's owner and begins and ends entries. Up to 1,024 [`Caller`]s, each in a thread
-//! of its own, extend and cancel entries by one atomic step on that word, whatever the owner does meanwhile.
+//! of its own, extend and cancel entries by one atomic step on that word, whatever the owner does meanwhile. So does
+//! any thread that has a `&` to its [`OpenWords`], with no caller.
 #![tactic(auto)]
 
 mod beside;
@@ -11,6 +12,7 @@ pub mod endings;
 mod front;
 mod keeper;
 mod many;
+mod open;
 mod parts;
 mod seated;
 mod shards;
@@ -21,5 +23,5 @@ pub use caller::Caller;
 pub use front::{numbered_queue, shared_queue};
 pub use keeper::{HANDLE_LIMIT, Keeper, WordsError};
 pub use many::{ManyTurn, poll_into};
-pub use seated::Gone;
+pub use seated::{Gone, OpenWords, Receipt};
 pub use shards::locked_shards;

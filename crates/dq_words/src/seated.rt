@@ -16,6 +16,7 @@ ghost use Rattle.dq_words.specs.Rule.{first_keeper};
 
 mod beside;
 mod gone;
+mod open;
 mod plays;
 mod rule;
 
@@ -27,6 +28,7 @@ use crate::seated::plays::{
 use crate::seated::rule::{WordSeat, WordTable};
 use atomic_table::Table;
 pub use gone::Gone;
+pub use open::{OpenWords, Receipt};
 use std::alloc::{AllocError, Allocator};
 use std::marker::Model;
 use std::sync::Arc;
@@ -251,6 +253,7 @@ impl<A: Allocator> Seated<A> {
     // The step on the return word that counts the caller as gone, and its cancels with it.
     pub(crate) fn give_back(&mut self, cancels: u64)
         requires caller { (self.old.view.keeps ≡ false) × (self.old.view.gone ≡ false) }
+        requires issued { self.old.view.passes ≡ false }
         requires cancels { cancels ≡ cancels_in self.old.view.calls }
         requires few { cancels ≤ most_begins }
         ensures step { self.new.view ≡ giving_back self.old.view }

@@ -50,12 +50,16 @@ pub struct View {
     pub calls: LinkedList<Call>,
     /// A caller that was given back.
     pub gone: bool,
+    /// A passer: a seat that a load made for one call by open words, and that the keeper didn't issue.
+    pub passes: bool,
     /// The keeper's writes.
     pub writes: LinkedList<Write>,
     /// The callers that the keeper issued.
     pub issued: u64,
     /// The return word that the keeper saw last.
     pub returns: u64,
+    /// The cancelled words that the keeper overwrote by a begin.
+    pub reaped: u64,
 }
 
 /// What stands at a place of the table.

@@ -1,7 +1,7 @@
 //! How the types are shown that hold entries: by their numbers, and never by an entry's value.
 
 use crate::core::{DelayCore, Entries, Folded, Held, LiveEntry, Pending, PlainQueue, PlainTurn, VecWords, Words};
-use crate::words::{Caller, Keeper};
+use crate::words::{Caller, Keeper, OpenWords};
 use core::fmt::{Debug, Formatter, Result};
 
 impl<T, W: Words> Debug for DelayCore<T, W> {
@@ -48,6 +48,14 @@ impl Debug for Caller {
     fn fmt(&self, f: &mut Formatter<'_>) -> Result {
         f.debug_struct("Caller")
             .field("cancels", &self.cancels())
+            .finish_non_exhaustive()
+    }
+}
+
+impl Debug for OpenWords {
+    fn fmt(&self, f: &mut Formatter<'_>) -> Result {
+        f.debug_struct("OpenWords")
+            .field("rows", &self.rows())
             .finish_non_exhaustive()
     }
 }

@@ -132,7 +132,8 @@ pub mod wheel {
 }
 
 pub mod owner {
-    //! The queue of one owner, alone or with callers that extend and cancel its entries from other threads.
+    //! The queue of one owner, alone or with callers that extend and cancel its entries from other threads; or over
+    //! [`OpenWords`], by which any thread does so with no caller.
     //!
     //! Its keys, entries and errors are those of [`shards`](crate::shards) and [`lasting`](crate::lasting) too.
 
@@ -143,7 +144,7 @@ pub mod owner {
     pub use crate::ticks::{is_same_entry, is_same_key, EntryId, Key, CAPACITY_LIMIT, LAST_STAMP, LAST_TICK};
     #[cfg(feature = "std")]
     pub use crate::words::ManyTurn;
-    pub use crate::words::{numbered_queue, shared_queue, Caller, Keeper, WordsError, HANDLE_LIMIT};
+    pub use crate::words::{numbered_queue, shared_queue, Caller, Keeper, OpenWords, WordsError, HANDLE_LIMIT};
 }
 
 #[cfg(feature = "std")]

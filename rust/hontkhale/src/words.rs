@@ -2,13 +2,15 @@
 //!
 //! Each slot of a queue has one word of 64 bits, which says how its entry stands: its stamp, its mark and a deadline.
 //! The [`Keeper`] belongs to the queue's owner and begins and ends entries. Up to 1,024 [`Caller`]s, each in a thread
-//! of its own, extend and cancel entries by one atomic step on that word, whatever the owner does meanwhile.
+//! of its own, extend and cancel entries by one atomic step on that word, whatever the owner does meanwhile. So does
+//! any thread that has a `&` to its [`OpenWords`], with no caller.
 
 mod caller;
 mod front;
 mod keeper;
 #[cfg(feature = "std")]
 mod many;
+mod open;
 mod parts;
 mod seated;
 #[cfg(feature = "std")]
@@ -21,5 +23,6 @@ pub use front::{numbered_queue, shared_queue};
 pub use keeper::{Keeper, WordsError, HANDLE_LIMIT};
 #[cfg(feature = "std")]
 pub use many::{poll_into, ManyTurn};
+pub use seated::OpenWords;
 #[cfg(feature = "std")]
 pub use shards::locked_shards;

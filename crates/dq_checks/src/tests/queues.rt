@@ -4,7 +4,7 @@ ghost use Rattle.dq_core.specs.Words.{AreFresh};
 
 use dq_core::{CallError, CoreConfig, DelayCore, Look, SharedWords, VecWords, Words};
 use dq_ticks::Key;
-use dq_words::{Caller, Keeper};
+use dq_words::{Caller, Keeper, OpenWords};
 use std::alloc::Global;
 use std::test::Fail;
 
@@ -55,6 +55,34 @@ impl Calls<VecWords> for Owner {
 
 /// Over shared words a caller does.
 impl Calls<Keeper> for Caller {
+    fn extend_by(
+        &mut self,
+        _core: &mut DelayCore<char, Keeper>,
+        key: &Key,
+        when: u64,
+    ) -> Result<u64, CallError> {
+        self.extend(key, when)
+    }
+
+    fn cancel_by(
+        &mut self,
+        _core: &mut DelayCore<char, Keeper>,
+        key: &Key,
+    ) -> Result<u64, CallError> {
+        self.cancel(key)
+    }
+
+    fn look_by(
+        &mut self,
+        _core: &mut DelayCore<char, Keeper>,
+        key: &Key,
+    ) -> Result<Look, CallError> {
+        self.look(key)
+    }
+}
+
+/// Over open words anybody does, by a `&`.
+impl Calls<Keeper> for OpenWords {
     fn extend_by(
         &mut self,
         _core: &mut DelayCore<char, Keeper>,
@@ -149,6 +177,22 @@ pub fn shared(
     let calls = issued(&mut core)?;
     Ok(Queue {
         core,
+        calls,
+        keys: Vec::new(alloc),
+        out: Vec::new(alloc),
+    })
+}
+
+/// A fresh queue over open words, which issues no caller.
+pub fn open(
+    alloc: Global,
+    capacity: usize,
+    last_stamp: u32,
+) -> Result<Queue<Keeper, OpenWords>, Fail> {
+    let mut keeper = Keeper::new(alloc, capacity)?;
+    let calls = keeper.open()?;
+    Ok(Queue {
+        core: over(alloc, last_stamp, keeper)?,
         calls,
         keys: Vec::new(alloc),
         out: Vec::new(alloc),

@@ -1,11 +1,11 @@
 //! Each worked case, over a fresh queue.
 
 use super::cases::{Case, OVER_PLAIN_WORDS, over_both_words};
-use super::queues::{Calls, Queue, plain, shared};
+use super::queues::{Calls, Queue, open, plain, shared};
 use super::same;
 use super::step::Step;
 use dq_core::{DelayCore, Words};
-use dq_words::{Caller, Keeper};
+use dq_words::{Caller, Keeper, OpenWords};
 use std::process::Abort;
 use std::test::Fail;
 
@@ -89,4 +89,24 @@ fn all_over_shared<R: Abort + AllocGlobal>(rt: &R, cases: &[Case]) -> Result<(),
 #[test]
 fn cases_over_shared_words(rt: HostRuntime) -> Result<(), Fail> {
     all_over_shared(&rt, over_both_words())
+}
+
+// Behind a case no caller is out, and none cancelled anything.
+fn plays_with_nobody_out(rt: &impl Abort, mut queue: Queue<Keeper, OpenWords>, case: &Case) {
+    plays(rt, &mut queue, case);
+    let stands = standing(&mut queue.core);
+    same(rt, case.0, stands, (0, Ok(0)));
+}
+
+fn all_over_open<R: Abort + AllocGlobal>(rt: &R, cases: &[Case]) -> Result<(), Fail> {
+    for case in cases {
+        plays_with_nobody_out(rt, open(rt.alloc(), case.1, case.2)?, case);
+    }
+    Ok(())
+}
+
+// promise: core.worked-cases
+#[test]
+fn cases_over_open_words(rt: HostRuntime) -> Result<(), Fail> {
+    all_over_open(&rt, over_both_words())
 }

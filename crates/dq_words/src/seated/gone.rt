@@ -43,6 +43,7 @@ impl<A: Allocator> Seated<A> {
     // Gives a caller's seat back, and keeps what shows it.
     pub(crate) fn leave(mut self, cancels: u64) -> Gone
         requires caller { (self.view.keeps ≡ false) × (self.view.gone ≡ false) }
+        requires issued { self.view.passes ≡ false }
         requires cancels { cancels ≡ cancels_in self.view.calls }
         requires few { cancels ≤ most_begins }
         ensures { IsGivenBack self result }

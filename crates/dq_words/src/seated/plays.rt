@@ -1,6 +1,7 @@
 //! What each step on the table tells the seat that makes it.
 ghost use Rattle.std.specs.Prelude.{[]};
 ghost use Rattle.dq_words.specs.Places.{InPlace, standing, placed, carrier, carried, hearing, told_loaded};
+ghost use Rattle.dq_words.specs.OpenCalls.{passer_loaded, passer_extended, passer_cancelled};
 ghost use Rattle.dq_words.specs.Plays.{Knowing, caller_loaded, keeper_loaded, extend_made};
 ghost use Rattle.dq_words.specs.Plays.{cancel_made, begin_made, exchange_made, settling, renewing};
 ghost use Rattle.dq_words.specs.Plays.{finishing, issuing, newcomer, give_back_made, return_loaded};
@@ -24,6 +25,27 @@ pub(crate) struct Extend;
 
 impl Play<u64, Place> for Extend {
     ghost then = { InPlace (Knowing extend_made) };
+}
+
+// A load that makes the seat of a passer.
+pub(crate) struct Pass;
+
+impl Play<u64, Place> for Pass {
+    ghost then = { passer_loaded };
+}
+
+// A passer's cancel.
+pub(crate) struct PassCancel;
+
+impl Play<u64, Place> for PassCancel {
+    ghost then = { InPlace passer_cancelled };
+}
+
+// A passer's extend.
+pub(crate) struct PassExtend;
+
+impl Play<u64, Place> for PassExtend {
+    ghost then = { InPlace passer_extended };
 }
 
 pub(crate) struct Cancel;

@@ -34,7 +34,7 @@ pub struct Caller {
 }
 
 // The deadline of the word that a step of a stamp found live at that stamp, or why the word refuses the stamp.
-fn deadline_at(found: u64, asked: u32) -> Result<u64, CallError> {
+pub(crate) fn deadline_at(found: u64, asked: u32) -> Result<u64, CallError> {
     // requires asked ≤ stamp_of found
     let parts = unpack(found);
     if asked < parts.stamp {
@@ -50,7 +50,7 @@ fn deadline_at(found: u64, asked: u32) -> Result<u64, CallError> {
 
 impl Caller {
     pub(crate) fn of(seat: Seated) -> Caller {
-        // requires (seat.view.keeps ≡ false) × (seat.view.gone ≡ false) × (seat.view.calls ≡ [])
+        // requires (seat.view.keeps ≡ false) × (seat.view.gone ≡ false) × (seat.view.calls ≡ []) × (seat.view.passes ≡ false)
         Caller { seat, cancels: 0 }
     }
 

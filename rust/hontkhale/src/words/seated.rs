@@ -8,6 +8,10 @@ use crate::words::parts::ONE_CANCEL;
 use crate::words::table::Table;
 use alloc::sync::Arc;
 
+mod open;
+
+pub use open::OpenWords;
+
 pub(crate) struct Seated {
     table: Arc<Table>,
     // Whether another seat has the table, or had.
@@ -130,6 +134,7 @@ impl Seated {
     // The step on the return word that counts the caller as gone, and its cancels with it.
     pub(crate) fn give_back(&mut self, cancels: u64) {
         // requires (self.old.view.keeps ≡ false) × (self.old.view.gone ≡ false)
+        // requires self.old.view.passes ≡ false
         // requires cancels ≡ cancels_in self.old.view.calls
         // requires cancels ≤ most_begins
         self.table.fetch_add(self.rows, 1 + ONE_CANCEL * cancels);

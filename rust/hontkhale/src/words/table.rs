@@ -1,11 +1,11 @@
-//! A table of words that a keeper and its callers share.
+//! A table of words that a keeper, its callers and whoever has its open words share.
 //!
-//! Once the keeper has issued a caller, each call is one atomic step, and all steps are sequentially consistent. Until
-//! then nobody else has the words, and the keeper's stores and settling exchanges are plain: `Relaxed`, which takes no
-//! fence. No step can tell the difference. The keeper makes its steps by `&mut`, so they come one after the other,
-//! whichever threads it goes through. A caller goes to another thread by something that synchronizes, as a spawn or a
-//! lock does, and it is made after all plain steps: so each of its steps finds what they left, or something later.
-//! A caller that was given back still counts.
+//! Once the keeper has issued a caller or opened its words, each call is one atomic step, and all steps are sequentially
+//! consistent. Until then nobody else has the words, and the keeper's stores and settling exchanges are plain: `Relaxed`,
+//! which takes no fence. No step can tell the difference. The keeper makes its steps by `&mut`, so they come one after
+//! the other, whichever threads it goes through. A caller, or the open words, goes to another thread by something that
+//! synchronizes, as a spawn or a lock does, and it is made after all plain steps: so each step by it finds what they
+//! left, or something later. A caller that was given back, and open words that were dropped, still count.
 
 use crate::index::nth;
 use crate::memory::{room_for, AllocError};

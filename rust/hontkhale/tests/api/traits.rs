@@ -3,8 +3,8 @@
 use hontkhale::cache::{CountedCache, Seen, TtlCache};
 use hontkhale::lasting::{LastingError, LastingHandle, LastingPacedStream, LastingQueue, LastingStream};
 use hontkhale::owner::{
-    CallError, Caller, CoreError, DelayCore, Entries, EntryId, Expired, Keeper, Key, LiveEntry, Piece, PlainQueue,
-    PlainTurn, Removed, Turn, VecWords, WordsError,
+    CallError, Caller, CoreError, DelayCore, Entries, EntryId, Expired, Keeper, Key, LiveEntry, OpenWords, Piece,
+    PlainQueue, PlainTurn, Removed, Turn, VecWords, WordsError,
 };
 use hontkhale::sessions::IdleSessions;
 use hontkhale::shards::{Handle, QueueConfig, QueueError, SharedDelayQueue};
@@ -57,6 +57,7 @@ fn what_is_shared() {
     shares::<PacedStream<'_, Sent, At>>();
     shares::<LastingStream<'_, Sent, At>>();
     shares::<LastingPacedStream<'_, Sent, At>>();
+    shares::<OpenWords>();
     shares::<DelayCore<Shared, VecWords>>();
     shares::<Entries<'_, Shared>>();
     shares::<LiveEntry<'_, Shared>>();

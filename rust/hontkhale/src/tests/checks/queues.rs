@@ -5,7 +5,7 @@
 use crate::tests::kit::Fail;
 use crate::core::{CallError, CoreConfig, DelayCore, Look, VecWords, Words};
 use crate::ticks::Key;
-use crate::words::{Caller, Keeper};
+use crate::words::{Caller, Keeper, OpenWords};
 
 /// Who makes the calls by key.
 pub trait Calls<W: Words> {
@@ -53,6 +53,34 @@ impl Calls<VecWords> for Owner {
 
 /// Over shared words a caller does.
 impl Calls<Keeper> for Caller {
+    fn extend_by(
+        &mut self,
+        _core: &mut DelayCore<char, Keeper>,
+        key: &Key,
+        when: u64,
+    ) -> Result<u64, CallError> {
+        self.extend(key, when)
+    }
+
+    fn cancel_by(
+        &mut self,
+        _core: &mut DelayCore<char, Keeper>,
+        key: &Key,
+    ) -> Result<u64, CallError> {
+        self.cancel(key)
+    }
+
+    fn look_by(
+        &mut self,
+        _core: &mut DelayCore<char, Keeper>,
+        key: &Key,
+    ) -> Result<Look, CallError> {
+        self.look(key)
+    }
+}
+
+/// Over open words anybody does, by a `&`.
+impl Calls<Keeper> for OpenWords {
     fn extend_by(
         &mut self,
         _core: &mut DelayCore<char, Keeper>,
@@ -140,6 +168,21 @@ pub fn shared(
     let calls = issued(&mut core)?;
     Ok(Queue {
         core,
+        calls,
+        keys: Vec::new(),
+        out: Vec::new(),
+    })
+}
+
+/// A fresh queue over open words, which issues no caller.
+pub fn open(
+    capacity: usize,
+    last_stamp: u32,
+) -> Result<Queue<Keeper, OpenWords>, Fail> {
+    let mut keeper = Keeper::new(capacity)?;
+    let calls = keeper.open()?;
+    Ok(Queue {
+        core: over(last_stamp, keeper)?,
         calls,
         keys: Vec::new(),
         out: Vec::new(),

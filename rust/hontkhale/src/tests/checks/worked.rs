@@ -2,11 +2,11 @@
 
 use crate::tests::kit::Fail;
 use super::cases::{Case, OVER_PLAIN_WORDS, over_both_words};
-use super::queues::{Calls, Queue, plain, shared};
+use super::queues::{Calls, Queue, open, plain, shared};
 use super::same;
 use super::step::Step;
 use crate::core::{DelayCore, Words};
-use crate::words::{Caller, Keeper};
+use crate::words::{Caller, Keeper, OpenWords};
 
 // Each step of a case answers as it has to. Steps count from 0.
 fn plays<W: Words, C: Calls<W>>(queue: &mut Queue<W, C>, case: &Case) {
@@ -86,4 +86,24 @@ fn all_over_shared(cases: &[Case]) -> Result<(), Fail> {
 #[test]
 fn cases_over_shared_words() -> Result<(), Fail> {
     all_over_shared(over_both_words())
+}
+
+// Behind a case no caller is out, and none cancelled anything.
+fn plays_with_nobody_out(mut queue: Queue<Keeper, OpenWords>, case: &Case) {
+    plays(&mut queue, case);
+    let stands = standing(&mut queue.core);
+    same(case.0, stands, (0, Ok(0)));
+}
+
+fn all_over_open(cases: &[Case]) -> Result<(), Fail> {
+    for case in cases {
+        plays_with_nobody_out(open(case.1, case.2)?, case);
+    }
+    Ok(())
+}
+
+// promise: core.worked-cases
+#[test]
+fn cases_over_open_words() -> Result<(), Fail> {
+    all_over_open(over_both_words())
 }

@@ -1,4 +1,4 @@
-use Rattle.std.proofs.Common.{◌≡◌, ap, subst}
+use Rattle.std.proofs.Common.{ap, subst}
 use Rattle.dq_words.specs.declared.views.View.{View}
 use Rattle.dq_words.specs.Seats.{Sat}
 use Rattle.dq_words.specs.Together.{EndsCover}
