@@ -26,31 +26,6 @@ def sessions(store):
     assert store.unlink("short", "shorter") == 1
 
 
-def limits(store):
-    """A limit of rates, by counters that expire."""
-    for count in range(1, 6):
-        assert store.incr("limit:ann") == count
-    store.expire("limit:ann", 600)
-    assert store.incrby("limit:ann", 10) == 15 and store.decr("limit:ann") == 14 and store.decrby("limit:ann", 4) == 10
-    assert store.get("limit:ann") == "10" and store.delete("limit:ann") == 1
-
-
-def locks(store):
-    """A lease that one of eight threads has at a time, which raises a counter that nobody else changes meanwhile."""
-    def work():
-        for _ in range(20):
-            while not store.set("lock", threading.get_ident(), nx=True, px=600_000):
-                time.sleep(0.001)
-            store.set("count", int(store.get("count") or 0) + 1)
-            store.delete("lock")
-
-    threads = [threading.Thread(target=work) for _ in range(8)]
-    for step in (threading.Thread.start, threading.Thread.join):
-        for thread in threads:
-            step(thread)
-    assert store.get("count") == "160" and store.delete("count") == 1
-
-
 def transfers(store):
     """Eight threads move one of a hundred from an account to the other, by WATCH and EXEC, which fails where another was first."""
     store.set("from", 100)
@@ -97,6 +72,7 @@ def itself(store):
     """What a client asks of its connection and of the server."""
     assert store.client_setname("clients.py") and store.client_getname() == "clients.py" and store.client_id() > 0
     assert store.config_get("max*")["maxclients"] and store.ping() and store.echo("text") == "text"
+    assert abs(store.time()[0] - time.time()) < 600
     other = redis.Redis(port=store.connection_pool.connection_kwargs["port"], client_name="other", decode_responses=True)
     assert other.client_getname() == "other"
     id = str(other.client_id())
@@ -125,7 +101,7 @@ def main():
     port = int(sys.argv[1])
     store = redis.Redis(port=port, decode_responses=True)
     assert store.dbsize() == 0
-    for program in (sessions, limits, locks, transfers, many, itself):
+    for program in (sessions, transfers, many, itself):
         program(store)
     web_page(port, store)
     print(f"clients.py: the programs of redis-py {redis.__version__} are served, a web page's request isn't")

@@ -1,6 +1,6 @@
 //! The replies of a connection until its socket takes them.
 
-use crate::resp::{Protocol, Reply};
+use crate::resp::{Protocol, Reply, END};
 use std::io::{self, ErrorKind, Write};
 use std::sync::Arc;
 
@@ -8,8 +8,6 @@ use std::sync::Arc;
 const LONG: usize = 16 << 10;
 /// Once so much waits to be sent no further request is answered.
 const ENOUGH: usize = 64 << 10;
-/// The end of a bulk string.
-const END: &[u8] = b"\r\n";
 
 #[derive(Default)]
 pub struct Output {

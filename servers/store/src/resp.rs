@@ -20,6 +20,8 @@ const NARROW_WORDS: i64 = 10;
 const NARROW_BULK: usize = 16 << 10;
 /// What a word counts beside its bytes: its place, and the lines around it.
 pub const PER_WORD: usize = 32;
+/// The end of a line and of a bulk string.
+pub const END: &[u8] = b"\r\n";
 /// The room for words that a parser keeps from one request to the next.
 const KEPT_WORDS: usize = 64;
 
@@ -108,12 +110,10 @@ impl Parser {
 
     /// Begins with another request.
     pub fn reset(&mut self) {
-        let (mut words, mut inline) = (mem::take(&mut self.words), mem::take(&mut self.inline));
-        words.clear();
-        inline.clear();
-        words.shrink_to(KEPT_WORDS);
-        inline.shrink_to(0);
-        *self = Parser { words, inline, ..Parser::default() };
+        self.words.clear();
+        self.words.shrink_to(KEPT_WORDS);
+        self.inline = Vec::new();
+        (self.at, self.looked, self.is_inline, self.missing, self.bulk, self.size) = Default::default();
     }
 
     /// The memory that it holds.
@@ -169,7 +169,7 @@ impl Parser {
         if bytes.len() < end + 2 {
             return Ok(false);
         }
-        if &bytes[end..end + 2] != b"\r\n" {
+        if &bytes[end..end + 2] != END {
             return Err(Broken::NoLineEnd);
         }
         self.words.push(self.at as u32..end as u32);
@@ -284,12 +284,16 @@ fn escaped(byte: u8) -> u8 {
 
 /// A decimal integer as the protocol writes it: no sign but a minus, no zero before other digits.
 pub fn integer(text: &[u8]) -> Option<i64> {
-    let digits = text.strip_prefix(b"-").unwrap_or(text);
-    let is_plain = digits == b"0" && digits.len() == text.len() || matches!(digits.first(), Some(b'1'..=b'9'));
-    if !is_plain || text.len() > 20 {
-        return None;
+    let (digits, sign) = text.strip_prefix(b"-").map_or((text, 1), |digits| (digits, -1));
+    match digits {
+        [b'1'..=b'9', ..] => {}
+        b"0" if sign == 1 => {}
+        _ => return None,
     }
-    std::str::from_utf8(text).ok()?.parse().ok()
+    digits.iter().try_fold(0_i64, |number, digit| match digit {
+        b'0'..=b'9' => number.checked_mul(10)?.checked_add(sign * i64::from(digit - b'0')),
+        _ => None,
+    })
 }
 
 /// The forms of replies that a client may ask for by HELLO.
@@ -338,7 +342,11 @@ impl Reply {
     /// Writes it, all but the content of a bulk string that is at least so long, which is answered.
     pub fn write(&self, to: &mut Vec<u8>, protocol: Protocol, long: usize) -> Option<Arc<[u8]>> {
         match self {
-            Reply::Status(text) => line(to, format_args!("+{text}")),
+            Reply::Status(text) => {
+                to.push(b'+');
+                to.extend_from_slice(text.as_bytes());
+                to.extend_from_slice(END);
+            }
             Reply::Error(text) => error(to, text),
             Reply::Integer(number) => line(to, format_args!(":{number}")),
             Reply::Bulk(content) => {
@@ -347,7 +355,7 @@ impl Reply {
                     return Some(content.clone());
                 }
                 to.extend_from_slice(content);
-                to.extend_from_slice(b"\r\n");
+                to.extend_from_slice(END);
             }
             Reply::Text(text) if protocol == Protocol::Three => {
                 line(to, format_args!("={}\r\ntxt:{text}", text.len() + 4))
@@ -386,7 +394,7 @@ impl Reply {
 fn error(to: &mut Vec<u8>, text: &str) {
     to.push(b'-');
     to.extend(text.chars().map(|it| if matches!(it, '\r' | '\n') { b' ' } else { it as u8 }));
-    to.extend_from_slice(b"\r\n");
+    to.extend_from_slice(END);
 }
 
 fn line(to: &mut Vec<u8>, text: fmt::Arguments<'_>) {

@@ -13,7 +13,7 @@ use std::collections::HashSet;
 use std::sync::atomic::{AtomicBool, Ordering::SeqCst};
 use std::sync::Arc;
 use std::thread;
-use std::time::{Duration, SystemTime};
+use std::time::Duration;
 
 /// What a reply is written as.
 fn said(Asker { desk, session, .. }: &mut Asker, line: &str) -> String {
@@ -49,27 +49,9 @@ fn is_left(client: &mut Asker, name: &str, given: i64) {
 }
 
 #[test]
-fn set_does_what_its_options_say() {
+fn a_name_has_one_deadline_and_none_once_it_is_set_without() {
     let keyspace = keyspace();
     let mut client = client(&keyspace);
-    says(
-        &mut client,
-        "SET a 1 XX => $-1
-        SET a 1 NX => +OK
-        SET a 2 NX => $-1
-        GET a => $1 1
-        SET a 2 XX => +OK
-        SET a 3 GET => $1 2
-        SET a 4 NX GET => $1 3
-        GET a => $1 3
-        SET b 1 GET => $-1
-        SET a 1 NX XX => -ERR syntax error
-        SET a 1 EX => -ERR syntax error
-        SET a 1 EX 1 PX 1 => -ERR syntax error
-        SET a 1 KEEPTTL PX 1 => -ERR syntax error
-        SET a 1 PX 0 => -ERR invalid expire time in 'set' command
-        SET a 1 PX x => -ERR value is not an integer or out of range",
-    );
     is_ok(&mut client, "SET a 1 EX 6000");
     is_left(&mut client, "a", 6_000_000);
     is_ok(&mut client, "SET a 2 KEEPTTL");
@@ -80,33 +62,6 @@ fn set_does_what_its_options_say() {
     is_ok(&mut client, "SET a 4");
     assert_eq!(keyspace.held().expires, 0, "the deadline of a key that has none any more");
     says(&mut client, "PTTL a => :-1\nDEL a => :1\nGET a => $-1");
-}
-
-#[test]
-fn expire_changes_what_its_conditions_allow() {
-    let mut client = client(&keyspace());
-    is_ok(&mut client, "SET a 1");
-    says(
-        &mut client,
-        "EXPIRE a 6000 XX => :0
-        EXPIRE a 6000 GT => :0
-        EXPIRE a 6000 LT => :1
-        EXPIRE a 5000 NX => :0
-        EXPIRE a 7000 LT => :0
-        EXPIRE a 5000 GT => :0
-        PEXPIRE a 1 GT => :0
-        PEXPIRE a 0 GT => :0
-        EXPIRE a 6000 NX GT => -ERR NX and XX, GT or LT options at the same time are not compatible
-        EXPIRE a 6000 GT LT => -ERR GT and LT options at the same time are not compatible
-        EXPIRE a 6000 IF => -ERR Unsupported option IF
-        EXPIRE a x => -ERR value is not an integer or out of range
-        EXPIRE none 6000 => :0",
-    );
-    is_left(&mut client, "a", 6_000_000);
-    says(&mut client, "EXPIRE a 5000 LT => :1");
-    is_left(&mut client, "a", 5_000_000);
-    says(&mut client, "PEXPIRE a 7000000 GT => :1\nPEXPIRE a 6500000 GT => :0\nTTL a => :7000");
-    says(&mut client, "EXPIRE a 8000 XX => :1\nTTL a => :8000\nPEXPIRE a 1000000 => :1\nTTL a => :1000");
 }
 
 #[test]
@@ -121,20 +76,6 @@ fn a_deadline_is_the_one_that_was_told_last() {
     }
     is_ok(&mut client, "SET a 1 PX 4000000");
     is_left(&mut client, "a", 4_000_000);
-}
-
-#[test]
-fn deadlines_since_1970_are_told_back_to_the_millisecond() {
-    let keyspace = keyspace();
-    let mut client = client(&keyspace);
-    let at = keyspace.clock.now() / 1_000 * 1_000 + 70_500;
-    is_ok(&mut client, &format!("SET a 1 PXAT {at}"));
-    says(&mut client, &format!("PEXPIRETIME a => :{at}\nEXPIRETIME a => :{}", (at + 500) / 1_000));
-    says(&mut client, &format!("PEXPIREAT a {} => :1\nPEXPIRETIME a => :{}", at + 1, at + 1));
-    says(&mut client, &format!("EXPIREAT a {} => :1\nPEXPIRETIME a => :{}", at / 1_000, at / 1_000 * 1_000));
-    is_ok(&mut client, &format!("SET a 1 EXAT {}", at / 1_000 + 5));
-    says(&mut client, &format!("PEXPIRETIME a => :{}", at / 1_000 * 1_000 + 5_000));
-    says(&mut client, "PEXPIRETIME none => :-2\nEXPIRETIME none => :-2");
 }
 
 #[test]
@@ -190,22 +131,6 @@ fn no_command_sees_a_key_that_is_over() {
             says(&mut client, "PTTL a => :-1");
         }
     }
-}
-
-#[test]
-fn incr_keeps_the_deadline_and_refuses_what_is_no_number() {
-    let mut client = client(&keyspace());
-    is_ok(&mut client, "SET a 7 PX 6000000");
-    says(&mut client, "INCR a => :8\nGET a => $1 8");
-    is_left(&mut client, "a", 6_000_000);
-    is_ok(&mut client, "SET a 9223372036854775807");
-    is_ok(&mut client, "SET b x");
-    says(
-        &mut client,
-        "INCR a => -ERR increment or decrement would overflow
-        INCR b => -ERR value is not an integer or out of range
-        INCR c => :1",
-    );
 }
 
 #[test]
@@ -292,65 +217,6 @@ fn a_process_that_is_too_large_takes_little_and_never_nothing() {
 }
 
 #[test]
-fn set_and_get_take_a_time_of_their_own() {
-    let mut client = client(&keyspace());
-    says(
-        &mut client,
-        "SETEX a 6000 1 => +OK
-        TTL a => :6000
-        PSETEX a 5000000 2 => +OK
-        TTL a => :5000
-        GETEX a => $1 2
-        TTL a => :5000
-        GETEX a EX 7000 => $1 2
-        TTL a => :7000
-        GETEX a PX 4000000 => $1 2
-        TTL a => :4000
-        GETEX a PERSIST => $1 2
-        TTL a => :-1
-        GETEX a EX 0 => -ERR invalid expire time in 'getex' command
-        GETEX a EXAT 1 => $1 2
-        EXISTS a => :0
-        GETEX a EX x => $-1
-        SETEX a 0 1 => -ERR invalid expire time in 'setex' command
-        PSETEX a x 1 => -ERR value is not an integer or out of range
-        SETEX a 6000 3 => +OK
-        TYPE a => +string
-        GETDEL a => $1 3
-        GETDEL a => $-1
-        TYPE a => +none",
-    );
-}
-
-#[test]
-fn older_ways_to_set_do_as_set_does() {
-    let mut client = client(&keyspace());
-    says(
-        &mut client,
-        "SETEX a 6000 1 => +OK
-        SETNX a 2 => :0
-        TTL a => :6000
-        SETNX b 2 => :1
-        MGET a b => *2 $1 1 $1 2
-        GETSET a 3 => $1 1
-        TTL a => :-1
-        GETSET c 4 => $-1
-        SETEX a 6000 1 => +OK
-        MSET a 5 d 6 a 7 => +OK
-        TTL a => :-1
-        MGET a d => *2 $1 7 $1 6
-        MSET a 5 d => -ERR wrong number of arguments for 'mset' command
-        TOUCH a b c d e a => :5",
-    );
-    let seconds = || SystemTime::now().duration_since(SystemTime::UNIX_EPOCH).unwrap().as_secs();
-    let before = seconds();
-    let told = said(&mut client, "TIME");
-    let words: Vec<_> = told.split(' ').collect();
-    assert_eq!((words[0], words[1]), ("*2", "$10"));
-    assert!((before..=seconds()).contains(&words[2].parse().unwrap()) && words[4].parse::<u32>().unwrap() < 1_000_000);
-}
-
-#[test]
 fn keys_are_told_once_each_and_none_that_is_over() {
     let mut client = client(&keyspace());
     (0..1_000).for_each(|at| is_ok(&mut client, &format!("SET name:{at} 1")));
@@ -364,50 +230,6 @@ fn keys_are_told_once_each_and_none_that_is_over() {
     says(&mut client, "MULTI => +OK\nKEYS name:5 => -ERR KEYS inside MULTI is not allowed\nDISCARD => +OK");
     (0..66_000).for_each(|at| is_ok(&mut client, &format!("SET {at} 1")));
     says(&mut client, "KEYS * => -ERR more than 65536 names fit: SCAN tells them\nKEYS name:5 => *1 $6 name:5");
-}
-
-#[test]
-fn numbers_go_up_and_down_and_no_further_than_they_can() {
-    let mut client = client(&keyspace());
-    says(
-        &mut client,
-        "INCRBY a 5 => :5
-        DECR a => :4
-        DECRBY a 7 => :-3
-        DECRBY a -9223372036854775808 => -ERR decrement would overflow
-        INCRBY a x => -ERR value is not an integer or out of range
-        INCRBY a -9223372036854775805 => :-9223372036854775808
-        DECR a => -ERR increment or decrement would overflow
-        GET a => $20 -9223372036854775808
-        UNLINK a b => :1",
-    );
-}
-
-#[test]
-fn a_connection_is_told_of_itself() {
-    let mut client = client(&keyspace());
-    says(
-        &mut client,
-        "CLIENT ID => :7
-        CLIENT GETNAME => $-1
-        CLIENT SETNAME bob => +OK
-        CLIENT GETNAME => $3 bob
-        CLIENT SETINFO LIB-NAME lib => +OK
-        CLIENT SETINFO lib lib => -ERR Unrecognized option 'lib'
-        SELECT 0 => +OK
-        SELECT 1 => -ERR DB index is out of range
-        HELLO 4 SETNAME eve => -NOPROTO unsupported protocol version
-        GET none => $-1
-        HELLO 2 AUTH eve x => -WRONGPASS invalid username-password pair or user is disabled.
-        CONFIG GET save => *2 $4 save $0
-        CONFIG SET save x => -ERR unknown subcommand 'SET'. Try CONFIG HELP.",
-    );
-    let about = "$6 server $5 redis $7 version $6 7.0.15 $5 proto :3 $2 id :7";
-    assert!(said(&mut client, "HELLO 3 AUTH default x SETNAME eve").starts_with(&format!("%7 {about}")));
-    says(&mut client, "CLIENT GETNAME => $3 eve\nGET none => _\nMGET a b => *2 _ _\nCONFIG GET none => %0");
-    assert!(said(&mut client, "INFO").starts_with('='));
-    assert!(said(&mut client, "HELLO 2").starts_with("*14 "));
-    says(&mut client, "GET none => $-1");
 }
 
 #[test]
