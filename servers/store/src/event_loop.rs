@@ -1,0 +1,281 @@
+//! A thread that serves many connections: whichever is ready has a turn, one after the other.
+
+use crate::command::Desk;
+use crate::connection::{After, Connection, Shop};
+use crate::seats::Seat;
+use mio::net::TcpStream;
+use mio::{Events, Interest, Poll, Token, Waker};
+use std::collections::VecDeque;
+use std::io::{self, ErrorKind};
+use std::mem;
+use std::sync::atomic::{AtomicBool, AtomicUsize, Ordering::SeqCst};
+use std::sync::{Arc, Mutex, PoisonError};
+use std::time::{Duration, Instant};
+
+const WAKE: Token = Token(usize::MAX);
+/// How many connections are found ready at a time.
+const READY: usize = 256;
+/// How often clients are looked at that leave their replies unread.
+const LOOK_EVERY: Duration = Duration::from_secs(1);
+/// A connection that holds less than so much is never closed for the room of another.
+const MUCH: usize = 32 << 10;
+/// How long the end waits for clients to take what they asked for.
+const LAST_WAIT: Duration = Duration::from_secs(2);
+
+/// What is told to a thread from outside.
+pub struct Mailbox {
+    arrivals: Mutex<Vec<(TcpStream, Seat)>>,
+    waker: Arc<Waker>,
+    is_ending: AtomicBool,
+    /// The connections that it has, or will have.
+    count: AtomicUsize,
+}
+
+impl Mailbox {
+    pub fn count(&self) -> usize {
+        self.count.load(SeqCst)
+    }
+
+    /// Hands a connection over.
+    pub fn hand(&self, socket: TcpStream, seat: Seat) -> io::Result<()> {
+        self.count.fetch_add(1, SeqCst);
+        self.arrivals.lock().unwrap_or_else(PoisonError::into_inner).push((socket, seat));
+        self.waker.wake()
+    }
+
+    /// Asks for the end: what has come is answered, and nothing more.
+    pub fn end(&self) -> io::Result<()> {
+        self.is_ending.store(true, SeqCst);
+        self.waker.wake()
+    }
+}
+
+pub struct EventLoop {
+    poll: Poll,
+    mailbox: Arc<Mailbox>,
+    shop: Shop,
+    connections: Vec<Option<Connection>>,
+    free: Vec<usize>,
+    /// The connections that wait for their turn.
+    queue: VecDeque<usize>,
+    /// Those whose clients leave replies unread, or send on after the last one, and when they were looked at.
+    stuck: Vec<usize>,
+    looked: Instant,
+    /// How often somebody was sent away when this thread looked whether it was one of its own.
+    seen_away: u64,
+    /// Until when the end waits.
+    end: Option<Instant>,
+}
+
+impl EventLoop {
+    pub fn new(desk: Desk) -> io::Result<EventLoop> {
+        let poll = Poll::new()?;
+        let waker = Arc::new(Waker::new(poll.registry(), WAKE)?);
+        desk.seats().wakes(&waker);
+        let (arrivals, is_ending, count) = Default::default();
+        let mailbox = Arc::new(Mailbox { arrivals, waker, is_ending, count });
+        let (connections, free, queue, stuck, seen_away, end) = Default::default();
+        Ok(EventLoop {
+            poll,
+            mailbox,
+            shop: Shop::new(desk),
+            connections,
+            free,
+            queue,
+            stuck,
+            looked: Instant::now(),
+            seen_away,
+            end,
+        })
+    }
+
+    pub fn mailbox(&self) -> Arc<Mailbox> {
+        self.mailbox.clone()
+    }
+
+    /// Serves until the end is asked for.
+    pub fn run(mut self) -> io::Result<()> {
+        let mut events = Events::with_capacity(READY);
+        while !self.is_over() {
+            match self.poll.poll(&mut events, self.patience()) {
+                Err(error) if error.kind() == ErrorKind::Interrupted => continue,
+                done => done?,
+            }
+            for event in &events {
+                match event.token() {
+                    WAKE => self.read_mail()?,
+                    Token(place) => {
+                        if let Some(Some(connection)) = self.connections.get_mut(place) {
+                            connection.note(event);
+                            self.queue(place);
+                        }
+                    }
+                }
+            }
+            self.give_turns();
+            self.close_stuck();
+        }
+        self.connections.iter_mut().flatten().for_each(|it| it.finish(&mut self.shop.desk));
+        Ok(())
+    }
+
+    fn is_over(&self) -> bool {
+        let is_empty = self.connections.len() == self.free.len();
+        self.end.is_some_and(|end| is_empty || Instant::now() >= end)
+    }
+
+    /// How long nothing but an event gives it something to do.
+    fn patience(&self) -> Option<Duration> {
+        match (self.queue.is_empty(), self.end) {
+            (false, _) => Some(Duration::ZERO),
+            (true, Some(end)) => Some(end.saturating_duration_since(Instant::now())),
+            (true, None) if !self.is_looking() => None,
+            (true, None) => Some(LOOK_EVERY),
+        }
+    }
+
+    fn read_mail(&mut self) -> io::Result<()> {
+        let arrivals = mem::take(&mut *self.mailbox.arrivals.lock().unwrap_or_else(PoisonError::into_inner));
+        for (mut socket, seat) in arrivals {
+            let place = self.free.pop().unwrap_or(self.connections.len());
+            let interest = Interest::READABLE | Interest::WRITABLE;
+            // A socket that can't be watched is closed.
+            let is_watched = self.poll.registry().register(&mut socket, Token(place), interest).is_ok();
+            let connection = is_watched.then(|| Connection::new(socket, seat, &self.shop.desk));
+            if place == self.connections.len() {
+                self.connections.push(connection);
+            } else {
+                self.connections[place] = connection;
+            }
+            if !is_watched {
+                self.give_back(place);
+            }
+        }
+        self.close_sent_away();
+        if self.mailbox.is_ending.load(SeqCst) && self.end.is_none() {
+            self.end = Some(Instant::now() + LAST_WAIT);
+            for place in 0..self.connections.len() {
+                if let Some(connection) = &mut self.connections[place] {
+                    connection.end();
+                    self.queue(place);
+                }
+            }
+        }
+        Ok(())
+    }
+
+    fn close_sent_away(&mut self) {
+        let times = self.shop.desk.seats().times_sent_away();
+        if mem::replace(&mut self.seen_away, times) != times {
+            for place in 0..self.connections.len() {
+                // One that sent itself away was answered in its turn.
+                if self.connections[place].as_ref().is_some_and(Connection::is_sent_away) {
+                    self.close(place);
+                }
+            }
+        }
+    }
+
+    fn queue(&mut self, place: usize) {
+        if let Some(connection) = &mut self.connections[place] {
+            if !mem::replace(&mut connection.is_queued, true) {
+                self.queue.push_back(place);
+            }
+        }
+    }
+
+    /// Gives each that waits by now a turn.
+    fn give_turns(&mut self) {
+        for _ in 0..self.queue.len() {
+            let place = match self.queue.pop_front() {
+                Some(place) => place,
+                None => return,
+            };
+            self.give_turn(place);
+        }
+    }
+
+    fn give_turn(&mut self, place: usize) {
+        let connection = match &mut self.connections[place] {
+            Some(connection) => connection,
+            None => return,
+        };
+        connection.is_queued = false;
+        let was_stuck = connection.is_stuck() || connection.is_lingering();
+        // An error of its socket ends a connection, and nothing else.
+        let after = connection.turn(&mut self.shop).unwrap_or(After::Over);
+        let is_stuck = connection.is_stuck();
+        let is_last = self.end.is_some() && after == After::Waits && !is_stuck;
+        if after == After::Over || is_last {
+            return self.close(place);
+        }
+        if (is_stuck || connection.is_lingering()) && !was_stuck {
+            self.stuck.push(place);
+        }
+        if after == After::Again {
+            self.queue(place);
+        }
+        if self.shop.desk.seats().is_crowded() {
+            self.close_largest();
+        }
+    }
+
+    /// All connections hold more than they may: the one that holds the most of this thread's goes, where it holds much.
+    fn close_largest(&mut self) {
+        let burdens = self.connections.iter().enumerate();
+        let burdens = burdens.filter_map(|(place, it)| Some((it.as_ref()?.burden(), place)));
+        let largest = burdens.filter(|((_, held), _)| *held >= MUCH).max();
+        if let Some((_, place)) = largest {
+            if self.connections[place].as_mut().is_some_and(Connection::turn_out) {
+                self.stuck.push(place);
+                self.queue(place);
+            } else {
+                self.close(place);
+            }
+        }
+    }
+
+    /// Whether there is somebody who may be given up for lack of time.
+    fn is_looking(&self) -> bool {
+        !self.stuck.is_empty() || self.timeout().is_some() && self.connections.len() > self.free.len()
+    }
+
+    fn timeout(&self) -> Option<Duration> {
+        self.shop.desk.settings().timeout
+    }
+
+    /// Now and then closes those whose clients left their replies unread for too long, or are silent for too long.
+    fn close_stuck(&mut self) {
+        if !self.is_looking() || self.looked.elapsed() < LOOK_EVERY {
+            return;
+        }
+        self.looked = Instant::now();
+        for place in mem::take(&mut self.stuck) {
+            match &self.connections[place] {
+                Some(connection) if connection.is_given_up() => self.close(place),
+                Some(connection) if connection.is_stuck() || connection.is_lingering() => self.stuck.push(place),
+                _ => {}
+            }
+        }
+        if let Some(timeout) = self.timeout() {
+            for place in 0..self.connections.len() {
+                if self.connections[place].as_ref().is_some_and(|it| it.is_silent(timeout)) {
+                    self.close(place);
+                }
+            }
+        }
+    }
+
+    fn close(&mut self, place: usize) {
+        if let Some(mut connection) = self.connections[place].take() {
+            connection.finish(&mut self.shop.desk);
+            let _ = self.poll.registry().deregister(connection.socket());
+        }
+        self.give_back(place);
+    }
+
+    fn give_back(&mut self, place: usize) {
+        self.free.push(place);
+        self.mailbox.count.fetch_sub(1, SeqCst);
+    }
+}

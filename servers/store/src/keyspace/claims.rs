@@ -1,0 +1,74 @@
+//! Names that one client has for itself, so that what it does with them in many steps is one step to all others. Whoever
+//! asks for other names is served meanwhile.
+
+use super::{lock, Keyspace};
+use std::collections::HashSet;
+use std::sync::atomic::{AtomicBool, Ordering::SeqCst};
+use std::sync::{Arc, Mutex, PoisonError, RwLock};
+
+/// A thread's turn, which it has while it serves a request.
+pub type Turn = Arc<Mutex<()>>;
+
+/// What is claimed: names by their hashes, or all that there are.
+#[derive(Default)]
+pub struct Claimed {
+    pub is_all: bool,
+    hashes: HashSet<u64>,
+}
+
+#[derive(Default)]
+pub struct Claims {
+    turns: RwLock<Vec<Turn>>,
+    claimed: Mutex<Option<Claimed>>,
+    is_any: AtomicBool,
+}
+
+/// While it is held no other client is served that asks for what it claims.
+pub struct Claim(Arc<Keyspace>);
+
+impl Keyspace {
+    /// The turn of a thread that serves.
+    pub fn turn(&self) -> Turn {
+        let turn = Turn::default();
+        self.claims.turns.write().unwrap_or_else(PoisonError::into_inner).push(turn.clone());
+        turn
+    }
+
+    /// Claims names, none where another has claimed some. Whoever claims has no turn, for it waits until each thread's is
+    /// over: no request that began before goes on then.
+    pub fn claim(self: &Arc<Self>, claimed: Claimed) -> Option<Claim> {
+        let mut now = self.claims.claimed.lock().unwrap_or_else(PoisonError::into_inner);
+        if now.is_some() {
+            return None;
+        }
+        *now = Some(claimed);
+        self.claims.is_any.store(true, SeqCst);
+        drop(now);
+        let turns = self.claims.turns.read().unwrap_or_else(PoisonError::into_inner);
+        turns.iter().for_each(|it| drop(lock(it)));
+        Some(Claim(self.clone()))
+    }
+
+    /// Whether one of the names is claimed, or any at all for whoever asks for all. It holds for as long as the asking
+    /// thread's turn.
+    pub fn is_claimed<'a>(&self, mut names: impl Iterator<Item = &'a [u8]>, is_all: bool) -> bool {
+        if !self.claims.is_any.load(SeqCst) {
+            return false;
+        }
+        let claimed = self.claims.claimed.lock().unwrap_or_else(PoisonError::into_inner);
+        claimed.as_ref().is_some_and(|it| is_all || names.any(|name| it.is_all || it.hashes.contains(&self.hash(name))))
+    }
+
+    /// Adds a name to what is to be claimed.
+    pub fn add(&self, name: &[u8], to: &mut Claimed) {
+        to.hashes.insert(self.hash(name));
+    }
+}
+
+impl Drop for Claim {
+    fn drop(&mut self) {
+        let mut claimed = self.0.claims.claimed.lock().unwrap_or_else(PoisonError::into_inner);
+        self.0.claims.is_any.store(false, SeqCst);
+        *claimed = None;
+    }
+}

@@ -1,0 +1,483 @@
+//! What can be seen from within alone: which locks a call takes, when a key is gone, and what the keepers do.
+
+use crate::clock::{Clock, Tick};
+use crate::command::{Client, Desk, Served, Session};
+use crate::keeper::keep;
+use crate::keyspace::{Keyspace, Lifetime, Place, KEEPERS};
+use crate::output::Output;
+use crate::resp::{integer, Broken, Parser, Protocol, Reply};
+use crate::room::Room;
+use crate::seats::{Guest, Seats};
+use crate::settings::Settings;
+use std::sync::atomic::{AtomicBool, AtomicU64, Ordering::SeqCst};
+use std::sync::{mpsc, Arc};
+use std::thread;
+use std::time::{Duration, Instant, SystemTime};
+
+mod commands;
+
+/// More than any machine needs for what is waited for: only a hang meets it. In milliseconds.
+const LONG: u64 = 120_000;
+
+/// Waits until something is so.
+fn wait_until(what: &str, mut is_so: impl FnMut() -> bool) {
+    let begun = Instant::now();
+    while !is_so() {
+        assert!(begun.elapsed() < Duration::from_millis(LONG), "{what}");
+        thread::sleep(Duration::from_millis(1));
+    }
+}
+
+fn keyspace() -> Arc<Keyspace> {
+    Arc::new(Keyspace::new(10_000, Room::new(64 << 20)).unwrap())
+}
+
+/// A client with a desk of its own, as if it had a thread for itself.
+struct Asker {
+    desk: Desk,
+    session: Session,
+    begun: Instant,
+}
+
+fn client(keyspace: &Arc<Keyspace>) -> Asker {
+    client_by(keyspace, Settings::default())
+}
+
+fn client_by(keyspace: &Arc<Keyspace>, settings: Settings) -> Asker {
+    let seats = Arc::new(Seats::new(10, 1 << 20));
+    let desk = Desk::new(keyspace.clone(), seats, Arc::new(settings));
+    Asker { session: desk.session(&Guest::new(7, ([127, 0, 0, 1], 7).into())), desk, begun: Instant::now() }
+}
+
+fn ask(Asker { desk, session, .. }: &mut Asker, line: &str) -> Reply {
+    Client { desk, session }.answer(&line.split(' ').map(str::as_bytes).collect::<Vec<_>>())
+}
+
+/// What becomes of a request in one turn.
+fn served(Asker { desk, session, .. }: &mut Asker, line: &str) -> Served {
+    let words: Vec<_> = line.split(' ').map(str::as_bytes).collect();
+    Client { desk, session }.serve(&words, &mut 0, &mut Output::default())
+}
+
+fn is_ok(client: &mut Asker, line: &str) {
+    assert_eq!(ask(client, line), Reply::Status("OK"), "{line}");
+}
+
+#[test]
+fn a_later_deadline_takes_no_lock() {
+    let keyspace = keyspace();
+    let mut client = client(&keyspace);
+    is_ok(&mut client, "SET lease ann PX 6000000");
+    assert_eq!(ask(&mut client, "PEXPIRE lease 7000000 GT"), Reply::Integer(1));
+    let (told, heard) = mpsc::channel();
+    keyspace.while_held(b"lease", || {
+        thread::spawn(move || {
+            let later = ask(&mut client, "PEXPIRE lease 8000000 GT");
+            told.send((later, ask(&mut client, "PEXPIRE lease 7500000 GT"))).unwrap();
+        });
+        let answers = heard.recv_timeout(Duration::from_millis(LONG));
+        assert_eq!(answers, Ok((Reply::Integer(1), Reply::Integer(0))), "an extend waits for a lock");
+    });
+}
+
+/// Nor does it wait for a shard that somebody changes.
+#[test]
+fn the_number_of_keys_takes_no_lock_where_none_is_over() {
+    let keyspace = keyspace();
+    let mut client = client(&keyspace);
+    is_ok(&mut client, "SET a 1 PX 60000");
+    is_ok(&mut client, "SET b 1");
+    let (told, heard) = mpsc::channel();
+    keyspace.while_held(b"a", || {
+        thread::spawn(move || told.send(ask(&mut client, "DBSIZE")));
+        assert_eq!(heard.recv_timeout(Duration::from_millis(LONG)), Ok(Reply::Integer(2)), "DBSIZE waits for a lock");
+    });
+}
+
+/// A name in another shard than those of some others.
+fn apart(keyspace: &Keyspace, others: &[&str]) -> String {
+    let shard = |name: &str| keyspace.shard_of(name.as_bytes());
+    let mut names = (0..).map(|at| format!("name:{at}"));
+    names.find(|name| others.iter().all(|other| shard(other) != shard(name))).unwrap()
+}
+
+/// A transaction stands still, since somebody has the shard of its second name.
+#[test]
+fn others_are_served_amid_a_transaction() {
+    let keyspace = keyspace();
+    let second = apart(&keyspace, &["first"]);
+    let other = apart(&keyspace, &["first", &second]);
+    is_ok(&mut client(&keyspace), &format!("SET {other} 1"));
+    let (mut asker, mut others, get) = (client(&keyspace), client(&keyspace), format!("GET {other}"));
+    let (told, heard) = mpsc::channel();
+    keyspace.while_held(second.as_bytes(), || {
+        ["MULTI", "SET first 1", &format!("SET {second} 1")].iter().for_each(|it| drop(ask(&mut asker, it)));
+        thread::spawn(move || while served(&mut asker, "EXEC") == Served::Later {});
+        wait_until("the transaction doesn't begin", || keyspace.view(b"first", |_, _| ()).is_some());
+        thread::spawn(move || {
+            told.send(served(&mut others, &get)).unwrap();
+            let claimed = ["GET first", "PEXPIRE first 9 GT", "DBSIZE", "FLUSHALL"];
+            claimed.iter().for_each(|it| told.send(served(&mut others, it)).unwrap());
+        });
+        let next = || heard.recv_timeout(Duration::from_millis(LONG));
+        assert_eq!(next(), Ok(Served::Done), "whoever asks for another name waits");
+        (0..4).for_each(|at| assert_eq!(next(), Ok(Served::Later), "half of a transaction is seen by the {at}th"));
+    });
+    wait_until("its names stay claimed", || served(&mut client(&keyspace), "DBSIZE") == Served::Done);
+    assert_eq!(ask(&mut client(&keyspace), "DBSIZE"), Reply::Integer(3));
+}
+
+#[test]
+fn no_key_is_seen_at_its_deadline() {
+    let keyspace = keyspace();
+    let mut client = client(&keyspace);
+    for round in 0..200 {
+        let deadline = keyspace.clock.now() + 3 + round % 3;
+        is_ok(&mut client, &format!("SET key value PXAT {deadline}"));
+        loop {
+            let before = keyspace.clock.now();
+            let value = ask(&mut client, "GET key");
+            let after = keyspace.clock.now();
+            assert!(value == Reply::Nil || before < deadline, "seen at {before}, its deadline is {deadline}");
+            assert!(value != Reply::Nil || after >= deadline, "gone at {after}, its deadline is {deadline}");
+            if value == Reply::Nil {
+                break;
+            }
+        }
+        assert_eq!(ask(&mut client, "DBSIZE"), Reply::Integer(0));
+    }
+}
+
+/// A reader asks until the key is gone, while another thread extends it. How many extends were accepted.
+fn extended_until_gone(keyspace: &Arc<Keyspace>, reader: &mut Asker, name: &str, life: u64) -> u32 {
+    is_ok(reader, &format!("SET {name} value PX {life}"));
+    let is_gone = AtomicBool::new(false);
+    thread::scope(|scope| {
+        let extender = scope.spawn(|| {
+            let mut client = client(keyspace);
+            let mut accepted = 0;
+            for pause in 0..200 {
+                let was_gone = is_gone.load(SeqCst);
+                if ask(&mut client, &format!("PEXPIRE {name} {} GT", life + 1)) == Reply::Integer(1) {
+                    assert!(!was_gone, "an extend brought back what a reader saw to be gone");
+                    accepted += 1;
+                }
+                thread::sleep(Duration::from_micros(5 + pause));
+            }
+            accepted
+        });
+        while ask(reader, &format!("GET {name}")) != Reply::Nil {}
+        is_gone.store(true, SeqCst);
+        for _ in 0..20 {
+            assert_eq!(ask(reader, &format!("GET {name}")), Reply::Nil);
+        }
+        extender.join().unwrap()
+    })
+}
+
+/// On a busy machine a key may be gone before the other thread runs at all: then the next lives longer, until some are
+/// extended, so that what is seen hangs on no time.
+#[test]
+fn what_was_seen_to_be_gone_is_never_extended() {
+    let keyspace = keyspace();
+    let (mut reader, mut extended, mut rounds, mut life) = (client(&keyspace), 0, 0, 3);
+    while rounds < 150 || extended <= 100 {
+        let accepted = extended_until_gone(&keyspace, &mut reader, &format!("key:{rounds}"), life);
+        life = if accepted == 0 { 2 * life } else { (life / 2).max(3) };
+        extended += accepted;
+        rounds += 1;
+    }
+}
+
+/// A keyspace whose keepers never end.
+fn kept() -> Arc<Keyspace> {
+    let keyspace = keyspace();
+    for keeper in 0..KEEPERS {
+        let keyspace = keyspace.clone();
+        thread::spawn(move || keep(&keyspace, keeper));
+    }
+    keyspace
+}
+
+#[test]
+fn the_clock_is_the_machines() {
+    let now = || SystemTime::now().duration_since(SystemTime::UNIX_EPOCH).unwrap();
+    for pause in 0..500 {
+        let begun = Instant::now();
+        let clock = Clock::new();
+        // It reads two clocks, one after the other, and is behind by what passes between.
+        let behind = begun.elapsed();
+        thread::sleep(Duration::from_micros(pause));
+        let before = (now() - behind).as_millis() as Tick;
+        let told = clock.now();
+        assert!((before..=now().as_millis() as Tick).contains(&told), "{told} at {before}");
+        assert_eq!(clock.tick(clock.moment(told + pause)), told + pause);
+    }
+}
+
+/// A key is extended by a tick at a time, at its last moment: what is told to be done is kept.
+#[test]
+fn no_key_is_gone_before_the_deadline_that_was_accepted_last() {
+    let keyspace = keyspace();
+    for round in 0..300 {
+        let name = format!("key:{round}");
+        let mut deadline = keyspace.clock.now() + 3;
+        is_ok(&mut client(&keyspace), &format!("SET {name} value PXAT {deadline}"));
+        let (gone, accepted) = thread::scope(|scope| {
+            let reader = scope.spawn(|| {
+                let mut client = client(&keyspace);
+                while ask(&mut client, &format!("GET {name}")) != Reply::Nil {}
+                keyspace.clock.now()
+            });
+            let mut client = client(&keyspace);
+            for _ in 0..20 {
+                // The queue is asked, and not what stands in the table.
+                while keyspace.clock.now() + 1 < deadline {}
+                if ask(&mut client, &format!("PEXPIREAT {name} {} GT", deadline + 1)) == Reply::Integer(0) {
+                    break;
+                }
+                deadline += 1;
+            }
+            (reader.join().unwrap(), deadline)
+        });
+        assert!(gone >= accepted, "gone at {gone}, its deadline is {accepted}");
+    }
+}
+
+/// A key comes to its deadline, and a keeper has its entry in hand, while its shard is held by whoever found it live: it is
+/// told to be gone then, or stays.
+fn changed_at_the_end(request: &str, change: impl Fn(&mut Place<'_, '_>) -> bool, is_there: bool) {
+    let keyspace = kept();
+    let mut client = client(&keyspace);
+    for round in 0..5 {
+        is_ok(&mut client, "SET key value PX 6000000");
+        let is_done = keyspace.change(b"key", |place| {
+            assert_eq!(place.expire(place.now() + 1), Ok(true), "{request}");
+            wait_until("no keeper takes its entry out", || place.is_out());
+            change(place)
+        });
+        assert_eq!(is_done, is_there, "{request}");
+        // It waits for a keeper that has taken an entry out.
+        let count = i64::from(is_there);
+        assert_eq!(ask(&mut client, "DBSIZE"), Reply::Integer(count), "{request}");
+        assert_eq!(ask(&mut client, "EXISTS key"), Reply::Integer(count), "{request}");
+        let held = keyspace.held();
+        assert_eq!((held.keys as i64, held.expired), (count, if is_there { 0 } else { round + 1 }), "{request}");
+        assert_eq!(ask(&mut client, "DEL key"), Reply::Integer(count));
+        assert_eq!((keyspace.held().keys, keyspace.held().expires, keyspace.held().bytes), (0, 0, 0));
+    }
+}
+
+#[test]
+fn a_key_that_ends_while_it_is_changed_is_gone_or_stays() {
+    let later = |place: &Place<'_, '_>| Lifetime::Until(place.now() + 6_000_000);
+    changed_at_the_end("PERSIST", |place| place.persist(), false);
+    changed_at_the_end("PEXPIRE", |place| place.expire(place.now() + 6_000_000) == Ok(true), false);
+    changed_at_the_end("SET KEEPTTL", |place| place.set(b"other", Lifetime::Kept).is_err(), false);
+    changed_at_the_end("SET PX", |place| place.set(b"other", later(place)).is_ok(), true);
+    changed_at_the_end("SET", |place| place.set(b"other", Lifetime::Endless).is_ok(), true);
+}
+
+/// Nor one whose entry is in a keeper's hands, or in those of a client who takes it off.
+#[test]
+fn no_key_is_counted_at_its_deadline() {
+    let keyspace = kept();
+    let deadline = AtomicU64::new(0);
+    let is_over = AtomicBool::new(false);
+    thread::scope(|scope| {
+        for request in ["GET key", "DBSIZE", "DBSIZE"] {
+            let (keyspace, deadline, is_over) = (&keyspace, &deadline, &is_over);
+            scope.spawn(move || {
+                let mut client = client(keyspace);
+                while !is_over.load(SeqCst) {
+                    let (until, before) = (deadline.load(SeqCst), keyspace.clock.now());
+                    let told = ask(&mut client, request);
+                    // The same key was there all the time.
+                    if before >= until && deadline.load(SeqCst) == until {
+                        assert!(
+                            matches!(told, Reply::Integer(0) | Reply::Nil),
+                            "{request} at {before}: {told:?}, until {until}"
+                        );
+                    }
+                }
+            });
+        }
+        let mut client = client(&keyspace);
+        for round in 0..1_500 {
+            let until = keyspace.clock.now() + 1 + round % 2;
+            deadline.store(until, SeqCst);
+            is_ok(&mut client, &format!("SET key value PXAT {until}"));
+            while keyspace.clock.now() <= until {}
+        }
+        is_over.store(true, SeqCst);
+    });
+}
+
+#[test]
+fn keepers_give_back_what_nobody_asks_for() {
+    let keyspace = kept();
+    let mut client = client(&keyspace);
+    for at in 0..1_000 {
+        is_ok(&mut client, &format!("SET far:{at} value PX 3600000"));
+    }
+    // The keepers sleep until far ahead now.
+    thread::sleep(Duration::from_millis(50));
+    let mut last = 0;
+    for at in 0..1_000 {
+        last = keyspace.clock.now() + 100;
+        is_ok(&mut client, &format!("SET near:{at} value PX 100"));
+    }
+    wait_until("keys are held whose deadlines are over", || keyspace.held().keys == 1_000);
+    assert!(keyspace.clock.now() >= last, "a key is gone before its deadline");
+    assert_eq!(ask(&mut client, "DBSIZE"), Reply::Integer(1_000));
+}
+
+#[test]
+fn memory_is_counted_back_to_nothing() {
+    let keyspace = keyspace();
+    let mut client = client(&keyspace);
+    for at in 0..500 {
+        is_ok(&mut client, &format!("SET key:{} value-{at} PX {}", at % 50, 5 + at % 7));
+        ask(&mut client, &format!("INCR count:{}", at % 20));
+        ask(&mut client, &format!("PEXPIRE count:{} {}", at % 20, 3 + at % 5));
+        ask(&mut client, &format!("DEL key:{}", at % 11));
+        ask(&mut client, &format!("PERSIST key:{}", at % 13));
+    }
+    thread::sleep(Duration::from_millis(30));
+    (0..50).for_each(|at| drop(ask(&mut client, &format!("DEL key:{at} count:{at}"))));
+    assert_eq!((ask(&mut client, "DBSIZE"), keyspace.held().bytes), (Reply::Integer(0), 0));
+    assert!(keyspace.room().take(0, 64 << 20).is_ok(), "all of the room is free");
+}
+
+/// The requests of these bytes that come in pieces of a size.
+fn requests(sent: &[u8], size: usize) -> Result<Vec<Vec<Vec<u8>>>, Broken> {
+    let (mut parser, mut bytes, mut got) = (Parser::default(), Vec::new(), Vec::new());
+    for piece in sent.chunks(size) {
+        bytes.extend_from_slice(piece);
+        while let Some(length) = parser.parse(&bytes)? {
+            let words: Vec<_> = parser.words(&bytes).map(<[u8]>::to_vec).collect();
+            got.extend(Some(words).filter(|it| !it.is_empty()));
+            bytes.drain(..length);
+            parser.reset();
+        }
+    }
+    Ok(got)
+}
+
+#[test]
+fn requests_come_in_pieces_of_any_size() {
+    let sent = b"*2\r\n$3\r\nGET\r\n$4\r\na\r\nb\r\n\r\nPING now\r\n*0\r\n*1\r\n$0\r\n\r\nSET 'a b' \"\\x41\\n\"\n";
+    let words = |words: &[&str]| words.iter().map(|it| Vec::from(*it)).collect::<Vec<_>>();
+    let wanted = vec![words(&["GET", "a\r\nb"]), words(&["PING", "now"]), words(&[""]), words(&["SET", "a b", "A\n"])];
+    for size in 1..=sent.len() {
+        assert_eq!(requests(sent, size).as_ref(), Ok(&wanted), "in pieces of {size}");
+    }
+}
+
+#[test]
+fn quotes_hold_words_together() {
+    let one = |line: &str| requests(format!("{line}\r\n").as_bytes(), 1_000).map(|it| it.concat());
+    let good: [(&str, &[&str]); 7] = [
+        ("SET \"a b\" 'c d'", &["SET", "a b", "c d"]),
+        ("SET \"\" ''", &["SET", "", ""]),
+        (r#"ECHO "\x41\x0a\"\\\t\q""#, &["ECHO", "A\n\"\\\tq"]),
+        (r#"ECHO "\x4g""#, &["ECHO", "x4g"]),
+        (r"ECHO 'it\'s' 'a\b'", &["ECHO", "it's", r"a\b"]),
+        ("ECHO pre\"fix\"", &["ECHO", "prefix"]),
+        ("  ECHO \t two  ", &["ECHO", "two"]),
+    ];
+    for (line, words) in good {
+        assert_eq!(one(line), Ok(words.iter().map(|it| Vec::from(*it)).collect()), "{line}");
+    }
+    for line in ["ECHO \"a", "ECHO 'a", "ECHO \"a\"b", "ECHO 'a'b", "ECHO \"a\\\"", "ECHO '"] {
+        assert_eq!(one(line), Err(Broken::Quotes), "{line}");
+    }
+}
+
+#[test]
+fn integers_are_those_of_the_protocol() {
+    let good = [("0", 0), ("-1", -1), ("9223372036854775807", i64::MAX), ("-9223372036854775808", i64::MIN)];
+    assert!(good.iter().all(|(text, number)| integer(text.as_bytes()) == Some(*number)));
+    let bad = ["", "-", "-0", "01", "+1", " 1", "1 ", "1.0", "x", "9223372036854775808", "99999999999999999999999"];
+    assert!(bad.iter().all(|text| integer(text.as_bytes()).is_none()));
+}
+
+#[test]
+fn replies_are_written_whole() {
+    let long: Arc<[u8]> = vec![b'x'; 100_000].into();
+    let (mut output, mut written) = (Output::default(), Vec::new());
+    output.reply(&Reply::Bulk(long));
+    assert!(output.is_full(), "a long value is sent before anything is added");
+    output.send(&mut written).unwrap();
+    let told = Reply::Error("ERR Unsupported option \u{e4}\r\n+OK".into());
+    let replies = [told, Reply::Nil, Reply::Integer(-2), Reply::Begun(1), Reply::Status("OK"), Reply::Text("a".into())];
+    replies.iter().for_each(|reply| output.reply(reply));
+    output.send(&mut written).unwrap();
+    assert!(output.is_empty());
+    assert!(written.starts_with(b"$100000\r\nxxx"));
+    assert!(written.ends_with(b"xxx\r\n-ERR Unsupported option \xe4  +OK\r\n$-1\r\n:-2\r\n*1\r\n+OK\r\n$1\r\na\r\n"));
+    output.protocol = Protocol::Three;
+    let pairs = vec![(Reply::bulk(b"a"), Reply::Array(vec![Reply::Nil]))];
+    [Reply::Map(pairs), Reply::Text("b".into())].iter().for_each(|reply| output.reply(reply));
+    written.clear();
+    output.send(&mut written).unwrap();
+    assert_eq!(written, b"%1\r\n$1\r\na\r\n*1\r\n_\r\n=5\r\ntxt:b\r\n");
+}
+
+/// Takes so many bytes at a time, and nothing every other time.
+struct Slow(Vec<u8>, usize, bool);
+
+impl std::io::Write for Slow {
+    fn write(&mut self, bytes: &[u8]) -> std::io::Result<usize> {
+        self.2 = !self.2;
+        if self.2 {
+            return Err(std::io::ErrorKind::WouldBlock.into());
+        }
+        let count = bytes.len().min(self.1);
+        self.0.extend_from_slice(&bytes[..count]);
+        Ok(count)
+    }
+
+    fn flush(&mut self) -> std::io::Result<()> {
+        Ok(())
+    }
+}
+
+#[test]
+fn what_waits_to_be_sent_counts_as_memory() {
+    let (mut output, value) = (Output::default(), vec![b'v'; 700_000]);
+    output.reply(&Reply::bulk(&value));
+    assert!(output.held() >= 700_000, "a value counts until it is sent");
+    assert!(output.is_full());
+    let mut sent = Vec::new();
+    output.send(&mut sent).unwrap();
+    assert!(output.is_empty() && output.held() < 1_000 && sent.len() == 700_011);
+    while !output.is_full() {
+        output.reply(&Reply::bulk(&value[..10_000]));
+    }
+    assert!((60_000..90_000).contains(&output.held()), "{} bytes of short replies", output.held());
+}
+
+#[test]
+fn replies_are_sent_in_pieces_of_any_size() {
+    let keyspace = keyspace();
+    let mut client = client(&keyspace);
+    let long = "v".repeat(20_000);
+    is_ok(&mut client, &format!("SET long {long}"));
+    is_ok(&mut client, "SET short value");
+    let words: Vec<_> = "MGET short long none long short".split(' ').map(str::as_bytes).collect();
+    let wanted = format!("*5\r\n$5\r\nvalue\r\n{0}$-1\r\n{0}$5\r\nvalue\r\n", format_args!("$20000\r\n{long}\r\n"));
+    for size in [1, 2, 3, 1_000, 16_384, 20_000, 100_000] {
+        let (mut slow, mut output, mut told) = (Slow(Vec::new(), size, false), Output::default(), 0);
+        let Asker { desk, session, .. } = &mut client;
+        while (Client { desk, session }).serve(&words, &mut told, &mut output) == Served::Begun {
+            while output.is_full() {
+                output.send(&mut slow).unwrap();
+            }
+        }
+        while !output.is_empty() {
+            output.send(&mut slow).unwrap();
+        }
+        assert!(slow.0 == wanted.as_bytes(), "in pieces of {size}");
+    }
+}

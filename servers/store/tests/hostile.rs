@@ -1,0 +1,856 @@
+//! Clients that do harm: a named error or a closed connection, and everybody else is served as before.
+
+use std::io::{BufRead, BufReader, ErrorKind, Read, Write};
+use std::net::TcpStream;
+use std::process::{Child, ChildStdout, Command, Stdio};
+use std::thread;
+use std::time::{Duration, Instant};
+
+/// More than any machine needs for what is waited for: only a hang meets it.
+const LONG: Duration = Duration::from_secs(120);
+
+/// Waits until something is so.
+fn wait_until(what: &str, mut is_so: impl FnMut() -> bool) {
+    let begun = Instant::now();
+    while !is_so() {
+        assert!(begun.elapsed() < LONG, "{what}");
+        thread::sleep(Duration::from_millis(10));
+    }
+}
+
+/// A server of its own, which ends with the test.
+struct Store {
+    child: Child,
+    said: BufReader<ChildStdout>,
+    /// The line that it starts with.
+    first: String,
+    address: String,
+}
+
+impl Store {
+    fn new(options: &[&str]) -> Store {
+        Store::by(Command::new(env!("CARGO_BIN_EXE_store")).args(options))
+    }
+
+    /// One that a shell starts, which has limited its open files before.
+    fn with_files(limit: &str, options: &[&str]) -> Store {
+        let start = format!("ulimit {limit} && exec \"$0\" \"$@\"");
+        Store::by(Command::new("sh").args(["-c", &start, env!("CARGO_BIN_EXE_store")]).args(options))
+    }
+
+    fn by(command: &mut Command) -> Store {
+        // The tests' own sockets are more than a shell's limit too.
+        rlimit::increase_nofile_limit(u64::MAX).unwrap();
+        let command = command.args(["--port", "0"]).stdout(Stdio::piped()).stderr(Stdio::piped());
+        let mut child = command.spawn().unwrap();
+        let (mut said, mut first) = (BufReader::new(child.stdout.take().unwrap()), String::new());
+        said.read_line(&mut first).unwrap();
+        assert!(first.contains("a password"), "{first}");
+        let address =
+            first.split([' ', ',']).find(|it| it.contains(':') && it.ends_with(|end: char| end.is_ascii_digit()));
+        let address = address.unwrap().replace("0.0.0.0", "127.0.0.1");
+        Store { child, said, first, address }
+    }
+
+    fn signal(&self, name: &str) {
+        assert!(Command::new("kill").args([name, &self.child.id().to_string()]).status().unwrap().success());
+    }
+
+    /// Asks it to end, which it has to do in order: what it says then, and what it warned of before.
+    fn ends(mut self) -> (String, String) {
+        self.signal("-TERM");
+        let (mut said, mut warned) = (String::new(), String::new());
+        self.said.read_to_string(&mut said).unwrap();
+        self.child.stderr.take().unwrap().read_to_string(&mut warned).unwrap();
+        assert!(self.child.wait().unwrap().success());
+        (said, warned)
+    }
+
+    fn connect(&self) -> TcpStream {
+        let stream = TcpStream::connect(&self.address).unwrap();
+        stream.set_read_timeout(Some(LONG)).unwrap();
+        stream
+    }
+
+    /// What is answered until the connection ends.
+    fn ends_with(&self, sent: &[u8]) -> String {
+        let mut stream = self.connect();
+        // A connection that was closed while this was sent is what is looked for.
+        let _ = stream.write_all(sent);
+        let mut answer = Vec::new();
+        let _ = stream.read_to_end(&mut answer);
+        String::from_utf8_lossy(&answer).into_owned()
+    }
+
+    /// Stops it, until it is told to go on. Each of its threads stands still then.
+    fn stand_still(&self) {
+        self.signal("-STOP");
+        let tasks = format!("/proc/{}/task", self.child.id());
+        wait_until("it isn't stopped", || {
+            std::fs::read_dir(&tasks).unwrap().all(|task| {
+                let state = std::fs::read_to_string(task.unwrap().path().join("stat")).unwrap();
+                state.rsplit(") ").next().is_some_and(|it| it.starts_with('T'))
+            })
+        });
+    }
+
+    fn is_well(&self) {
+        let mut stream = self.connect();
+        assert_eq!(ask(&mut stream, &[b"SET", b"well", b"1"]), "+OK\r\n");
+        assert_eq!(ask(&mut stream, &[b"GET", b"well"]), "$1\r\n1\r\n");
+    }
+
+    /// The memory that it holds, in KiB.
+    fn held(&self) -> u64 {
+        let status = std::fs::read_to_string(format!("/proc/{}/status", self.child.id())).unwrap();
+        let line = status.lines().find(|line| line.starts_with("VmRSS:")).unwrap();
+        line.split_whitespace().nth(1).unwrap().parse().unwrap()
+    }
+}
+
+impl Drop for Store {
+    fn drop(&mut self) {
+        let _ = self.child.kill();
+        let _ = self.child.wait();
+    }
+}
+
+fn request(args: &[&[u8]]) -> Vec<u8> {
+    let mut bytes = format!("*{}\r\n", args.len()).into_bytes();
+    for arg in args {
+        bytes.extend_from_slice(format!("${}\r\n", arg.len()).as_bytes());
+        bytes.extend_from_slice(arg);
+        bytes.extend_from_slice(b"\r\n");
+    }
+    bytes
+}
+
+/// The answer to a request: a line, with the content of a bulk string.
+fn ask(stream: &mut TcpStream, args: &[&[u8]]) -> String {
+    stream.write_all(&request(args)).unwrap();
+    answer(stream)
+}
+
+fn answer(stream: &mut TcpStream) -> String {
+    let mut reader = BufReader::with_capacity(1, stream);
+    let mut line = String::new();
+    reader.read_line(&mut line).unwrap();
+    if let Some(length) = line.strip_prefix('$').and_then(|it| it.trim().parse::<usize>().ok()) {
+        let mut content = vec![0; length + 2];
+        reader.read_exact(&mut content).unwrap();
+        line.push_str(&String::from_utf8_lossy(&content));
+    }
+    line
+}
+
+/// The answers of a line each to requests that are sent in one piece.
+fn ask_all(stream: &mut TcpStream, requests: &[Vec<u8>]) -> Vec<String> {
+    stream.write_all(&requests.concat()).unwrap();
+    BufReader::new(&*stream).lines().take(requests.len()).map(Result::unwrap).collect()
+}
+
+#[test]
+fn broken_frames_end_their_connection_by_name() {
+    let store = Store::new(&[]);
+    let cases: [(&[u8], &str); 13] = [
+        (b"*x\r\n", "-ERR Protocol error: invalid multibulk length\r\n"),
+        (b"*99999999999\r\n", "-ERR Protocol error: invalid multibulk length\r\n"),
+        (b"*65537\r\n", "-ERR Protocol error: invalid multibulk length\r\n"),
+        (b"*1\r\n:1\r\n", "-ERR Protocol error: expected '$', got ':'\r\n"),
+        (b"*1\r\n\r\n", "-ERR Protocol error: expected '$', got ' '\r\n"),
+        (b"*1\r\n$-1\r\n", "-ERR Protocol error: invalid bulk length\r\n"),
+        (b"*1\r\n$99999999999999999999\r\n", "-ERR Protocol error: invalid bulk length\r\n"),
+        (b"*1\r\n$1048577\r\n", "-ERR Protocol error: invalid bulk length\r\n"),
+        (b"*1\r\n$4\r\nPINGxx", "-ERR Protocol error: expected the end of a line\r\n"),
+        (&[b'a'; 70_000], "-ERR Protocol error: too big inline request\r\n"),
+        (b"ECHO \"a\r\n", "-ERR Protocol error: unbalanced quotes in request\r\n"),
+        (b"*1\r\n$4\r\nPING\r\n*1\r\n$x\r\n", "+PONG\r\n-ERR Protocol error: invalid bulk length\r\n"),
+        (b"*1\r\n$4\r\nQUIT\r\n*1\r\n$4\r\nPING\r\n", "+OK\r\n"),
+    ];
+    for (sent, told) in cases {
+        assert_eq!(store.ends_with(sent), told, "{:?}", sent[..sent.len().min(50)].escape_ascii().to_string());
+    }
+    store.is_well();
+}
+
+#[test]
+fn random_bytes_harm_nobody() {
+    let store = Store::new(&[]);
+    let mut draw = 88_172_645_463_325_252_u64;
+    for _ in 0..200 {
+        let mut sent = b"*3\r\n$3\r\nSET\r\n$1\r\na\r\n$1\r\nb\r\n".to_vec();
+        for _ in 0..40 {
+            draw ^= draw << 13;
+            draw ^= draw >> 7;
+            draw ^= draw << 17;
+            let at = draw as usize % sent.len();
+            sent[at] = b"*$\r\n0123456789-\xff"[(draw >> 32) as usize % 16];
+        }
+        let mut stream = store.connect();
+        stream.write_all(&sent).unwrap();
+    }
+    store.is_well();
+}
+
+#[test]
+fn half_commands_wait_and_harm_nobody() {
+    let store = Store::new(&[]);
+    let whole = request(&[b"SET", b"half", b"0123456789"]);
+    let mut halves: Vec<TcpStream> = (1..whole.len()).map(|_| store.connect()).collect();
+    for (at, stream) in halves.iter_mut().enumerate() {
+        stream.write_all(&whole[..at + 1]).unwrap();
+    }
+    store.is_well();
+    for (at, stream) in halves.iter_mut().enumerate() {
+        stream.write_all(&whole[at + 1..]).unwrap();
+        assert_eq!(answer(stream), "+OK\r\n");
+    }
+    // A request that comes byte by byte.
+    let mut stream = store.connect();
+    for byte in request(&[b"GET", b"half"]) {
+        stream.write_all(&[byte]).unwrap();
+    }
+    assert_eq!(answer(&mut stream), "$10\r\n0123456789\r\n");
+}
+
+#[test]
+fn keys_and_values_of_a_mebibyte_are_kept_and_longer_ones_refused() {
+    let store = Store::new(&["--memory", "640"]);
+    let long = vec![b'k'; 1 << 20];
+    let mut stream = store.connect();
+    assert_eq!(ask(&mut stream, &[b"SET", &long, b"v", b"PX", b"60000"]), "+OK\r\n");
+    assert_eq!(ask(&mut stream, &[b"GET", &long]), "$1\r\nv\r\n");
+    assert_eq!(ask(&mut stream, &[b"SET", b"v", &long]), "+OK\r\n");
+    assert_eq!(ask(&mut stream, &[b"GET", b"v"]).len(), (1 << 20) + 12);
+    assert_eq!(ask(&mut stream, &[b"DEL", &long]), ":1\r\n");
+    let two = request(&[b"SET", &long, &long]);
+    assert_eq!(store.ends_with(&two), "-ERR Protocol error: too big a request\r\n");
+    store.is_well();
+}
+
+#[test]
+fn a_client_that_stops_reading_is_closed_and_holds_little() {
+    // The one thread serves others meanwhile.
+    let store = Store::new(&["--threads", "1"]);
+    let mut stream = store.connect();
+    let value = vec![b'v'; 1 << 20];
+    assert_eq!(ask(&mut stream, &[b"SET", b"v", &value]), "+OK\r\n");
+    let held = store.held();
+    let asked = request(&[b"GET", b"v"]).repeat(2_000);
+    // Two GiB of replies are asked for, and none is read.
+    stream.set_write_timeout(Some(Duration::from_secs(1))).unwrap();
+    let _ = stream.write_all(&asked);
+    wait_until("the connection isn't closed", || {
+        assert!(store.held() < held + 16 * 1024, "{} KiB are held", store.held() - held);
+        store.is_well();
+        ask(&mut store.connect(), &[b"INFO"]).contains("connected_clients:1\r")
+    });
+    store.is_well();
+}
+
+/// The values of what it asks for are overwritten meanwhile: it holds one of them, and not the old ones of all.
+#[test]
+fn a_client_that_leaves_many_values_unread_holds_one() {
+    let store = Store::new(&[]);
+    let names: Vec<String> = (0..24).map(|at| format!("name:{at}")).collect();
+    let mut asked: Vec<&[u8]> = vec![b"MGET"];
+    asked.extend(names.iter().map(|it| it.as_bytes()));
+    let (mut unread, mut writer) = (Vec::new(), store.connect());
+    let mut held = 0;
+    for round in 0..8 {
+        let value = vec![b'a' + round; 1 << 20];
+        for name in &names {
+            assert_eq!(ask(&mut writer, &[b"SET", name.as_bytes(), &value]), "+OK\r\n");
+        }
+        held = if round == 0 { store.held() } else { held };
+        let mut stream = store.connect();
+        stream.write_all(&request(&asked)).unwrap();
+        // Its reply has begun.
+        stream.read_exact(&mut [0; 5]).unwrap();
+        unread.push(stream);
+    }
+    // Each has a value and what its connection buffers; a writer has what it sends.
+    assert!(store.held() < held + 48 * 1024, "{} KiB more are held", store.held() - held);
+    store.is_well();
+}
+
+/// Four hundred requests come in one piece, each of which looks at a thousand names and tells none, and one of another
+/// client that sets a mark: the server finds both at once, and how many of them are answered before the mark is set.
+#[test]
+fn many_long_requests_leave_others_their_turn() {
+    let store = Store::new(&["--threads", "1"]);
+    let (mut long, mut short) = (store.connect(), store.connect());
+    for at in 0..20 {
+        let sets = (at * 1_000..at * 1_000 + 1_000).map(|it| request(&[b"SET", format!("name:{it}").as_bytes(), b"v"]));
+        ask_all(&mut long, &sets.collect::<Vec<_>>());
+    }
+    for _ in 0..3 {
+        store.stand_still();
+        long.write_all(&b"SCAN 0 COUNT 1024 MATCH none\r\nEXISTS mark\r\n".repeat(400)).unwrap();
+        short.write_all(&request(&[b"SET", b"mark", b"1"])).unwrap();
+        store.signal("-CONT");
+        assert_eq!(answer(&mut short), "+OK\r\n");
+        let marks = BufReader::new(&long).lines().map(Result::unwrap).filter(|it| it.starts_with(':')).take(400);
+        let before = marks.filter(|it| it == ":0").count();
+        assert!(before < 200, "{before} of 400 are done first");
+        assert_eq!(ask(&mut short, &[b"DEL", b"mark"]), ":1\r\n");
+    }
+}
+
+/// Whether another client of the same thread is answered amid a transaction, which begins first. On a busy machine the
+/// transaction may be over before this program looks.
+fn is_answered_amid(long: &mut TcpStream, short: &mut TcpStream, store: &Store) -> bool {
+    let names: Vec<String> = (0..100).map(|at| format!("name:{at}")).collect();
+    let mget = request(&[&[&b"MGET"[..]], &names.iter().map(|it| it.as_bytes()).collect::<Vec<_>>()[..]].concat());
+    let queued = ask_all(long, &[vec![request(&[b"MULTI"])], vec![mget; 300]].concat());
+    assert_eq!(queued.iter().filter(|it| *it == "+QUEUED").count(), 300);
+    store.stand_still();
+    long.write_all(&request(&[b"EXEC"])).unwrap();
+    short.write_all(&request(&[b"GET", b"other"])).unwrap();
+    store.signal("-CONT");
+    assert_eq!(answer(short), "$-1\r\n");
+    long.set_nonblocking(true).unwrap();
+    let is_amid = long.peek(&mut [0]).is_err_and(|error| error.kind() == ErrorKind::WouldBlock);
+    long.set_nonblocking(false).unwrap();
+    let told = BufReader::new(&*long).lines().map(Result::unwrap).take(1 + 300 * 101);
+    assert_eq!(told.filter(|it| it == "$-1").count(), 300 * 100);
+    is_amid
+}
+
+#[test]
+fn a_long_transaction_leaves_others_their_turn() {
+    let store = Store::new(&["--threads", "1"]);
+    let (mut long, mut short) = (store.connect(), store.connect());
+    assert!((0..20).any(|_| is_answered_amid(&mut long, &mut short, &store)), "nobody is answered amid a transaction");
+}
+
+/// Whoever is sent away amid a transaction has done all of it.
+#[test]
+fn a_transaction_whose_client_is_sent_away_is_done_whole() {
+    let store = Store::new(&["--threads", "1"]);
+    let mut asks = store.connect();
+    let incrs = (0..20_000).map(|at| request(&[b"INCR", if at % 2 == 0 { b"a" } else { b"b" }]));
+    let queued = [vec![request(&[b"MULTI"])], incrs.collect()].concat();
+    for round in 1..=5 {
+        let mut goes = store.connect();
+        let id = ask(&mut goes, &[b"CLIENT", b"ID"]);
+        ask_all(&mut goes, &queued);
+        store.stand_still();
+        goes.write_all(&request(&[b"EXEC"])).unwrap();
+        asks.write_all(&request(&[b"CLIENT", b"KILL", b"ID", id[1..].trim_end().as_bytes()])).unwrap();
+        store.signal("-CONT");
+        assert_eq!(answer(&mut asks), ":1\r\n");
+        let all = (round * 10_000).to_string();
+        assert_eq!(ask(&mut asks, &[b"GET", b"a"]), format!("${}\r\n{all}\r\n", all.len()));
+        assert_eq!(ask(&mut asks, &[b"GET", b"b"]), format!("${}\r\n{all}\r\n", all.len()));
+    }
+}
+
+#[test]
+fn a_thousand_connections_are_served_and_the_next_is_refused_by_name() {
+    // Fewer where a shell has limited this program's own sockets for good.
+    let count = if rlimit::increase_nofile_limit(u64::MAX).unwrap() < 2_500 { 300 } else { 1_000 };
+    let store = Store::new(&["--keys", "10000", "--clients", &count.to_string()]);
+    let mut clients: Vec<TcpStream> = (0..count).map(|_| store.connect()).collect();
+    for (at, stream) in clients.iter_mut().enumerate() {
+        let name = format!("name:{at}");
+        assert_eq!(ask(stream, &[b"SET", name.as_bytes(), b"v", b"PX", b"600000"]), "+OK\r\n");
+    }
+    assert_eq!(ask(&mut clients[0], &[b"DBSIZE"]), format!(":{count}\r\n"));
+    assert_eq!(store.ends_with(b""), "-ERR max number of clients reached\r\n");
+    // Each extends a key of another.
+    for (at, stream) in clients.iter_mut().enumerate() {
+        let name = format!("name:{}", count - 1 - at);
+        assert_eq!(ask(stream, &[b"PEXPIRE", name.as_bytes(), b"700000", b"GT"]), ":1\r\n");
+    }
+    drop(clients);
+    wait_until("seats aren't given back", || store.ends_with(b"*1\r\n$4\r\nQUIT\r\n") == "+OK\r\n");
+    store.is_well();
+}
+
+/// More clients come at once than the server welcomes by then: none is left to ask again, which it does a second later.
+#[test]
+fn five_hundred_clients_come_at_once() {
+    let store = Store::new(&[]);
+    store.stand_still();
+    let address = store.address.parse().unwrap();
+    let connect =
+        |at| TcpStream::connect_timeout(&address, LONG).unwrap_or_else(|error| panic!("client {at}: {error}"));
+    let mut clients: Vec<TcpStream> = (0..500).map(connect).collect();
+    store.signal("-CONT");
+    clients.iter_mut().for_each(|it| assert_eq!(ask(it, &[b"PING"]), "+PONG\r\n"));
+}
+
+/// Its host may vanish without a word, and its seat would be taken for ever: the machine asks every silent client.
+#[test]
+fn a_silent_client_is_asked_whether_it_is_there() {
+    for (options, most) in [(&[][..], 300), (&["--keepalive", "20"], 20)] {
+        let store = Store::new(options);
+        let mut stream = store.connect();
+        assert_eq!(ask(&mut stream, &[b"PING"]), "+PONG\r\n");
+        let port = |address: std::net::SocketAddr| format!(":{:04X}", address.port());
+        let (own, its) = (port(store.address.parse().unwrap()), port(stream.local_addr().unwrap()));
+        wait_until("its socket has no timer that asks", || {
+            let sockets = std::fs::read_to_string("/proc/net/tcp").unwrap();
+            let sockets = sockets.lines().map(|line| line.split_whitespace().collect::<Vec<_>>());
+            let mut timers =
+                sockets.filter(|it| it[1].ends_with(&own) && it[2].ends_with(&its)).map(|it| it[5].to_string());
+            // The second kind of timer, and the hundredths of a second until it fires.
+            timers.any(|it| it.strip_prefix("02:").is_some_and(|it| u32::from_str_radix(it, 16).unwrap() <= most * 100))
+        });
+    }
+}
+
+#[test]
+fn the_soft_limit_of_open_files_is_raised() {
+    let store = Store::with_files("-Sn 100", &["--clients", "300"]);
+    let mut clients: Vec<TcpStream> = (0..300).map(|_| store.connect()).collect();
+    clients.iter_mut().for_each(|it| assert_eq!(ask(it, &[b"PING"]), "+PONG\r\n"));
+    assert!(store.first.ends_with("every key\n"), "{}", store.first);
+}
+
+#[test]
+fn fewer_clients_are_served_where_files_are_lacking() {
+    let store = Store::with_files("-n 200", &[]);
+    assert!(store.first.ends_with("; 136 clients in place of 1000, for lack of open files\n"), "{}", store.first);
+    let mut clients: Vec<TcpStream> = (0..136).map(|_| store.connect()).collect();
+    clients.iter_mut().for_each(|it| assert_eq!(ask(it, &[b"PING"]), "+PONG\r\n"));
+    assert_eq!(store.ends_with(b""), "-ERR max number of clients reached\r\n");
+}
+
+/// It takes the room of all deadlines as it starts, so that none is refused memory later.
+#[test]
+fn a_start_without_memory_for_the_deadlines_is_refused_by_name() {
+    let start = "ulimit -v 150000 && exec \"$0\" --port 0 --keys 4000000";
+    let started = Command::new("sh").args(["-c", start, env!("CARGO_BIN_EXE_store")]).output().unwrap();
+    assert_eq!(String::from_utf8_lossy(&started.stderr), "store: the deadlines of --keys 4000000: out of memory\n");
+    assert_eq!(started.status.code(), Some(1));
+}
+
+#[test]
+fn no_room_is_an_error_by_name_and_nothing_is_lost() {
+    let store = Store::new(&["--keys", "6400", "--memory", "64"]);
+    let mut stream = store.connect();
+    let mut refused = 0;
+    for at in 0..20_000 {
+        let name = format!("name:{at}");
+        match &ask(&mut stream, &[b"SET", name.as_bytes(), b"v", b"PX", b"600000"])[..] {
+            "+OK\r\n" => {}
+            "-OOM no room for another key that expires\r\n" => refused += 1,
+            other => panic!("{other}"),
+        }
+    }
+    assert_eq!(refused, 13_600);
+    assert_eq!(ask(&mut stream, &[b"DBSIZE"]), ":6400\r\n");
+    assert_eq!(ask(&mut stream, &[b"SET", b"without", b"v"]), "+OK\r\n");
+    assert_eq!(ask(&mut stream, &[b"PEXPIRE", b"without", b"1000"]), "-OOM no room for another key that expires\r\n");
+    assert_eq!(ask(&mut stream, &[b"TTL", b"without"]), ":-1\r\n");
+    // 48 MiB are for keys and values, in whatever shard they are: the value of a MiB that doesn't go in is the 47th.
+    let value = vec![b'v'; 1 << 20];
+    for at in 0..46 {
+        assert_eq!(ask(&mut stream, &[b"SET", format!("long:{at}").as_bytes(), &value]), "+OK\r\n", "{at}");
+    }
+    let told = "-OOM command not allowed when used memory > 'maxmemory'.\r\n";
+    assert_eq!(ask(&mut stream, &[b"SET", b"without", &value]), told);
+    assert_eq!(ask(&mut stream, &[b"GET", b"without"]), "$1\r\nv\r\n");
+    assert_eq!(ask(&mut stream, &[b"FLUSHALL"]), "+OK\r\n");
+    assert_eq!(ask(&mut stream, &[b"SET", b"again", b"v", b"PX", b"600000"]), "+OK\r\n");
+}
+
+/// What a browser sends where a page posts a form of text to this port.
+const POST: &str = "POST / HTTP/1.1\r\nHost: localhost:6400\r\nUser-Agent: Mozilla/5.0\r\nContent-Type: text/plain\r\n\
+                    Content-Length: 18\r\nOrigin: https://example.org\r\nConnection: keep-alive\r\n\r\n\
+                    SET evil written\r\n";
+
+#[test]
+fn a_web_page_reads_and_writes_nothing() {
+    let store = Store::new(&[]);
+    let get = "GET / HTTP/1.1\r\nHost: localhost:6400\r\nAccept: */*\r\n\r\nSET evil written\r\n";
+    let words: &[&[u8]] = &[b"pOsT", b"SET evil written"];
+    for sent in [POST.as_bytes(), get.as_bytes(), b"PING\r\nhOsT: x\r\nSET evil written\r\n", &request(words)] {
+        assert_eq!(store.ends_with(sent), "", "{}", sent.escape_ascii());
+        assert_eq!(ask(&mut store.connect(), &[b"GET", b"evil"]), "$-1\r\n");
+    }
+    store.is_well();
+    let (_, warned) = store.ends();
+    assert!(warned.contains("127.0.0.1:") && warned.contains("sent POST or Host: as a command"), "{warned}");
+    assert!(warned.lines().count() <= 4, "each thread warns once a minute: {warned}");
+}
+
+/// What a store says that doesn't start.
+fn refusal(options: &[&str], password: Option<&str>) -> String {
+    let mut command = Command::new(env!("CARGO_BIN_EXE_store"));
+    command.args(["--port", "0"]).args(options).env_remove("STORE_PASSWORD");
+    let command = command.envs(password.map(|it| ("STORE_PASSWORD", it)));
+    let mut child = command.stdout(Stdio::null()).stderr(Stdio::piped()).spawn().unwrap();
+    let begun = Instant::now();
+    while child.try_wait().unwrap().is_none() && begun.elapsed() < LONG {
+        thread::sleep(Duration::from_millis(10));
+    }
+    // One that starts is killed, and has no code then.
+    let _ = child.kill();
+    let output = child.wait_with_output().unwrap();
+    assert_eq!(output.status.code(), Some(1), "{options:?}");
+    String::from_utf8(output.stderr).unwrap()
+}
+
+#[test]
+fn an_address_for_others_wants_a_password() {
+    let told = "store: 0.0.0.0 is for others too: a --password-file is wanted, or --protected-mode no";
+    assert!(refusal(&["--bind", "0.0.0.0"], None).starts_with(told));
+    assert!(refusal(&["--protected-mode", "yes", "--bind", "0.0.0.0"], None).starts_with(told));
+    assert!(refusal(&["--password-file", "/dev/null"], None).starts_with("store: /dev/null has no password"));
+    assert!(refusal(&[], Some("")).starts_with("store: STORE_PASSWORD is empty"));
+    for options in [["--protected-mode", "no"], ["--password-file", "README.md"]] {
+        let store = Store::by(Command::new(env!("CARGO_BIN_EXE_store")).args(["--bind", "0.0.0.0"]).args(options));
+        assert!(store.first.contains(" 0.0.0.0:"), "{}", store.first);
+        assert!(!ask(&mut store.connect(), &[b"PING"]).is_empty());
+    }
+}
+
+/// Where the process may hold little more than what is counted, this goes in whole: no hole is taken for too much.
+#[test]
+fn what_is_counted_goes_in_whole() {
+    assert!(refusal(&["--memory", "64", "--keys", "0", "--most", "103"], None).starts_with("store: --most is 105 MiB"));
+    let store = Store::new(&["--memory", "64", "--keys", "0", "--most", "105"]);
+    let (mut stream, value) = (store.connect(), [b'v'; 3_000]);
+    for at in 0.. {
+        let names = (at * 100..at * 100 + 100).map(|it| format!("name:{it}"));
+        let told = ask_all(&mut stream, &names.map(|it| request(&[b"SET", it.as_bytes(), &value])).collect::<Vec<_>>());
+        if let Some(told) = told.iter().find(|it| *it != "+OK") {
+            assert_eq!(told, "-OOM command not allowed when used memory > 'maxmemory'.");
+            break;
+        }
+    }
+    assert!(store.held() < 105 << 10);
+}
+
+#[test]
+fn nothing_is_done_before_the_password_is_told() {
+    let mut command = Command::new(env!("CARGO_BIN_EXE_store"));
+    let store = Store::by(command.env("STORE_PASSWORD", "secret"));
+    let mut stream = store.connect();
+    assert_eq!(ask(&mut stream, &[b"SET", b"a", b"1"]), "-NOAUTH Authentication required.\r\n");
+    assert!(ask(&mut stream, &[b"AUTH", b"secre"]).starts_with("-WRONGPASS"));
+    assert_eq!(ask(&mut stream, &[b"GET", b"a"]), "-NOAUTH Authentication required.\r\n");
+    // A stranger holds little.
+    let (many, long) = (request(&[&b"GET"[..]; 11]), request(&[b"AUTH", &[b'x'; 20_000]]));
+    assert_eq!(store.ends_with(&many), "-ERR Protocol error: unauthenticated multibulk length\r\n");
+    assert_eq!(store.ends_with(&long), "-ERR Protocol error: unauthenticated bulk length\r\n");
+    assert_eq!(ask(&mut stream, &[b"AUTH", b"secret"]), "+OK\r\n");
+    assert_eq!(ask(&mut stream, &[b"SET", b"a", &[b'v'; 20_000]]), "+OK\r\n");
+    assert_eq!(ask(&mut stream, &[&b"EXISTS"[..]; 20]), ":0\r\n");
+    let line = std::fs::read(format!("/proc/{}/cmdline", store.child.id())).unwrap();
+    assert!(!String::from_utf8_lossy(&line).contains("secret"));
+}
+
+/// Closes the silent after so many seconds, and nobody else. False where the machine was so slow that somebody who speaks
+/// was silent for as long.
+fn closes_the_silent(seconds: u64) -> bool {
+    let store = Store::new(&["--timeout", &seconds.to_string(), "--clients", "20"]);
+    let (timeout, mut busy) = (Duration::from_secs(seconds), store.connect());
+    let begun = Instant::now();
+    let mut silent: Vec<TcpStream> = (0..19).map(|_| store.connect()).collect();
+    // Half a request is silence too.
+    silent.iter_mut().for_each(|it| it.write_all(b"*1\r\n$4\r\nPI").unwrap());
+    assert_eq!(ask(&mut busy, &[b"PING"]), "+PONG\r\n");
+    let told = store.ends_with(b"");
+    if begun.elapsed() >= timeout {
+        return false;
+    }
+    assert_eq!(told, "-ERR max number of clients reached\r\n");
+    let (mut spoken, mut over) = (Instant::now(), None);
+    // Whoever asks is served on, for as long again.
+    while over.map_or(true, |over: Instant| over.elapsed() < timeout) {
+        assert!(begun.elapsed() < LONG, "they are never closed");
+        busy.write_all(&request(&[b"INFO"])).unwrap();
+        let told = answer(&mut busy);
+        if spoken.elapsed() >= timeout {
+            return false;
+        }
+        spoken = Instant::now();
+        assert!(told.contains("connected_clients:"), "whoever asks is served on: {told}");
+        if over.is_none() && !told.contains("connected_clients:20\r") {
+            assert!(begun.elapsed() >= timeout, "they are closed before their time");
+            over = Some(Instant::now());
+        }
+        thread::sleep(Duration::from_millis(50));
+    }
+    silent.iter_mut().for_each(|it| assert_eq!(it.read(&mut [0; 1]).unwrap(), 0, "it is told nothing"));
+    store.is_well();
+    true
+}
+
+#[test]
+fn a_silent_connection_is_closed_after_the_timeout() {
+    assert!([2, 4, 8, 16, 32].into_iter().any(closes_the_silent), "the machine is too slow for this test");
+}
+
+/// A value of two MiB, which is sent whole before anything is read.
+#[test]
+fn whoever_is_sent_away_is_closed_by_the_thread_that_serves_it() {
+    let store = Store::new(&["--threads", "3"]);
+    let (mut asks, mut others) = (store.connect(), (0..9).map(|_| store.connect()).collect::<Vec<_>>());
+    let ids: Vec<String> = others.iter_mut().map(|it| ask(it, &[b"CLIENT", b"ID"])).collect();
+    // One of them has sent half a request, and one leaves its reply unread.
+    others[0].write_all(b"*2\r\n$3\r\nGET\r\n").unwrap();
+    others[1].write_all(&request(&[b"PING"])).unwrap();
+    assert_eq!(ask(&mut asks, &[b"CLIENT", b"KILL", b"ADDR", b"1.2.3.4:5"]), ":0\r\n");
+    for (other, id) in others.iter_mut().zip(&ids).take(4) {
+        let id = id.trim_start_matches(':').trim_end();
+        assert_eq!(ask(&mut asks, &[b"CLIENT", b"KILL", b"ID", id.as_bytes()]), ":1\r\n");
+        let mut rest = Vec::new();
+        // It ends, with what was answered before.
+        let _ = other.read_to_end(&mut rest);
+        assert!(rest.is_empty() || rest == b"+PONG\r\n", "{rest:?}");
+    }
+    assert_eq!(ask(&mut others[5], &[b"PING"]), "+PONG\r\n");
+    assert_eq!(ask(&mut asks, &[b"CLIENT", b"KILL", b"TYPE", b"normal"]), ":5\r\n");
+    // Whoever sends itself away is answered.
+    assert_eq!(ask(&mut asks, &[b"CLIENT", b"KILL", b"SKIPME", b"no"]), ":1\r\n");
+    assert_eq!(asks.read(&mut [0]).unwrap(), 0);
+    store.is_well();
+}
+
+/// Whether whoever sends too much reads why. Where it isn't heard for as long as it sends it may not come to that.
+fn is_told_why(store: &Store, whole: &[u8]) -> bool {
+    let (mut stream, begun) = (store.connect(), Instant::now());
+    let is_sent = stream.write_all(whole).is_ok();
+    let mut told = String::new();
+    let is_ended = stream.read_to_string(&mut told).is_ok();
+    if begun.elapsed() >= HEARD {
+        return false;
+    }
+    assert!(is_sent && is_ended, "it is cut off");
+    assert_eq!(told, "-ERR Protocol error: invalid bulk length\r\n", "and nothing more is said");
+    true
+}
+
+/// How long it is heard after the last answer.
+const HEARD: Duration = Duration::from_secs(3);
+
+#[test]
+fn whoever_sends_too_much_reads_why() {
+    let store = Store::new(&["--threads", "1"]);
+    let whole = request(&[b"SET", b"v", &[b'v'; 2 << 20]]);
+    assert_eq!((0..100).filter(|_| is_told_why(&store, &whole)).take(20).count(), 20, "the machine is too slow");
+    // Whoever sends for ever isn't heard for ever, and holds nothing.
+    let (mut stream, held, begun) = (store.connect(), store.held(), Instant::now());
+    while stream.write_all(&whole).is_ok() {
+        assert!(begun.elapsed() < LONG, "it is heard for ever");
+        assert!(store.held() < held + (4 << 10), "{} KiB are held", store.held());
+        store.is_well();
+    }
+    // And whoever sends nothing more and doesn't close.
+    let mut stream = store.connect();
+    stream.write_all(b"*x\r\n").unwrap();
+    wait_until("its seat isn't given back", || {
+        !ask(&mut store.connect(), &[b"INFO"]).contains("connected_clients:2\r")
+    });
+}
+
+/// The hello of a TLS client, in which a line of its choice may stand, as in the ticket of a session.
+#[test]
+fn a_line_with_a_zero_byte_ends_its_connection() {
+    let store = Store::new(&[]);
+    let told = "-ERR Protocol error: a zero byte in a line\r\n";
+    let hello = b"\x16\x03\x01\x02\0\x01\0\x01\xfc\x03\x03ticket\nSET evil written\n\0\0\n";
+    for sent in [&hello[..], b"SET evil\0 written\r\nSET evil written\r\n", b"\0", b"PING\0\n", b"*1\0\r\n"] {
+        assert_eq!(store.ends_with(sent), told, "{}", sent.escape_ascii());
+        assert_eq!(ask(&mut store.connect(), &[b"GET", b"evil"]), "$-1\r\n");
+    }
+    assert_eq!(ask(&mut store.connect(), &[b"ECHO", b"a\0b"]), "$3\r\na\0b\r\n");
+}
+
+/// How much more than its `--memory` a process may hold: the program, its threads, and what the allocator keeps for
+/// itself.
+const MARGIN: u64 = 24 << 10;
+
+#[test]
+fn half_commands_hold_no_more_than_the_memory_that_was_given() {
+    let store = Store::new(&["--memory", "64", "--keys", "10000"]);
+    let mut whole = request(&[b"SET", &[b'k'; 1_000_000], &[b'v'; 1_000_000]]);
+    let rest = whole.split_off(whole.len() - 1_000);
+    let mut honest = store.connect();
+    let mut halves: Vec<TcpStream> = (0..200).map(|_| store.connect()).collect();
+    for stream in &mut halves {
+        // One that is refused is closed while it sends.
+        let _ = stream.write_all(&whole);
+        assert_eq!(ask(&mut honest, &[b"SET", b"small", b"value", b"PX", b"60000"]), "+OK\r\n");
+        assert!(store.held() < (64 << 10) + MARGIN, "{} KiB are held", store.held());
+    }
+    let (mut kept, mut refused) = (0, 0);
+    for mut stream in halves {
+        let _ = stream.write_all(&rest);
+        let mut told = String::new();
+        let _ = BufReader::new(stream).read_line(&mut told);
+        match &told[..] {
+            "+OK\r\n" => kept += 1,
+            "-OOM the memory for connections is used up\r\n" => refused += 1,
+            other => panic!("{other:?}"),
+        }
+    }
+    assert!(kept >= 4 && refused >= 180 && kept + refused == 200, "{kept} were kept and {refused} refused");
+    // What they held is given back.
+    assert_eq!(ask(&mut honest, &[b"SET", b"large", &[b'v'; 500_000]]), "+OK\r\n");
+    assert_eq!(ask(&mut honest, &[b"GET", b"large"]).len(), 500_011);
+    store.is_well();
+}
+
+/// Values of one size after another, of which each twentieth stays, so that what goes leaves holes too small for the next.
+#[test]
+fn values_whose_sizes_change_hold_no_more_than_the_process_may() {
+    let store = Store::new(&["--memory", "64", "--keys", "10000", "--most", "106"]);
+    let (mut stream, mut refused) = (store.connect(), 0);
+    for size in [100, 400, 1_600, 6_400, 25_600, 102_400, 409_600] {
+        let (at_once, value, mut set) = ((400_000 / size).clamp(1, 500), vec![b'v'; size], 0);
+        let told = loop {
+            let names = (set..set + at_once).map(|at| format!("{size}:{at}"));
+            let told =
+                ask_all(&mut stream, &names.map(|it| request(&[b"SET", it.as_bytes(), &value])).collect::<Vec<_>>());
+            assert!(store.held() < 106 << 10, "{} KiB are held", store.held());
+            set += told.iter().filter(|it| *it == "+OK").count();
+            if let Some(told) = told.into_iter().find(|it| it != "+OK") {
+                break told;
+            }
+        };
+        refused += usize::from(told == "-OOM the process holds as much memory as it may");
+        let gone: Vec<_> = (0..set).filter(|at| at % 20 > 0).map(|at| format!("{size}:{at}")).collect();
+        for names in gone.chunks(500) {
+            ask_all(&mut stream, &names.iter().map(|it| request(&[b"DEL", it.as_bytes()])).collect::<Vec<_>>());
+        }
+    }
+    assert!(refused > 0, "the holes aren't as large as the test wants them");
+    assert_eq!(ask(&mut stream, &[b"FLUSHALL"]), "+OK\r\n");
+    store.is_well();
+}
+
+#[test]
+fn unread_values_hold_no_more_than_the_memory_that_was_given() {
+    let store = Store::new(&["--memory", "64", "--keys", "10000"]);
+    let (mut writer, mut unread) = (store.connect(), Vec::new());
+    // Where they weren't counted they would be twice what was given.
+    for round in 0..190 {
+        // Each waits for a value of its own, which nobody else has any more.
+        assert_eq!(ask(&mut writer, &[b"SET", b"v", &[b'a' + round % 26; 700_000]]), "+OK\r\n");
+        let mut stream = store.connect();
+        let _ = stream.write_all(&request(&[b"GET", b"v"]).repeat(20));
+        let _ = stream.read_exact(&mut [0; 5]);
+        unread.push(stream);
+        assert!(store.held() < (64 << 10) + MARGIN, "{} KiB are held", store.held());
+    }
+    drop(unread);
+    store.is_well();
+}
+
+/// A transaction holds all the values that it asks for, which are overwritten meanwhile: whoever leaves them unread is
+/// closed where they are too many.
+#[test]
+fn unread_transactions_hold_no_more_than_the_memory_that_was_given() {
+    let store = Store::new(&["--memory", "64", "--keys", "10000", "--threads", "1"]);
+    let names: Vec<String> = (0..24).map(|at| format!("name:{at}")).collect();
+    let gets = names.iter().map(|it| request(&[b"GET", it.as_bytes()]));
+    let asked = [vec![request(&[b"MULTI"])], gets.collect(), vec![request(&[b"EXEC"])]].concat().concat();
+    let (mut unread, mut writer) = (Vec::new(), store.connect());
+    for round in 0..8 {
+        for name in &names {
+            assert_eq!(ask(&mut writer, &[b"SET", name.as_bytes(), &vec![b'a' + round; 1 << 20]]), "+OK\r\n");
+        }
+        let mut stream = store.connect();
+        stream.write_all(&asked).unwrap();
+        // What is queued is told, and then the values begin.
+        let _ = stream.read_exact(&mut [0; 5 + 24 * 9 + 5]);
+        unread.push(stream);
+        assert!(store.held() < (64 << 10) + MARGIN, "{} KiB are held", store.held());
+    }
+    drop(unread);
+    store.is_well();
+}
+
+/// Replies that are too short to be held as values, of which each request of a piece has one.
+#[test]
+fn many_short_replies_are_held_a_few_at_a_time() {
+    let store = Store::new(&["--threads", "1"]);
+    assert_eq!(ask(&mut store.connect(), &[b"SET", b"v", &[b'v'; 15_000]]), "+OK\r\n");
+    let (held, mut unread) = (store.held(), Vec::new());
+    for _ in 0..10 {
+        let mut stream = store.connect();
+        // Nine MB of replies: more than a socket takes.
+        stream.write_all(&request(&[b"GET", b"v"]).repeat(600)).unwrap();
+        stream.read_exact(&mut [0; 5]).unwrap();
+        unread.push(stream);
+        store.is_well();
+    }
+    assert!(store.held() < held + 16 * 1024, "{} KiB are held", store.held() - held);
+    // They come as soon as they are read.
+    for mut stream in unread {
+        let mut rest = vec![0; 600 * 15_010 - 5];
+        stream.read_exact(&mut rest).unwrap();
+        assert!(rest.ends_with(b"v\r\n"));
+    }
+}
+
+#[test]
+fn where_the_memory_of_connections_is_used_up_the_next_is_refused_by_name() {
+    let store = Store::new(&["--memory", "1", "--keys", "100"]);
+    let mut clients: Vec<TcpStream> = (0..100).map(|_| store.connect()).collect();
+    clients.iter_mut().for_each(|it| assert_eq!(ask(it, &[b"PING"]), "+PONG\r\n"));
+    // A quarter of a MiB has room for less than 128 of 2 KiB.
+    let mut more: Vec<TcpStream> = (0..60).map(|_| store.connect()).collect();
+    let refused = more.iter_mut().filter_map(|it| {
+        // One that is refused is closed, and may be so before it asks.
+        let _ = it.write_all(&request(&[b"PING"]));
+        Some(answer(it)).filter(|told| told != "+PONG\r\n")
+    });
+    let refused: Vec<_> = refused.collect();
+    assert!(!refused.is_empty(), "all are served");
+    assert!(refused.iter().all(|it| it == "-OOM the memory for connections is used up\r\n"), "{refused:?}");
+    clients.iter_mut().for_each(|it| assert_eq!(ask(it, &[b"PING"]), "+PONG\r\n"));
+}
+
+/// How long the end waits for clients to take what they asked for.
+const LAST_WAIT: Duration = Duration::from_secs(2);
+
+/// Whether all of some MB came that were asked for before the end, of which most wait in the server then. Where its last
+/// wait was over they may not.
+fn ends_in_order(threads: &str, count: usize, is_late: bool) -> bool {
+    let store = Store::new(&["--threads", threads]);
+    let (mut busy, mut idle) = (store.connect(), store.connect());
+    assert_eq!(ask(&mut idle, &[b"PING"]), "+PONG\r\n");
+    assert_eq!(ask(&mut busy, &[b"SET", b"v", &[b'v'; 100_000]]), "+OK\r\n");
+    busy.write_all(&request(&[b"GET", b"v"]).repeat(count)).unwrap();
+    busy.read_exact(&mut [0; 8]).unwrap();
+    let (address, begun) = (store.address.clone(), Instant::now());
+    let reader = thread::spawn(move || {
+        if is_late {
+            // The server was told to end then, and has looked at each connection: it has closed the other.
+            assert_eq!(idle.read(&mut [0; 1]).unwrap(), 0, "its connection is closed");
+        }
+        let mut rest = Vec::new();
+        // A connection that is closed too early may tell an error.
+        let _ = busy.read_to_end(&mut rest);
+        (8 + rest.len(), idle)
+    });
+    let (said, warned) = store.ends();
+    let (got, mut idle) = reader.join().unwrap();
+    if begun.elapsed() >= LAST_WAIT && got < count * 100_011 {
+        return false;
+    }
+    assert_eq!(got, count * 100_011);
+    assert!(said.contains("0 connections are left") && warned.is_empty(), "{said}{warned}");
+    assert!(is_late || idle.read(&mut [0; 1]).unwrap() == 0, "its connection is closed");
+    assert!(TcpStream::connect(address).is_err());
+    true
+}
+
+/// Two MB that the socket doesn't take at once: they are taken while the server ends.
+#[test]
+fn the_end_comes_in_order() {
+    assert!((0..20).any(|_| ends_in_order("2", 20, false)), "the machine is too slow for this test");
+}
+
+/// Twelve MB are asked for and none is read until the server ends, so most of them wait in it then.
+#[test]
+fn what_was_asked_for_is_sent_at_the_end() {
+    assert!((0..20).any(|_| ends_in_order("1", 120, true)), "the machine is too slow for this test");
+}
