@@ -141,8 +141,7 @@ impl Owner<'_> {
     /// until its term is over.
     async fn enter(&mut self) -> Result<(), Error> {
         let (worker, until) = (self.worker, Instant::now() + TERM + 2 * STATEMENT);
-        let params: [Param<'_>; 4] =
-            [&worker.number, &worker.options.name, &worker.address, &TERM.as_secs_f64()];
+        let params: [Param<'_>; 4] = [&worker.number, &worker.options.name, &worker.address, &TERM.as_secs_f64()];
         loop {
             match self.session.query(sql::ENTER, &params).await?.remove(0).get::<_, Option<String>>(0) {
                 None => return Ok(()),

@@ -50,12 +50,12 @@ def follow(address, *words):
 
 
 def many_kinds(it):
-    """Three workers and 400 kinds: a holder that asks one worker has each kind."""
+    """Three workers and 1,000 kinds: a holder that asks one worker for one of these has it, while the others wait."""
     empty(it)
     workers, addresses = zip(*[serving(it) for _ in range(3)])
     it.wait_for_owners(3)
-    it.sql("INSERT INTO jobs (kind) SELECT 'k' || i FROM generate_series(1, 400) i")
-    kinds, moved = [f"k{number}" for number in range(1, 401)], 0
+    it.sql("INSERT INTO jobs (kind) SELECT 'k' || i FROM generate_series(1, 1000) i")
+    kinds, moved = [f"k{number}" for number in range(1, 1000, 25)], 0
 
     def all_given():
         """each kind is given"""
@@ -69,7 +69,7 @@ def many_kinds(it):
 
     wait_for(all_given)
     end(*workers)
-    print(f"rules: a holder that asked one of three workers had each of 400 kinds, sent on {moved} times", flush=True)
+    print(f"rules: a holder that asked one of three workers had each of 40 of 1,000 kinds, sent on {moved} times", flush=True)
 
 
 def silent(it):

@@ -9,8 +9,7 @@ use std::time::{Duration, Instant};
 use tokio_postgres::error::SqlState;
 
 /// What changes the tables of the version before into those of each version.
-const VERSIONS: [&str; 3] =
-    [include_str!("schema/1.sql"), include_str!("schema/2.sql"), include_str!("schema/3.sql")];
+const VERSIONS: [&str; 3] = [include_str!("schema/1.sql"), include_str!("schema/2.sql"), include_str!("schema/3.sql")];
 /// The least version of PostgreSQL that has all that the statements want.
 const LEAST: u32 = 14;
 /// How many partitions there are where nobody says another number: it stands for it in the steps.

@@ -159,9 +159,8 @@ impl Ready {
 impl State {
     /// The job that is given out first.
     fn first(&self, kinds: &[String]) -> Option<(Arc<str>, Place)> {
-        let is_wanted = |kind: &str| {
-            !self.closed.contains(kind) && (kinds.is_empty() || kinds.iter().any(|it| it[..] == *kind))
-        };
+        let is_wanted =
+            |kind: &str| !self.closed.contains(kind) && (kinds.is_empty() || kinds.iter().any(|it| it[..] == *kind));
         let wanted = self.jobs.iter().filter(|it| is_wanted(it.0));
         let (kind, place) =
             wanted.filter_map(|(kind, places)| Some((kind, places.iter().next()?))).min_by_key(|it| it.1)?;

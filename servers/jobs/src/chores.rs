@@ -102,11 +102,7 @@ async fn one_by_one(worker: &Worker, left: &[String], bad: &mut HashMap<String, 
     Ok(rows.len())
 }
 
-async fn enqueue_of(
-    worker: &Worker,
-    left: &[String],
-    name: Option<&str>,
-) -> Option<Result<Vec<Row>, (Whose, Error)>> {
+async fn enqueue_of(worker: &Worker, left: &[String], name: Option<&str>) -> Option<Result<Vec<Row>, (Whose, Error)>> {
     worker.links.insist_on_rows(ENQUEUE, &[&left, &name, &SCHEDULES], Asked::Schedules).await
 }
 
