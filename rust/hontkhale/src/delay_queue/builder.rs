@@ -115,9 +115,7 @@ impl<T> Builder<T> {
             let weak = Arc::downgrade(&front);
             clock.wakes(move || weak.upgrade().map(|front| front.wake_all()).is_some());
         }
-        DelayQueue {
-            shared: Arc::new(Shared::new(front, self.limits)),
-        }
+        DelayQueue::of(&Arc::new(Shared::new(front, self.limits)))
     }
 }
 

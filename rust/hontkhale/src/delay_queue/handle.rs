@@ -4,12 +4,11 @@ use crate::delay_queue::callers::{Front, Told};
 use crate::delay_queue::errors::KeyError;
 use crate::delay_queue::key::Key;
 use crate::delay_queue::shared::{quick_step, Shared, Step, Steps};
-use crate::delay_queue::DelayQueue;
 use std::fmt;
 use std::sync::{Arc, Weak};
 use std::time::{Duration, Instant};
 
-/// Extends and cancels entries of a [`DelayQueue`], and tells their deadlines, without its type and without a lifetime.
+/// Extends and cancels entries of a [`DelayQueue`](crate::DelayQueue), and tells their deadlines, without its type and without a lifetime.
 ///
 /// It may be cloned and sent to any thread, and doesn't keep its queue: once that was dropped, each call returns
 /// [`Closed`](KeyError::Closed).
@@ -36,6 +35,9 @@ impl Handle {
         let mut told = quick_step(&self.front, key, step);
         if told == Told::NOT_YET {
             told = self.queue.upgrade().ok_or(KeyError::Closed)?.slow_step(key, step);
+        }
+        if matches!(step, Step::Cancel) && told.is_deadline() && self.front.count_cancel() {
+            self.queue.upgrade().into_iter().for_each(|queue| queue.note_end());
         }
         told.result()
     }
@@ -108,7 +110,7 @@ impl fmt::Debug for Handle {
     }
 }
 
-/// An entry that is taken out where this is dropped, with its value, as [`DelayQueue::guard`] makes it: the deadline of a
+/// An entry that is taken out where this is dropped, with its value, as [`DelayQueue::guard`](crate::DelayQueue::guard) makes it: the deadline of a
 /// request, of a connection, of a lease. Within the drop of another value of the same queue the value is dropped after that.
 ///
 /// ```
@@ -125,14 +127,14 @@ impl fmt::Debug for Handle {
 /// ```
 #[must_use = "the entry is taken out where this is dropped"]
 pub struct Timeout<T> {
-    queue: Option<DelayQueue<T>>,
+    shared: Option<Arc<Shared<T>>>,
     key: Key,
 }
 
 impl<T> Timeout<T> {
-    pub(crate) fn new(queue: DelayQueue<T>, key: Key) -> Timeout<T> {
+    pub(crate) fn new(shared: &Arc<Shared<T>>, key: Key) -> Timeout<T> {
         Timeout {
-            queue: Some(queue),
+            shared: Some(Arc::clone(shared)),
             key,
         }
     }
@@ -150,20 +152,20 @@ impl<T> Timeout<T> {
     /// - `Ended` if the value came out already.
     /// - `NoMemory` if the call has to take memory, as a thread's first call for a shard does, and memory is refused.
     pub fn extend(&self, after: Duration) -> Result<Instant, KeyError> {
-        match &self.queue {
-            Some(queue) => queue.extend(&self.key, after),
+        match &self.shared {
+            Some(shared) => shared.extend(&self.key, after),
             None => Err(KeyError::Ended),
         }
     }
 
     /// Takes the value back, none where it came out already.
     pub fn cancel(mut self) -> Option<T> {
-        self.queue.take()?.remove(&self.key).ok()
+        self.shared.take()?.remove(&self.key).ok()
     }
 
     /// Leaves the entry in the queue, and returns its key.
     pub fn forget(mut self) -> Key {
-        self.queue = None;
+        self.shared = None;
         self.key
     }
 }
@@ -171,9 +173,9 @@ impl<T> Timeout<T> {
 impl<T> Drop for Timeout<T> {
     fn drop(&mut self) {
         // The value is dropped here: what it holds, such as a socket, is wanted no longer.
-        if let Some(queue) = &self.queue {
-            let removed = queue.remove(&self.key);
-            let _ = removed.map(|value| queue.shared.let_go.drop_value(value));
+        if let Some(shared) = &self.shared {
+            let removed = shared.remove(&self.key);
+            let _ = removed.map(|value| shared.let_go.drop_value(value));
         }
     }
 }
