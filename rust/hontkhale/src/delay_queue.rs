@@ -203,6 +203,20 @@ impl<T> DelayQueue<T> {
         Ok(Timeout::new(&self.shared, key))
     }
 
+    /// Puts a value in, to come out at `when`, or at once if that is over, and returns a guard, as
+    /// [`guard`](DelayQueue::guard) does. It reads no clock.
+    ///
+    /// # Errors
+    /// The value comes back. In this order:
+    /// - `TooFar` if the deadline is more than 139 years after the queue was made.
+    /// - `Closed` if the queue was closed.
+    /// - `Full` if as many entries wait as the queue may have.
+    /// - `NoMemory` if the queue has to grow and memory is refused.
+    pub fn guard_at(&self, value: T, when: Instant) -> Result<Timeout<T>, InsertError<T>> {
+        let key = self.insert_at(value, when)?;
+        Ok(Timeout::new(&self.shared, key))
+    }
+
     /// Gives an entry the deadline `after` from now, sooner or later than the one that it has. It returns the entry's key,
     /// which is equal to the old one; the old one serves as well, but an [`extend`](DelayQueue::extend) by it takes a lock.
     /// It reads the clock, and takes the lock of the entry's shard for constant time.

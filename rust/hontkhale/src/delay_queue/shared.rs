@@ -20,6 +20,7 @@ use crate::lasting::{Kept, LastingConfig, Moved, NextDeadline, NumberedCaller};
 use crate::memory::room_for;
 use crate::ticks::LAST_TICK;
 use crate::ticks::{self, EntryId, CAPACITY_LIMIT};
+use std::any::Any;
 use std::mem;
 use std::sync::atomic::{
     fence, AtomicU64, AtomicUsize,
@@ -47,6 +48,8 @@ const MOVED_AT_ONCE: usize = 16;
 #[derive(Clone, Debug)]
 pub(crate) struct Limits {
     pub shards: usize,
+    /// Over how many of them the threads' inserts are spread.
+    pub spread: usize,
     pub max_entries: usize,
     pub last_stamp: u32,
 }
@@ -110,15 +113,24 @@ pub(crate) trait Steps: Send + Sync {
 
     /// Has those told who wait until the queue is empty, where it is.
     fn note_end(&self);
+
+    /// Puts the value of an entry that it takes out into a place, an `Option` of the queue's type.
+    fn take(&self, key: &Key, place: &mut dyn Any) -> Result<(), KeyError>;
 }
 
-impl<T: Send> Steps for Shared<T> {
+impl<T: Send + 'static> Steps for Shared<T> {
     fn slow_step(&self, key: &Key, step: Step) -> Told {
         self.step_slowly(key, step)
     }
 
     fn note_end(&self) {
         Shared::note_end(self);
+    }
+
+    fn take(&self, key: &Key, place: &mut dyn Any) -> Result<(), KeyError> {
+        let place = place.downcast_mut::<Option<T>>().ok_or(KeyError::WrongQueue)?;
+        *place = Some(self.remove(key)?);
+        Ok(())
     }
 }
 
@@ -318,7 +330,7 @@ impl<T> Shared<T> {
         let mut value = value;
         let route = route();
         for (at, segment) in self.segments() {
-            let place = route % segment.rows.len();
+            let place = route % segment.rows.len().min(self.limits.spread);
             if segment.rows[place].has_room() {
                 match self.insert_noted(at, segment, place, value, tick) {
                     Ok(key) => return Ok(key),
