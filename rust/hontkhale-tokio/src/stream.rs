@@ -1,7 +1,7 @@
 use crate::budget::Streak;
 use crate::timer::Timer;
 use futures_core::{ready, Stream};
-use hontkhale::delay_queue::{AsyncReceiver, Builder, Expired};
+use hontkhale::delay_queue::{Builder, Expired, Receiver};
 use hontkhale::DelayQueue;
 use std::fmt;
 use std::future::poll_fn;
@@ -58,7 +58,7 @@ pub fn builder<T>() -> Builder<T> {
 /// It is woken by tokio's timer, and by an insert or a reset that comes sooner, from any thread; an extend or a cancel wakes
 /// nobody. An entry is taken out as it is given, once: a stream, or a `next()` in a `select!`, that is dropped leaves all others
 /// in the queue. Any number of streams and of threads may receive from one queue. It gives none once the queue is
-/// [closed](DelayQueue::close) and nothing is due.
+/// [closed](DelayQueue::close) and nothing is due, or every clone of the queue is dropped and nothing waits.
 ///
 /// After 128 entries in a row, with no pending poll between them, a poll is pending and wakes its task at once, so that other
 /// tasks have their turn.
@@ -67,7 +67,7 @@ pub fn builder<T>() -> Builder<T> {
 /// drop may call the queue, and one that panics is lost alone. Wakers are called, cloned and dropped so, too.
 #[must_use = "a stream does nothing until it is polled"]
 pub struct QueueStream<T> {
-    receiver: AsyncReceiver<T>,
+    receiver: Receiver<T>,
     timer: Timer,
     /// The task that polled last, in whose runtime the timer is.
     task: Option<Waker>,
@@ -84,7 +84,7 @@ impl<T> QueueStream<T> {
     }
 
     /// The queue that it receives from.
-    pub fn queue(&self) -> &DelayQueue<T> {
+    pub fn queue(&self) -> DelayQueue<T> {
         self.receiver.queue()
     }
 

@@ -16,12 +16,10 @@ fn main() -> Result<(), Box<dyn Error>> {
         .join()
         .unwrap()?;
 
-    // Any number of threads may run this loop.
-    while let Some(expired) = queue.recv() {
+    // No more sessions come: the loop ends with the last one. Any number of threads may run it.
+    queue.close_when_empty();
+    for expired in &queue {
         println!("{} was idle", expired.value);
-        if queue.is_empty() {
-            queue.close();
-        }
     }
     Ok(())
 }

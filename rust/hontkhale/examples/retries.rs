@@ -16,12 +16,10 @@ fn main() -> Result<(), Box<dyn Error>> {
         .join()
         .unwrap()?;
 
-    // Any number of threads may run this loop. It ends once the queue is closed and nothing is due.
-    while let Some(job) = jobs.recv() {
+    // No more jobs come: the loop ends with the last one. Any number of threads may run it.
+    jobs.close_when_empty();
+    for job in &jobs {
         println!("{} is tried again", job.value);
-        if jobs.is_empty() {
-            jobs.close();
-        }
     }
     Ok(())
 }

@@ -4,33 +4,36 @@
 //! receivers are woken in time. The shards that it stands over are proved, as the crate's front page tells; what is here, by
 //! which threads share them, wait, and find their entries, is written by hand and tested.
 
-mod asynchronous;
 mod builder;
 mod callers;
 mod dropping;
+mod ends;
 mod errors;
 mod handle;
 mod key;
 mod moves;
 mod receive;
+mod receiver;
 mod segment;
 mod shared;
 mod stats;
 mod time;
 mod waking;
 
-pub use asynchronous::AsyncReceiver;
 pub use builder::Builder;
 pub use errors::{InsertError, InsertErrorKind, KeyError, RecvTimeoutError, TryRecvError};
 pub use handle::{Handle, Timeout};
 pub use key::Key;
 pub use receive::{Drain, Iter, TryIter};
+pub use receiver::Receiver;
 pub use stats::Stats;
 pub use time::ManualClock;
 
 use shared::{Shared, Step};
 use std::fmt;
+use std::panic::resume_unwind;
 use std::sync::Arc;
+use std::thread;
 use std::time::{Duration, Instant};
 use waking::NEVER;
 
@@ -93,8 +96,9 @@ use waking::NEVER;
 /// thread held at that moment stays held there, and a call hangs. `exec` is fine.
 ///
 /// # The end
-/// [`close`](DelayQueue::close) ends the receivers. The queue is dropped with its last clone; a [`Handle`] says
-/// [`Closed`](KeyError::Closed) then.
+/// [`close`](DelayQueue::close) ends the receivers, and [`close_when_empty`](DelayQueue::close_when_empty) does once nothing
+/// waits. The drop of the last clone does that too, for the [`Receiver`]s that are left. The queue is dropped with its last
+/// clone, receiver and [`Timeout`]; a [`Handle`] says [`Closed`](KeyError::Closed) then.
 pub struct DelayQueue<T> {
     shared: Arc<Shared<T>>,
 }
@@ -196,7 +200,21 @@ impl<T> DelayQueue<T> {
     /// ```
     pub fn guard(&self, value: T, after: Duration) -> Result<Timeout<T>, InsertError<T>> {
         let key = self.insert(value, after)?;
-        Ok(Timeout::new(self.clone(), key))
+        Ok(Timeout::new(&self.shared, key))
+    }
+
+    /// Puts a value in, to come out at `when`, or at once if that is over, and returns a guard, as
+    /// [`guard`](DelayQueue::guard) does. It reads no clock.
+    ///
+    /// # Errors
+    /// The value comes back. In this order:
+    /// - `TooFar` if the deadline is more than 139 years after the queue was made.
+    /// - `Closed` if the queue was closed.
+    /// - `Full` if as many entries wait as the queue may have.
+    /// - `NoMemory` if the queue has to grow and memory is refused.
+    pub fn guard_at(&self, value: T, when: Instant) -> Result<Timeout<T>, InsertError<T>> {
+        let key = self.insert_at(value, when)?;
+        Ok(Timeout::new(&self.shared, key))
     }
 
     /// Gives an entry the deadline `after` from now, sooner or later than the one that it has. It returns the entry's key,
@@ -253,7 +271,7 @@ impl<T> DelayQueue<T> {
     /// ```
     #[inline]
     pub fn extend(&self, key: &Key, after: Duration) -> Result<Instant, KeyError> {
-        self.step(key, Step::Extend(self.shared.front.time.tick_in(after)))
+        self.shared.extend(key, after)
     }
 
     /// Raises the deadline of an entry to `when`, and returns the deadline that is then in force: that one, or a later one
@@ -268,15 +286,7 @@ impl<T> DelayQueue<T> {
     /// - `NoMemory` if the call has to take memory, as a thread's first call for a shard does, and memory is refused.
     #[inline]
     pub fn extend_at(&self, key: &Key, when: Instant) -> Result<Instant, KeyError> {
-        let rounded = self.shared.front.time.rounded(when);
-        let deadline = self.shared.step(key, Step::Extend(rounded.0))?;
-        Ok(self.shared.front.time.moment_beside(deadline, rounded))
-    }
-
-    #[inline(always)]
-    fn step(&self, key: &Key, step: Step) -> Result<Instant, KeyError> {
-        let deadline = self.shared.step(key, step)?;
-        Ok(self.shared.front.time.moment(deadline))
+        self.shared.extend_at(key, when)
     }
 
     /// Cancels an entry, so that it won't come out, and returns the deadline that it gave up. Its value is dropped later: by
@@ -290,7 +300,7 @@ impl<T> DelayQueue<T> {
     /// - `Ended` if the entry came out, was removed, or was cancelled.
     /// - `NoMemory` if the call has to take memory, as a thread's first call for a shard does, and memory is refused.
     pub fn cancel(&self, key: &Key) -> Result<Instant, KeyError> {
-        self.step(key, Step::Cancel)
+        self.shared.step_to_moment(key, Step::Cancel)
     }
 
     /// Takes an entry out, and returns its value. It takes the lock of the entry's shard for constant time.
@@ -344,7 +354,7 @@ impl<T> DelayQueue<T> {
     /// - `Ended` if the entry came out, was removed, or was cancelled.
     /// - `NoMemory` if the call has to take memory, as a thread's first call for a shard does, and memory is refused.
     pub fn deadline(&self, key: &Key) -> Result<Instant, KeyError> {
-        self.step(key, Step::Look)
+        self.shared.step_to_moment(key, Step::Look)
     }
 
     /// Takes an entry out that is due, and waits until one is. It returns none once the queue is closed and nothing is due.
@@ -458,18 +468,18 @@ impl<T> DelayQueue<T> {
 
     /// What comes out, one entry after the other, until the queue is closed: each step is a [`recv`](DelayQueue::recv).
     pub fn iter(&self) -> Iter<'_, T> {
-        Iter::new(self)
+        Iter::new(&self.shared)
     }
 
     /// What is due now, one entry after the other: each step is a [`try_recv`](DelayQueue::try_recv).
     pub fn try_iter(&self) -> TryIter<'_, T> {
-        TryIter::new(self)
+        TryIter::new(&self.shared)
     }
 
-    /// What receives in a task: see [`AsyncReceiver`]. Under tokio the crate hontkhale-tokio makes a `Stream` of it, with a
-    /// timer.
-    pub fn receiver(&self) -> AsyncReceiver<T> {
-        AsyncReceiver::new(self)
+    /// What receives in the place of a clone, in a thread or a task, and ends once nothing is inserted any more and nothing
+    /// waits: see [`Receiver`].
+    pub fn receiver(&self) -> Receiver<T> {
+        Receiver::new(&self.shared)
     }
 
     /// The number of entries that wait, or are due and didn't come out yet.
@@ -567,13 +577,75 @@ impl<T> DelayQueue<T> {
 
     /// Closes the queue: from now on it takes no values, and its receivers get what is due and then none. What waits stays
     /// there, for [`drain`](DelayQueue::drain).
+    ///
+    /// # Panics
+    /// If a task's waker panics. All receivers are woken before.
     pub fn close(&self) {
         self.shared.front.close();
     }
 
-    /// Whether the queue is closed.
+    /// Closes the queue for inserts: from now on it takes no values. Its receivers get what waits as it comes due, and then none:
+    /// they end once nothing waits, be it received, removed or cancelled. An insert that another thread makes meanwhile is
+    /// refused, or its entry comes out too.
+    ///
+    /// # Panics
+    /// If a task's waker panics. All receivers are woken before.
+    ///
+    /// ```
+    /// use hontkhale::DelayQueue;
+    /// use std::time::Duration;
+    ///
+    /// let queue = DelayQueue::new();
+    /// queue.insert("late", Duration::from_millis(20))?;
+    /// queue.insert("early", Duration::from_millis(10))?;
+    /// queue.close_when_empty();
+    /// assert!(queue.insert("another", Duration::ZERO).is_err());
+    /// let values: Vec<_> = queue.iter().map(|expired| expired.value).collect();
+    /// assert_eq!(values, ["early", "late"]);
+    /// # Ok::<(), Box<dyn std::error::Error>>(())
+    /// ```
+    pub fn close_when_empty(&self) {
+        self.shared
+            .close_when_empty()
+            .unwrap_or_else(|panic| resume_unwind(panic));
+    }
+
+    /// Waits until no entry waits, at most for `timeout`, and returns whether that came: each came out, or was removed or
+    /// cancelled. It waits for ever where no clock reaches that moment, as with [`Duration::MAX`], and with a time of zero it
+    /// only looks. It takes the lock of each shard in turn.
+    ///
+    /// Others may insert again before it returns: after [`close_when_empty`](DelayQueue::close_when_empty) nobody does.
+    ///
+    /// ```
+    /// use hontkhale::DelayQueue;
+    /// use std::thread;
+    /// use std::time::Duration;
+    ///
+    /// let queue = DelayQueue::new();
+    /// let request = queue.insert("request 7", Duration::from_secs(60))?;
+    /// queue.close_when_empty();
+    /// assert!(!queue.wait_empty(Duration::from_millis(1)));
+    /// let handle = queue.handle();
+    /// let answers = thread::spawn(move || handle.cancel(&request));
+    /// assert!(queue.wait_empty(Duration::MAX));
+    /// # answers.join().unwrap()?;
+    /// # Ok::<(), Box<dyn std::error::Error>>(())
+    /// ```
+    pub fn wait_empty(&self, timeout: Duration) -> bool {
+        self.shared.wait_empty(timeout)
+    }
+
+    /// Whether inserts are refused, since the queue was closed, at once or for when it is empty.
     pub fn is_closed(&self) -> bool {
-        self.shared.front.bell.is_closed()
+        self.shared.front.ends.refuses()
+    }
+
+    /// One clone more, which may insert.
+    pub(crate) fn of(shared: &Arc<Shared<T>>) -> DelayQueue<T> {
+        shared.front.ends.add_inserter();
+        DelayQueue {
+            shared: Arc::clone(shared),
+        }
     }
 }
 
@@ -600,8 +672,20 @@ impl<T: Send + 'static> DelayQueue<T> {
 
 impl<T> Clone for DelayQueue<T> {
     fn clone(&self) -> DelayQueue<T> {
-        DelayQueue {
-            shared: Arc::clone(&self.shared),
+        DelayQueue::of(&self.shared)
+    }
+}
+
+impl<T> Drop for DelayQueue<T> {
+    /// With the last clone nobody inserts any more.
+    fn drop(&mut self) {
+        if self.shared.front.ends.leave_inserter() {
+            let ended = self.shared.close_when_empty();
+            if thread::panicking() {
+                waking::lose(ended);
+            } else {
+                ended.unwrap_or_else(|panic| resume_unwind(panic));
+            }
         }
     }
 }

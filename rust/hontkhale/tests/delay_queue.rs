@@ -8,6 +8,8 @@ mod draw;
 #[path = "delay_queue/kit.rs"]
 mod kit;
 
+#[path = "delay_queue/closing.rs"]
+mod closing;
 #[path = "delay_queue/drops.rs"]
 mod drops;
 #[path = "delay_queue/due.rs"]

@@ -19,7 +19,7 @@ pub use walk::Held;
 use crate::clock::{Clock, Tick};
 use crate::room::Room;
 use claims::Claims;
-use hontkhale::delay_queue::{AsyncReceiver, Builder, Expired, InsertErrorKind, Key, KeyError};
+use hontkhale::delay_queue::{Builder, Expired, InsertErrorKind, Key, KeyError, Receiver};
 use hontkhale::DelayQueue;
 use shard::{Shard, Writer};
 use std::alloc::{handle_alloc_error, Layout};
@@ -184,7 +184,7 @@ impl Keyspace {
     }
 
     /// What a keeper receives by.
-    pub fn receiver(&self) -> AsyncReceiver<Name> {
+    pub fn receiver(&self) -> Receiver<Name> {
         self.queue.receiver()
     }
 

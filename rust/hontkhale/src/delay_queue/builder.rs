@@ -33,6 +33,7 @@ impl<T> Builder<T> {
         let shards = thread::available_parallelism().map_or(4, |count| count.get().clamp(2, 16));
         let limits = Limits {
             shards,
+            spread: shards,
             max_entries: usize::MAX,
             last_stamp: LAST_STAMP,
         };
@@ -51,10 +52,12 @@ impl<T> Builder<T> {
         self
     }
 
-    /// Over how many shards, each behind a lock of its own, the threads of a queue are spread once it has grown: 2 to 64, and
-    /// the nearest of these for another number. Without it they are as many as the machine runs threads, at most 16.
+    /// Over how many shards, each behind a lock of its own, the threads of a queue are spread once it has grown: 1 to 64, and
+    /// the nearest of these for another number. With 1 all threads use one shard, and another one beside it only where that has
+    /// no room. Without this call they are as many as the machine runs threads, at most 16.
     pub fn shards(mut self, shards: usize) -> Builder<T> {
-        self.limits.shards = shards.clamp(2, SHARD_LIMIT);
+        self.limits.spread = shards.clamp(1, SHARD_LIMIT);
+        self.limits.shards = self.limits.spread.max(2);
         self
     }
 
@@ -115,9 +118,7 @@ impl<T> Builder<T> {
             let weak = Arc::downgrade(&front);
             clock.wakes(move || weak.upgrade().map(|front| front.wake_all()).is_some());
         }
-        DelayQueue {
-            shared: Arc::new(Shared::new(front, self.limits)),
-        }
+        DelayQueue::of(&Arc::new(Shared::new(front, self.limits)))
     }
 }
 

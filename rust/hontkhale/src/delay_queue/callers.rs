@@ -1,9 +1,10 @@
 //! From where entries are extended and cancelled without a lock: each thread keeps callers of the queues that it used last.
 
 use crate::core::{CallError, Look};
-use crate::delay_queue::asynchronous::Tasks;
+use crate::delay_queue::ends::Ends;
 use crate::delay_queue::errors::KeyError;
 use crate::delay_queue::key::{Key, Places};
+use crate::delay_queue::receiver::Tasks;
 use crate::delay_queue::time::Time;
 use crate::delay_queue::waking::Bell;
 use crate::lasting::NumberedCaller;
@@ -11,6 +12,7 @@ use crate::memory::{room_for, AllocError};
 use crate::ticks::{self, LAST_TICK};
 use std::cell::{Cell, RefCell};
 use std::mem::{self, ManuallyDrop};
+use std::panic::resume_unwind;
 use std::sync::atomic::{
     AtomicBool, AtomicU64, AtomicUsize,
     Ordering::{Relaxed, SeqCst},
@@ -104,10 +106,12 @@ pub(crate) struct Front {
     pub bell: Bell<Thread>,
     /// The tasks that receive.
     pub tasks: Tasks,
+    pub ends: Ends,
     /// Whether the queue was dropped.
     is_ended: AtomicBool,
     /// How many entries wait, of a queue that has a bound.
     pub bound: Option<Bound>,
+    pub watch: Watch,
     lanes: [Lane; LANES],
     /// The segments that are closed, a bit for each.
     closed: AtomicU64,
@@ -117,10 +121,41 @@ pub(crate) struct Front {
     shared: Mutex<Callers>,
 }
 
-/// The most entries of a queue, and how many wait.
+/// The most entries of a queue, and how many wait where it has a bound.
 pub(crate) struct Bound {
     pub most: usize,
     waiting: AtomicUsize,
+}
+
+/// Whether something is to be done as an entry ends, so that one look tells that nothing is, as mostly.
+pub(crate) struct Watch(AtomicUsize);
+
+impl Watch {
+    pub const NOTHING: usize = 0;
+    /// The entries that wait are counted.
+    pub const COUNTED: usize = 1;
+    /// Somebody asks whether the queue is empty.
+    pub const ASKED: usize = 2;
+    /// An entry is at another place than its key says.
+    pub const MOVED: usize = 4;
+
+    #[inline(always)]
+    pub fn get(&self) -> usize {
+        self.0.load(SeqCst)
+    }
+
+    #[inline(always)]
+    pub fn has(&self, what: usize) -> bool {
+        self.get() & what != 0
+    }
+
+    pub fn set(&self, what: usize, is_so: bool) {
+        if is_so {
+            self.0.fetch_or(what, SeqCst);
+        } else {
+            self.0.fetch_and(!what, SeqCst);
+        }
+    }
 }
 
 /// What a few of the threads count and note.
@@ -310,13 +345,21 @@ impl Drop for Kept {
 impl Front {
     pub fn new(time: Time, most: usize) -> Front {
         let waiting = AtomicUsize::new(0);
+        let bound = (most < usize::MAX).then_some(Bound { most, waiting });
+        let watch = if bound.is_some() {
+            Watch::COUNTED
+        } else {
+            Watch::NOTHING
+        };
         Front {
             id: NEXT_QUEUE.fetch_add(1, SeqCst),
             time,
             bell: Bell::new(),
             tasks: Tasks::default(),
+            ends: Ends::default(),
             is_ended: AtomicBool::new(false),
-            bound: (most < usize::MAX).then_some(Bound { most, waiting }),
+            watch: Watch(AtomicUsize::new(watch)),
+            bound,
             lanes: Default::default(),
             closed: AtomicU64::new(0),
             idle: Mutex::default(),
@@ -342,15 +385,25 @@ impl Front {
         &self.lanes[route() % LANES]
     }
 
+    /// Counts an accepted cancel, and tells whether somebody asks whether the queue is empty now.
     #[inline]
-    pub fn count_cancel(&self) {
+    pub fn count_cancel(&self) -> bool {
         self.lane().cancels.fetch_add(1, SeqCst);
-        self.count_out(1);
+        self.count_out(1)
     }
 
-    /// Counts entries that wait no longer.
-    #[inline]
-    pub fn count_out(&self, entries: usize) {
+    /// Counts entries that wait no longer, and tells whether somebody asks whether the queue is empty now.
+    #[inline(always)]
+    pub fn count_out(&self, entries: usize) -> bool {
+        let watch = self.watch.get();
+        if watch & Watch::COUNTED != 0 {
+            self.uncount(entries);
+        }
+        watch & Watch::ASKED != 0
+    }
+
+    #[inline(always)]
+    pub fn uncount(&self, entries: usize) {
         if let Some(bound) = &self.bound {
             bound.uncount(entries);
         }
@@ -451,13 +504,14 @@ impl Front {
         })
     }
 
-    /// Wakes the leader, and each task, that sleeps beyond a tick.
+    /// Wakes the leader, and each task, that sleeps beyond a tick. It tells whether the queue is sealed: what was put in comes too
+    /// late then.
     #[inline(always)]
-    pub fn ring_before(&self, tick: u64) {
+    pub fn ring_before(&self, tick: u64) -> bool {
         if self.bell.sleeps_beyond(tick) {
             self.wake_leader();
         }
-        self.tasks.ring_before(tick);
+        self.tasks.ring_before(tick)
     }
 
     #[cold]
@@ -468,12 +522,15 @@ impl Front {
     /// Wakes all who wait.
     pub fn wake_all(&self) {
         self.bell.all().iter().for_each(Thread::unpark);
-        self.tasks.wake_all();
+        self.ends.wake_all();
+        self.tasks.wake_all().unwrap_or_else(|panic| resume_unwind(panic));
     }
 
+    /// Ends the receivers, once nothing is due.
     pub fn close(&self) {
+        self.ends.refuse();
         self.bell.close().iter().for_each(Thread::unpark);
-        self.tasks.wake_all();
+        self.tasks.wake_all().unwrap_or_else(|panic| resume_unwind(panic));
     }
 
     /// Ends a thread's wait in the line.

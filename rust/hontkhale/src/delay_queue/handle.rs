@@ -4,12 +4,11 @@ use crate::delay_queue::callers::{Front, Told};
 use crate::delay_queue::errors::KeyError;
 use crate::delay_queue::key::Key;
 use crate::delay_queue::shared::{quick_step, Shared, Step, Steps};
-use crate::delay_queue::DelayQueue;
 use std::fmt;
 use std::sync::{Arc, Weak};
 use std::time::{Duration, Instant};
 
-/// Extends and cancels entries of a [`DelayQueue`], and tells their deadlines, without its type and without a lifetime.
+/// Extends and cancels entries of a [`DelayQueue`](crate::DelayQueue), and tells their deadlines, without its type and without a lifetime.
 ///
 /// It may be cloned and sent to any thread, and doesn't keep its queue: once that was dropped, each call returns
 /// [`Closed`](KeyError::Closed).
@@ -36,6 +35,9 @@ impl Handle {
         let mut told = quick_step(&self.front, key, step);
         if told == Told::NOT_YET {
             told = self.queue.upgrade().ok_or(KeyError::Closed)?.slow_step(key, step);
+        }
+        if matches!(step, Step::Cancel) && told.is_deadline() && self.front.count_cancel() {
+            self.queue.upgrade().into_iter().for_each(|queue| queue.note_end());
         }
         told.result()
     }
@@ -87,6 +89,34 @@ impl Handle {
         self.step(key, Step::Cancel)
     }
 
+    /// Takes an entry out, and returns its value, of the type that the queue has. It takes the lock of the entry's shard for
+    /// constant time, where [`cancel`](Handle::cancel) takes none and leaves the value to the queue.
+    ///
+    /// # Errors
+    /// In this order:
+    /// - `Closed` if the queue was dropped.
+    /// - `WrongQueue` if the key is another queue's, or the queue's values are of another type.
+    /// - `Ended` if the entry came out, was removed, or was cancelled.
+    ///
+    /// ```
+    /// use hontkhale::delay_queue::KeyError;
+    /// use hontkhale::DelayQueue;
+    /// use std::time::Duration;
+    ///
+    /// let queue = DelayQueue::new();
+    /// let key = queue.insert("request 7".to_string(), Duration::from_secs(5))?;
+    /// let handle = queue.handle();
+    /// assert_eq!(handle.take::<u64>(&key), Err(KeyError::WrongQueue));
+    /// assert_eq!(handle.take::<String>(&key)?, "request 7");
+    /// # Ok::<(), Box<dyn std::error::Error>>(())
+    /// ```
+    pub fn take<T: 'static>(&self, key: &Key) -> Result<T, KeyError> {
+        let queue = self.queue.upgrade().ok_or(KeyError::Closed)?;
+        let mut value = None::<T>;
+        queue.take(key, &mut value)?;
+        value.ok_or(KeyError::WrongQueue)
+    }
+
     /// The deadline of an entry.
     ///
     /// # Errors
@@ -108,7 +138,7 @@ impl fmt::Debug for Handle {
     }
 }
 
-/// An entry that is taken out where this is dropped, with its value, as [`DelayQueue::guard`] makes it: the deadline of a
+/// An entry that is taken out where this is dropped, with its value, as [`DelayQueue::guard`](crate::DelayQueue::guard) makes it: the deadline of a
 /// request, of a connection, of a lease. Within the drop of another value of the same queue the value is dropped after that.
 ///
 /// ```
@@ -125,14 +155,14 @@ impl fmt::Debug for Handle {
 /// ```
 #[must_use = "the entry is taken out where this is dropped"]
 pub struct Timeout<T> {
-    queue: Option<DelayQueue<T>>,
+    shared: Option<Arc<Shared<T>>>,
     key: Key,
 }
 
 impl<T> Timeout<T> {
-    pub(crate) fn new(queue: DelayQueue<T>, key: Key) -> Timeout<T> {
+    pub(crate) fn new(shared: &Arc<Shared<T>>, key: Key) -> Timeout<T> {
         Timeout {
-            queue: Some(queue),
+            shared: Some(Arc::clone(shared)),
             key,
         }
     }
@@ -142,7 +172,8 @@ impl<T> Timeout<T> {
         self.key
     }
 
-    /// Raises the deadline to `after` from now, and returns the deadline that is then in force.
+    /// Raises the deadline to `after` from now, and returns the deadline that is then in force: that one, or a later one that
+    /// it had. It takes no lock.
     ///
     /// # Errors
     /// In this order:
@@ -150,20 +181,81 @@ impl<T> Timeout<T> {
     /// - `Ended` if the value came out already.
     /// - `NoMemory` if the call has to take memory, as a thread's first call for a shard does, and memory is refused.
     pub fn extend(&self, after: Duration) -> Result<Instant, KeyError> {
-        match &self.queue {
-            Some(queue) => queue.extend(&self.key, after),
-            None => Err(KeyError::Ended),
-        }
+        self.shared()?.extend(&self.key, after)
+    }
+
+    /// Raises the deadline to `when`, and returns the deadline that is then in force: that one, or a later one that it had. It
+    /// reads no clock, and takes no lock.
+    ///
+    /// # Errors
+    /// In this order:
+    /// - `TooFar` if the deadline is more than 139 years after the queue was made.
+    /// - `Ended` if the value came out already.
+    /// - `NoMemory` if the call has to take memory, as a thread's first call for a shard does, and memory is refused.
+    pub fn extend_at(&self, when: Instant) -> Result<Instant, KeyError> {
+        self.shared()?.extend_at(&self.key, when)
+    }
+
+    /// Gives the deadline `after` from now, sooner or later than the one that it has. It takes the lock of one shard.
+    ///
+    /// # Errors
+    /// Nothing changes then. In this order:
+    /// - `TooFar` if the deadline is more than 139 years after the queue was made.
+    /// - `Ended` if the value came out already.
+    /// - `NoMemory` if the entry's slot is worn, no other shard has room, and memory is refused.
+    ///
+    /// ```
+    /// use hontkhale::DelayQueue;
+    /// use std::time::Duration;
+    ///
+    /// let queue = DelayQueue::new();
+    /// let mut timeout = queue.guard("request 7", Duration::from_secs(60))?;
+    /// timeout.reset(Duration::ZERO)?;
+    /// assert_eq!(queue.recv().map(|late| late.value), Some("request 7"));
+    /// # Ok::<(), Box<dyn std::error::Error>>(())
+    /// ```
+    pub fn reset(&mut self, after: Duration) -> Result<(), KeyError> {
+        let shared = self.shared()?;
+        self.key = shared.reset(&self.key, shared.front.time.tick_in(after))?;
+        Ok(())
+    }
+
+    /// Gives the deadline `when`, sooner or later than the one that it has. It reads no clock, and takes the lock of one
+    /// shard.
+    ///
+    /// # Errors
+    /// Nothing changes then. In this order:
+    /// - `TooFar` if the deadline is more than 139 years after the queue was made.
+    /// - `Ended` if the value came out already.
+    /// - `NoMemory` if the entry's slot is worn, no other shard has room, and memory is refused.
+    pub fn reset_at(&mut self, when: Instant) -> Result<(), KeyError> {
+        let shared = self.shared()?;
+        self.key = shared.reset(&self.key, shared.front.time.tick_at(when))?;
+        Ok(())
+    }
+
+    /// The deadline.
+    ///
+    /// # Errors
+    /// In this order:
+    /// - `Ended` if the value came out already.
+    /// - `NoMemory` if the call has to take memory, as a thread's first call for a shard does, and memory is refused.
+    pub fn deadline(&self) -> Result<Instant, KeyError> {
+        self.shared()?.step_to_moment(&self.key, Step::Look)
+    }
+
+    fn shared(&self) -> Result<&Shared<T>, KeyError> {
+        self.shared.as_deref().ok_or(KeyError::Ended)
     }
 
     /// Takes the value back, none where it came out already.
     pub fn cancel(mut self) -> Option<T> {
-        self.queue.take()?.remove(&self.key).ok()
+        self.shared.take()?.remove(&self.key).ok()
     }
 
     /// Leaves the entry in the queue, and returns its key.
     pub fn forget(mut self) -> Key {
-        self.queue = None;
+        self.shared = None;
         self.key
     }
 }
@@ -171,9 +263,9 @@ impl<T> Timeout<T> {
 impl<T> Drop for Timeout<T> {
     fn drop(&mut self) {
         // The value is dropped here: what it holds, such as a socket, is wanted no longer.
-        if let Some(queue) = &self.queue {
-            let removed = queue.remove(&self.key);
-            let _ = removed.map(|value| queue.shared.let_go.drop_value(value));
+        if let Some(shared) = &self.shared {
+            let removed = shared.remove(&self.key);
+            let _ = removed.map(|value| shared.let_go.drop_value(value));
         }
     }
 }

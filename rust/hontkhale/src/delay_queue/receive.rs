@@ -6,7 +6,7 @@ use crate::delay_queue::key::Key;
 use crate::delay_queue::segment::Segment;
 use crate::delay_queue::shared::{Room, Shared, TRIES};
 use crate::delay_queue::waking::{Todo, Wait};
-use crate::delay_queue::{DelayQueue, Expired};
+use crate::delay_queue::Expired;
 use std::fmt;
 use std::slice;
 use std::sync::atomic::Ordering::{Relaxed, SeqCst};
@@ -256,9 +256,8 @@ impl<T> Shared<T> {
     /// moved is counted as moved until it is noted here.
     #[inline(always)]
     fn note_out(&self, outs: &mut [Expired<T>]) {
-        self.front.count_out(outs.len());
-        if self.has_moved() {
-            outs.iter_mut().for_each(|out| out.key = self.key_of_user(out.key));
+        if self.note_ended(outs.len()) {
+            outs.iter_mut().for_each(|out| out.key = self.note_watched(out.key));
         }
     }
 }
@@ -310,29 +309,27 @@ impl<T> Shared<T> {
     }
 }
 
-/// What comes out of a queue, one entry after the other, until it is closed.
-#[derive(Debug)]
+/// What comes out of a queue, one entry after the other, until its receivers end.
 #[must_use = "an iterator does nothing until it is asked"]
 pub struct Iter<'q, T> {
-    queue: &'q DelayQueue<T>,
+    shared: &'q Shared<T>,
 }
 
 /// What is due of a queue, one entry after the other.
-#[derive(Debug)]
 #[must_use = "an iterator does nothing until it is asked"]
 pub struct TryIter<'q, T> {
-    queue: &'q DelayQueue<T>,
+    shared: &'q Shared<T>,
 }
 
 impl<'q, T> Iter<'q, T> {
-    pub(crate) fn new(queue: &'q DelayQueue<T>) -> Iter<'q, T> {
-        Iter { queue }
+    pub(crate) fn new(shared: &'q Shared<T>) -> Iter<'q, T> {
+        Iter { shared }
     }
 }
 
 impl<'q, T> TryIter<'q, T> {
-    pub(crate) fn new(queue: &'q DelayQueue<T>) -> TryIter<'q, T> {
-        TryIter { queue }
+    pub(crate) fn new(shared: &'q Shared<T>) -> TryIter<'q, T> {
+        TryIter { shared }
     }
 }
 
@@ -340,7 +337,7 @@ impl<T> Iterator for Iter<'_, T> {
     type Item = Expired<T>;
 
     fn next(&mut self) -> Option<Expired<T>> {
-        self.queue.recv()
+        self.shared.receive()
     }
 }
 
@@ -348,7 +345,19 @@ impl<T> Iterator for TryIter<'_, T> {
     type Item = Expired<T>;
 
     fn next(&mut self) -> Option<Expired<T>> {
-        self.queue.try_recv().ok()
+        self.shared.try_receive().ok()
+    }
+}
+
+impl<T> fmt::Debug for Iter<'_, T> {
+    fn fmt(&self, f: &mut fmt::Formatter<'_>) -> fmt::Result {
+        f.debug_struct("Iter").finish_non_exhaustive()
+    }
+}
+
+impl<T> fmt::Debug for TryIter<'_, T> {
+    fn fmt(&self, f: &mut fmt::Formatter<'_>) -> fmt::Result {
+        f.debug_struct("TryIter").finish_non_exhaustive()
     }
 }
 
@@ -399,10 +408,8 @@ impl<'q, T> Drain<'q, T> {
                 continue;
             };
             drop(shard);
-            let front = &self.shared.front;
-            front.count_out(1);
-            let key = self.shared.key_of_user(self.shared.key(self.segment, &removed.key));
-            return Some((key, front.time.moment(removed.deadline), removed.value));
+            let key = self.shared.note_watched(self.shared.key(self.segment, &removed.key));
+            return Some((key, self.shared.front.time.moment(removed.deadline), removed.value));
         }
         None
     }

@@ -2,12 +2,13 @@
 
 mod counting;
 mod due;
+mod ending;
 mod reserve;
 mod sweep;
 
 use crate::core::{CallError, CoreError};
 use crate::delay_queue::callers::{cancel_by_own, deadline_by, extend_by_own, look_by_own, route, tidy_own};
-use crate::delay_queue::callers::{Bound, Callers, Front, SegmentCallers, Told};
+use crate::delay_queue::callers::{Bound, Callers, Front, SegmentCallers, Told, Watch};
 use crate::delay_queue::dropping::LetGo;
 use crate::delay_queue::errors::{InsertErrorKind, KeyError};
 use crate::delay_queue::key::Key;
@@ -19,6 +20,7 @@ use crate::lasting::{Kept, LastingConfig, Moved, NextDeadline, NumberedCaller};
 use crate::memory::room_for;
 use crate::ticks::LAST_TICK;
 use crate::ticks::{self, EntryId, CAPACITY_LIMIT};
+use std::any::Any;
 use std::mem;
 use std::sync::atomic::{
     fence, AtomicU64, AtomicUsize,
@@ -26,6 +28,7 @@ use std::sync::atomic::{
 };
 use std::sync::{Arc, Mutex, MutexGuard, OnceLock, PoisonError};
 use std::thread;
+use std::time::{Duration, Instant};
 
 /// The most segments of a queue.
 const SEGMENTS: usize = 64;
@@ -45,6 +48,8 @@ const MOVED_AT_ONCE: usize = 16;
 #[derive(Clone, Debug)]
 pub(crate) struct Limits {
     pub shards: usize,
+    /// Over how many of them the threads' inserts are spread.
+    pub spread: usize,
     pub max_entries: usize,
     pub last_stamp: u32,
 }
@@ -64,8 +69,6 @@ pub(crate) struct Shared<T> {
     grows: Mutex<()>,
     moves: Mutex<Moves>,
     pub let_go: Arc<LetGo<T>>,
-    /// How many entries were moved. It isn't 0 from before one is taken out of its place.
-    moved: AtomicUsize,
     /// The moves since the queue's making.
     pub moves_made: AtomicU64,
     /// By how many ticks an entry was late at most as it came out.
@@ -99,13 +102,7 @@ pub(crate) fn quick_step(front: &Front, key: &Key, step: Step) -> Told {
     match step {
         Step::Extend(tick) => extend_by_own(front.id, *key, tick),
         Step::Look => look_by_own(front.id, *key),
-        Step::Cancel => {
-            let told = cancel_by_own(front.id, *key);
-            if told.is_deadline() {
-                front.count_cancel();
-            }
-            told
-        }
+        Step::Cancel => cancel_by_own(front.id, *key),
     }
 }
 
@@ -113,11 +110,27 @@ pub(crate) fn quick_step(front: &Front, key: &Key, step: Step) -> Told {
 pub(crate) trait Steps: Send + Sync {
     /// A step that takes the shard's lock.
     fn slow_step(&self, key: &Key, step: Step) -> Told;
+
+    /// Has those told who wait until the queue is empty, where it is.
+    fn note_end(&self);
+
+    /// Puts the value of an entry that it takes out into a place, an `Option` of the queue's type.
+    fn take(&self, key: &Key, place: &mut dyn Any) -> Result<(), KeyError>;
 }
 
-impl<T: Send> Steps for Shared<T> {
+impl<T: Send + 'static> Steps for Shared<T> {
     fn slow_step(&self, key: &Key, step: Step) -> Told {
         self.step_slowly(key, step)
+    }
+
+    fn note_end(&self) {
+        Shared::note_end(self);
+    }
+
+    fn take(&self, key: &Key, place: &mut dyn Any) -> Result<(), KeyError> {
+        let place = place.downcast_mut::<Option<T>>().ok_or(KeyError::WrongQueue)?;
+        *place = Some(self.remove(key)?);
+        Ok(())
     }
 }
 
@@ -128,7 +141,29 @@ impl<T> Shared<T> {
         if told == Told::NOT_YET {
             told = self.step_slowly(key, step);
         }
+        if matches!(step, Step::Cancel) && told.is_deadline() && self.front.count_cancel() {
+            self.note_end();
+        }
         told.result()
+    }
+
+    /// A step whose deadline is told as a moment.
+    #[inline(always)]
+    pub fn step_to_moment(&self, key: &Key, step: Step) -> Result<Instant, KeyError> {
+        let deadline = self.step(key, step)?;
+        Ok(self.front.time.moment(deadline))
+    }
+
+    #[inline(always)]
+    pub fn extend(&self, key: &Key, after: Duration) -> Result<Instant, KeyError> {
+        self.step_to_moment(key, Step::Extend(self.front.time.tick_in(after)))
+    }
+
+    #[inline(always)]
+    pub fn extend_at(&self, key: &Key, when: Instant) -> Result<Instant, KeyError> {
+        let rounded = self.front.time.rounded(when);
+        let deadline = self.step(key, Step::Extend(rounded.0))?;
+        Ok(self.front.time.moment_beside(deadline, rounded))
     }
 
     /// A step under the shard's lock, unless the thread's own caller serves once those are let go that are needed no longer.
@@ -162,7 +197,7 @@ impl<T> Shared<T> {
         if let Step::Cancel = step {
             // It doesn't come out, so that nobody else forgets where it is.
             moves.end(&place);
-            self.moved.store(moves.len(), SeqCst);
+            self.note_moved(&moves);
         }
         Ok(made)
     }
@@ -176,13 +211,8 @@ impl<T> Shared<T> {
         if !is_there(&mut segment.enter(segment.place_of(place.number()))) {
             return Ok(None);
         }
-        let made = self
-            .front
-            .with_callers(|callers| step_in(callers, segment, place, step))?;
-        if matches!((step, made), (Step::Cancel, Some(_))) {
-            self.front.count_cancel();
-        }
-        Ok(made)
+        self.front
+            .with_callers(|callers| step_in(callers, segment, place, step))
     }
 }
 
@@ -217,7 +247,6 @@ impl<T> Shared<T> {
             grows: Mutex::default(),
             moves: Mutex::new(Moves::new()),
             let_go: Arc::new(LetGo::new()),
-            moved: AtomicUsize::new(0),
             moves_made: AtomicU64::new(0),
             latest: AtomicU64::new(0),
             sweep: Mutex::default(),
@@ -259,7 +288,7 @@ impl<T> Shared<T> {
         if tick > LAST_TICK {
             return Err((InsertErrorKind::TooFar, value));
         }
-        if self.front.bell.is_closed() {
+        if self.front.ends.refuses() {
             return Err((InsertErrorKind::Closed, value));
         }
         let counted = match &self.front.bound {
@@ -268,7 +297,11 @@ impl<T> Shared<T> {
         };
         let key = self.insert_where_last(value, tick)?;
         mem::forget(counted);
-        self.front.ring_before(tick);
+        if self.front.ring_before(tick) {
+            if let Some(value) = self.take_back(key) {
+                return Err((InsertErrorKind::Closed, value));
+            }
+        }
         Ok(key)
     }
 
@@ -297,7 +330,7 @@ impl<T> Shared<T> {
         let mut value = value;
         let route = route();
         for (at, segment) in self.segments() {
-            let place = route % segment.rows.len();
+            let place = route % segment.rows.len().min(self.limits.spread);
             if segment.rows[place].has_room() {
                 match self.insert_noted(at, segment, place, value, tick) {
                     Ok(key) => return Ok(key),
@@ -578,19 +611,49 @@ impl<T> Shared<T> {
 
     #[inline(always)]
     fn note_removed(&self, place: &Key, is_last: bool) {
-        if self.has_moved() {
-            self.key_of_user(*place);
+        if self.note_ended(1) {
+            self.note_watched(*place);
         }
-        self.front.count_out(1);
         if is_last && place.segment() > 0 {
             self.shrink();
         }
     }
 
-    /// Whether an entry is at another place than its key says.
+    /// Notes that the entry at a place has ended, and gives its user's key.
+    #[cold]
+    pub fn note_watched(&self, place: Key) -> Key {
+        let key = if self.has_moved() {
+            self.key_of_user(place)
+        } else {
+            place
+        };
+        if self.front.count_out(1) {
+            self.note_end();
+        }
+        key
+    }
+
+    /// Counts entries that have ended, unless more is to be done, which it tells.
+    #[inline(always)]
+    pub fn note_ended(&self, entries: usize) -> bool {
+        match self.front.watch.get() {
+            Watch::NOTHING => false,
+            Watch::COUNTED => {
+                self.front.uncount(entries);
+                false
+            }
+            _ => true,
+        }
+    }
+
+    /// Whether an entry is at another place than its key says: so from before one is taken out of its place.
     #[inline]
-    pub fn has_moved(&self) -> bool {
-        self.moved.load(SeqCst) > 0
+    fn has_moved(&self) -> bool {
+        self.front.watch.has(Watch::MOVED)
+    }
+
+    fn note_moved(&self, moves: &Moves) {
+        self.front.watch.set(Watch::MOVED, moves.len() > 0);
     }
 
     /// The key that the user has of an entry that has ended at a place: another one only where entries were moved.
@@ -598,7 +661,7 @@ impl<T> Shared<T> {
     pub fn key_of_user(&self, place: Key) -> Key {
         let mut moves = self.moves();
         let key = moves.end(&place);
-        self.moved.store(moves.len(), SeqCst);
+        self.note_moved(&moves);
         key
     }
 }
@@ -619,7 +682,7 @@ impl<T> Shared<T> {
         source.core_mut().deadline(&place.entry()).map_err(|_| Unmoved::Ended)?;
         let key = moves.key(place);
         // From here on whoever doesn't find the entry at its place asks for where it was moved.
-        self.moved.store(moves.len() + 1, SeqCst);
+        self.front.watch.set(Watch::MOVED, true);
         let moved = self.put_elsewhere(&mut source, (place.segment(), at), &place.entry(), next);
         match &moved {
             Ok((to, Moved::To { key: present, .. })) => {
@@ -632,7 +695,7 @@ impl<T> Shared<T> {
             Err(_) => {}
         }
         drop(source);
-        self.moved.store(moves.len(), SeqCst);
+        self.note_moved(moves);
         moved.map(|(_, moved)| moved)
     }
 
@@ -755,7 +818,7 @@ impl<T> Shared<T> {
             // A task's waker is the program's code.
             drop(moves);
             match moved {
-                Ok(Moved::To { deadline, .. }) => self.front.ring_before(deadline),
+                Ok(Moved::To { deadline, .. }) => _ = self.front.ring_before(deadline),
                 Ok(Moved::Out(_)) => unreachable!("a deadline, and a free slot"),
                 Err(Unmoved::Ended) => {}
                 Err(Unmoved::NoRoom) => return false,

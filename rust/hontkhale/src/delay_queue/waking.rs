@@ -211,12 +211,19 @@ pub(crate) fn wake_each<W>(all: &[W], mut wake: impl FnMut(&W)) -> thread::Resul
         let called = catch_unwind(AssertUnwindSafe(|| wake(one)));
         if woken.is_ok() {
             woken = called;
-        } else if let Err(within) = catch_unwind(AssertUnwindSafe(|| drop(called))) {
-            // A panic's value may panic as it is dropped, and so may that of this panic.
-            mem::forget(within);
+        } else {
+            lose(called);
         }
     }
     woken
+}
+
+/// Drops what a call panicked with.
+pub(crate) fn lose(called: thread::Result<()>) {
+    if let Err(within) = catch_unwind(AssertUnwindSafe(|| drop(called))) {
+        // A panic's value may panic as it is dropped, and so may that of this panic.
+        mem::forget(within);
+    }
 }
 
 #[cfg(test)]

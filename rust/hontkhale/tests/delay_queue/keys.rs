@@ -1,6 +1,6 @@
 //! A key names its entry for as long as that lives, and nothing else.
 
-use crate::kit::{ms, Drops, FAR};
+use crate::kit::{ms, Drops, Value, FAR};
 use hontkhale::delay_queue::{Handle, Key, KeyError, ManualClock, Timeout};
 use hontkhale::DelayQueue;
 use std::cell::Cell;
@@ -149,4 +149,70 @@ fn a_guard_takes_its_entry_out_where_it_is_dropped() {
     assert_eq!(queue.recv().map(|expired| expired.value.number), Some(4));
     assert_eq!(guard.extend(FAR), Err(KeyError::Ended));
     assert!(guard.cancel().is_none());
+}
+
+/// A guard's deadline is moved as a key's is, until its value came out.
+#[test]
+fn a_guard_moves_its_deadline_until_its_value_came_out() {
+    let clock = ManualClock::new();
+    let queue = DelayQueue::builder().clock(&clock).last_stamp(3).build();
+    let at = |millis| clock.now() + ms(millis);
+    let mut guard = queue.guard_at("value".to_string(), at(50)).expect("room");
+    assert_eq!(guard.deadline(), Ok(at(50)));
+    assert_eq!(guard.extend_at(at(90)), Ok(at(90)));
+    assert_eq!(guard.extend_at(at(20)), Ok(at(90)));
+    // The last ones move it to another slot.
+    for millis in [10, 70, 30, 40] {
+        assert_eq!((guard.reset_at(at(millis)), guard.deadline()), (Ok(()), Ok(at(millis))));
+        assert_eq!(
+            (guard.reset(ms(millis + 1)), guard.deadline()),
+            (Ok(()), Ok(at(millis + 1)))
+        );
+    }
+    let late = clock.now();
+    clock.advance(ms(41));
+    assert_eq!(queue.recv().map(|out| out.value).as_deref(), Some("value"));
+    assert_eq!(
+        (guard.deadline(), guard.extend(ms(1))),
+        (Err(KeyError::Ended), Err(KeyError::Ended))
+    );
+    assert_eq!(
+        (guard.reset(ms(1)), guard.reset_at(late)),
+        (Err(KeyError::Ended), Err(KeyError::Ended))
+    );
+    assert_eq!((guard.extend_at(late), guard.cancel()), (Err(KeyError::Ended), None));
+}
+
+#[test]
+fn a_handle_takes_a_value_of_the_queues_type_once() {
+    let (drops, queue, other) = (Drops::default(), DelayQueue::new(), DelayQueue::new());
+    let key = queue.insert(drops.value(0), FAR).expect("room");
+    let (handle, others) = (queue.handle(), other.handle());
+    other.insert(0_u64, FAR).expect("room");
+    assert_eq!(handle.take::<String>(&key), Err(KeyError::WrongQueue));
+    assert_eq!(others.take::<u64>(&key), Err(KeyError::WrongQueue));
+    assert_eq!((drops.count(0), queue.len(), other.len()), (0, 1, 1));
+    assert_eq!(handle.take(&key).map(|value: Value| value.number), Ok(0));
+    assert_eq!(handle.take::<Value>(&key).map(drop), Err(KeyError::Ended));
+    assert!(drops.are_once(1));
+    drop(queue);
+    assert_eq!(handle.take::<Value>(&key).map(drop), Err(KeyError::Closed));
+}
+
+/// The shard's number is among what a key shows.
+#[test]
+fn threads_that_are_not_spread_insert_into_one_shard() {
+    let queue = DelayQueue::builder().shards(1).build();
+    let insert = |_| format!("{:?}", queue.insert(0, FAR).expect("room"));
+    let shard_of = |key: &String| key.split(", index").next().map(str::to_owned);
+    let keys: Vec<String> = thread::scope(|scope| {
+        let threads: Vec<_> = (0..4)
+            .map(|_| scope.spawn(|| (0..10).map(insert).collect::<Vec<_>>()))
+            .collect();
+        threads.into_iter().flat_map(|thread| thread.join().unwrap()).collect()
+    });
+    assert_eq!(keys.len(), 40);
+    assert!(keys.iter().all(|key| shard_of(key) == shard_of(&keys[0])), "{keys:?}");
+    // There is room beyond it.
+    assert!((0..1_000).all(|number| queue.insert(number, FAR).is_ok()));
 }

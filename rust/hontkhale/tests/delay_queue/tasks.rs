@@ -1,7 +1,7 @@
 //! Tasks that receive, in the place of threads.
 
 use crate::kit::FAR;
-use hontkhale::delay_queue::{AsyncReceiver, Expired, ManualClock};
+use hontkhale::delay_queue::{Expired, ManualClock, Receiver};
 use hontkhale::DelayQueue;
 use std::panic::{catch_unwind, panic_any, AssertUnwindSafe};
 use std::sync::atomic::{AtomicUsize, Ordering::SeqCst};
@@ -34,7 +34,7 @@ impl Wake for Unparks {
     }
 }
 
-fn poll<T>(receiver: &mut AsyncReceiver<T>, wakes: &Arc<Wakes>) -> Poll<Option<T>> {
+fn poll<T>(receiver: &mut Receiver<T>, wakes: &Arc<Wakes>) -> Poll<Option<T>> {
     let waker = Waker::from(Arc::clone(wakes));
     receiver
         .poll_recv(&mut Context::from_waker(&waker))
@@ -42,7 +42,7 @@ fn poll<T>(receiver: &mut AsyncReceiver<T>, wakes: &Arc<Wakes>) -> Poll<Option<T
 }
 
 /// Receives in this thread as a runtime would.
-fn receive<T>(receiver: &mut AsyncReceiver<T>) -> Option<Expired<T>> {
+fn receive<T>(receiver: &mut Receiver<T>) -> Option<Expired<T>> {
     let waker = Waker::from(Arc::new(Unparks(thread::current())));
     loop {
         if let Poll::Ready(received) = receiver.poll_recv(&mut Context::from_waker(&waker)) {

@@ -46,7 +46,9 @@ impl<T> Shared<T> {
 
     /// The value of an entry that was taken out of its place, and is counted so.
     fn ended(&self, place: &Key, removed: Removed<T>) -> T {
-        self.front.count_out(1);
+        if self.front.count_out(1) {
+            self.note_end();
+        }
         let segment = self.segment(place.segment()).expect("a segment of the queue");
         if place.segment() > 0 && segment.rows[segment.place_of(place.number())].linked() == 0 {
             self.shrink();
