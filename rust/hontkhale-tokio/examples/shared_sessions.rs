@@ -1,13 +1,12 @@
 //! Idle timeouts where every worker accepts connections, and one task closes those that were silent.
 
-use hontkhale::DelayQueue;
-use hontkhale_tokio::QueueExt;
+use hontkhale_tokio::SharedQueue;
 use tokio::time::{sleep, Duration, Instant};
 
 const IDLE: Duration = Duration::from_secs(30);
 
 /// Serves one connection: what is heard on it extends its deadline, without a message and without a lock.
-async fn serve(sessions: DelayQueue<&'static str>, name: &'static str, every: u64, times: u32) {
+async fn serve(sessions: SharedQueue<&'static str>, name: &'static str, every: u64, times: u32) {
     let key = sessions.insert(name, IDLE).expect("memory");
     for _ in 0..times {
         sleep(Duration::from_secs(every)).await;
@@ -20,8 +19,7 @@ async fn serve(sessions: DelayQueue<&'static str>, name: &'static str, every: u6
 #[tokio::main(flavor = "current_thread", start_paused = true)]
 pub async fn main() {
     let start = Instant::now();
-    // Its clock is the runtime's, which stands here; a server takes `DelayQueue::new()`.
-    let sessions = hontkhale_tokio::builder().build();
+    let sessions = SharedQueue::new();
     let mut silent = sessions.stream();
     for (name, every, times) in [("ann", 20, 3), ("bob", 25, 1), ("eve", 40, 9)] {
         tokio::spawn(serve(sessions.clone(), name, every, times));

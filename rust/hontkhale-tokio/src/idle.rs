@@ -1,8 +1,7 @@
 //! Connections that time out while no byte moves, with one queue and one task for all of them.
 
-use crate::stream::{builder, QueueExt, QueueStream};
+use crate::shared_queue::{QueueStream, SharedQueue};
 use hontkhale::delay_queue::{InsertErrorKind, Key};
-use hontkhale::DelayQueue;
 use std::io::{self, ErrorKind, IoSlice};
 use std::mem;
 use std::panic::{catch_unwind, AssertUnwindSafe};
@@ -12,6 +11,7 @@ use std::sync::{Arc, Mutex, MutexGuard, PoisonError};
 use std::task::{Context, Poll, Waker};
 use std::time::Duration;
 use tokio::io::{AsyncRead, AsyncWrite, ReadBuf};
+use tokio::time::Instant;
 
 /// The idle timeouts of any number of connections: one queue, and one task that ends those on which no byte moved for a while.
 ///
@@ -42,9 +42,9 @@ pub struct IdleTimeouts {
 }
 
 /// What the owner, its clones and the connections share, but not the task.
-#[derive(Debug)]
+#[derive(Debug, Default)]
 struct Timeouts {
-    queue: DelayQueue<Arc<Waits>>,
+    queue: SharedQueue<Arc<Waits>>,
     has_task: Arc<AtomicBool>,
 }
 
@@ -70,30 +70,29 @@ impl IdleTimeouts {
     /// up to 16 processors, are there already.
     pub fn wrap<IO>(&self, io: IO, after: Duration) -> IdleTimeout<IO> {
         self.shared.run();
-        let waits = Arc::new(Waits::default());
-        let key = match self.shared.queue.insert(Arc::clone(&waits), after) {
-            Ok(key) => Some(key),
-            Err(refused) if refused.kind() == InsertErrorKind::TooFar => None,
-            Err(refused) => panic!("an idle timeout has no place: {refused}"),
-        };
-        let timeouts = Arc::clone(&self.shared);
-        IdleTimeout { io, entry: Entry { timeouts, key, after, waits } }
+        let (timeouts, waits) = (Arc::clone(&self.shared), Arc::<Waits>::default());
+        let place = timeouts.place(&waits, after);
+        IdleTimeout { io, entry: Entry { timeouts, place, after, waits } }
     }
 }
 
 impl Timeouts {
+    /// A connection's key and deadline, none where that is too far.
+    fn place(&self, waits: &Arc<Waits>, after: Duration) -> Option<(Key, Instant)> {
+        let deadline = Instant::now().checked_add(after)?;
+        match self.queue.insert_at(Arc::clone(waits), deadline) {
+            Ok(key) => Some((key, deadline)),
+            Err(refused) if refused.kind() == InsertErrorKind::TooFar => None,
+            Err(refused) => panic!("an idle timeout has no place: {refused}"),
+        }
+    }
+
     /// Spawns the task, unless one runs.
     fn run(&self) {
         if !self.has_task.load(SeqCst) && !self.has_task.swap(true, SeqCst) {
             let runs = Runs(Arc::clone(&self.has_task));
             tokio::spawn(end_idle_ones(self.queue.stream(), runs));
         }
-    }
-}
-
-impl Default for Timeouts {
-    fn default() -> Timeouts {
-        Timeouts { queue: builder().build(), has_task: Arc::default() }
     }
 }
 
@@ -208,26 +207,30 @@ pub struct IdleTimeout<IO> {
     entry: Entry,
 }
 
-/// A connection's place in the queue, none where it never times out.
 #[derive(Debug)]
 struct Entry {
     timeouts: Arc<Timeouts>,
-    key: Option<Key>,
+    /// The connection's key in the queue and a deadline that it has or had, nothing where it never times out.
+    place: Option<(Key, Instant)>,
     after: Duration,
     waits: Arc<Waits>,
 }
 
 impl Entry {
-    fn extend(&self) {
-        if let Some(key) = &self.key {
-            // Where it has ended, the next call errs.
-            let _ = self.timeouts.queue.extend(key, self.after);
+    fn extend(&mut self) {
+        if let Some((key, deadline)) = &mut self.place {
+            let when = Instant::now() + self.after;
+            // Deadlines are whole milliseconds, so that one of several calls within a millisecond extends it.
+            if when > *deadline {
+                // Where it has ended, the next call errs.
+                *deadline = self.timeouts.queue.extend_at(key, when).unwrap_or(*deadline);
+            }
         }
     }
 
     /// A write of some kind.
     fn poll_write(
-        &self,
+        &mut self,
         cx: &mut Context<'_>,
         write: impl FnOnce(&mut Context<'_>) -> Poll<io::Result<usize>>,
     ) -> Poll<io::Result<usize>> {
@@ -241,7 +244,7 @@ impl Entry {
 
 impl Drop for Entry {
     fn drop(&mut self) {
-        if let Some(key) = &self.key {
+        if let Some((key, _)) = &self.place {
             let _ = self.timeouts.queue.remove(key);
         }
     }
@@ -308,12 +311,14 @@ impl<IO: AsyncWrite + Unpin> AsyncWrite for IdleTimeout<IO> {
 
 #[cfg(test)]
 mod tests {
-    use super::IdleTimeouts;
-    use std::sync::atomic::Ordering::SeqCst;
+    use super::{IdleTimeouts, WakerCell};
+    use std::sync::atomic::{AtomicUsize, Ordering::SeqCst};
     use std::sync::Arc;
+    use std::task::Wake;
     use std::time::Duration;
     use tokio::io::duplex;
     use tokio::task::yield_now;
+    use tokio::time::sleep;
 
     #[tokio::test(start_paused = true)]
     async fn the_task_ends_once_the_owner_and_all_connections_are_gone() {
@@ -330,5 +335,50 @@ mod tests {
         yield_now().await;
         assert!(!has_task.load(SeqCst));
         assert_eq!(Arc::strong_count(&has_task), 1);
+    }
+
+    #[tokio::test(start_paused = true)]
+    async fn what_a_connection_shared_is_freed_with_it() {
+        let timeouts = IdleTimeouts::new();
+        let [dropped, over] = [30, 10].map(|after| timeouts.wrap(duplex(8).0, Duration::from_secs(after)));
+        let shared = [&dropped, &over].map(|connection| Arc::downgrade(&connection.entry.waits));
+        sleep(Duration::from_secs(20)).await;
+        drop((dropped, over));
+        assert!(shared.iter().all(|waits| waits.upgrade().is_none()));
+    }
+
+    /// A waker that asks, as it is called and as it is dropped, whether the lock of its cell is free.
+    struct Asks {
+        cell: Arc<WakerCell>,
+        was_free: Arc<AtomicUsize>,
+    }
+
+    impl Asks {
+        fn ask(&self) {
+            self.was_free.fetch_add(self.cell.0.try_lock().is_ok().into(), SeqCst);
+        }
+    }
+
+    impl Wake for Asks {
+        fn wake(self: Arc<Self>) {
+            self.ask();
+        }
+    }
+
+    impl Drop for Asks {
+        fn drop(&mut self) {
+            self.ask();
+        }
+    }
+
+    #[test]
+    fn a_waker_is_called_and_dropped_while_its_cell_is_free() {
+        let (cell, was_free) = (Arc::<WakerCell>::default(), Arc::<AtomicUsize>::default());
+        for _ in 0..2 {
+            cell.listen(&Arc::new(Asks { cell: cell.clone(), was_free: was_free.clone() }).into());
+        }
+        assert_eq!(was_free.load(SeqCst), 1, "the first is dropped");
+        cell.wake();
+        assert_eq!(was_free.load(SeqCst), 3, "the second is called and dropped");
     }
 }

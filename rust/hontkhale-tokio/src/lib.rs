@@ -7,12 +7,14 @@ mod clock;
 mod handle;
 mod idle;
 mod key;
+mod key_sleep;
 mod numbers;
 mod queue;
 mod relocations;
 mod segment;
 mod segments;
 mod shared;
+pub mod shared_queue;
 mod shared_state;
 mod stream;
 #[cfg(test)]
@@ -26,7 +28,7 @@ pub use hontkhale;
 pub use idle::{IdleTimeout, IdleTimeouts};
 pub use numbers::Numbers;
 pub use queue::DelayQueue;
-pub use stream::{builder, QueueExt, QueueStream};
+pub use shared_queue::SharedQueue;
 
 /// The types beside [`DelayQueue`], under the name of the module in which tokio_util has them.
 pub mod delay_queue {

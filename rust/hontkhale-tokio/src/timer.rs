@@ -5,7 +5,7 @@
 
 use std::future::Future;
 use std::pin::Pin;
-use std::task::{Context, Poll};
+use std::task::{Context, Poll, Waker};
 use tokio::time::{sleep_until, Instant, Sleep};
 
 #[derive(Default)]
@@ -39,6 +39,34 @@ impl Timer {
         }
         self.is_left = false;
         sleep.as_mut().poll(cx)
+    }
+}
+
+/// A timer of whichever task polls it.
+#[derive(Default)]
+pub(crate) struct TaskTimer {
+    timer: Timer,
+    /// The task that polled last, in whose runtime the timer is.
+    task: Option<Waker>,
+}
+
+impl TaskTimer {
+    /// Where another task polls than before it may be in another runtime, and then the timer is of no use there.
+    pub fn note_task(&mut self, waker: &Waker) {
+        if !matches!(&self.task, Some(task) if task.will_wake(waker)) {
+            self.task = Some(waker.clone());
+            self.timer.leave();
+        }
+    }
+
+    /// The next wait may be in another runtime.
+    pub fn leave(&mut self) {
+        self.timer.leave();
+    }
+
+    /// Sleeps until a moment: ready where it is reached.
+    pub fn poll_until(&mut self, moment: Instant, cx: &mut Context<'_>) -> Poll<()> {
+        self.timer.poll_until(moment, cx)
     }
 }
 

@@ -5,7 +5,7 @@ mod common;
 
 use common::{ends, ms, paused, running, Dice};
 use futures_core::Stream;
-use hontkhale_tokio::{builder, DelayQueue, QueueExt};
+use hontkhale_tokio::{DelayQueue, SharedQueue};
 use std::cell::Cell;
 use std::future::poll_fn;
 use std::pin::Pin;
@@ -154,7 +154,7 @@ fn a_poll_in_pieces_forgets_a_deadline_that_has_gone() {
 fn a_streams_poll_makes_so_many_steps() {
     ends(|| {
         paused().block_on(async {
-            let queue = builder().build();
+            let queue = SharedQueue::new();
             let mut stream = queue.stream();
             for value in 0..50_000 {
                 let key = queue.insert(value, ms(5_000)).unwrap();
@@ -186,7 +186,7 @@ const ENDLESS: u32 = 5_000_000;
 fn a_timeout_ends_a_loop_over_a_stream_that_always_has_an_entry() {
     ends(|| {
         running().block_on(async {
-            let queue = hontkhale::DelayQueue::new();
+            let queue = SharedQueue::new();
             queue.insert("again".to_string(), Duration::ZERO).unwrap();
             let (mut stream, mut given) = (queue.stream(), 0);
             let looped = timeout(ms(50), async {
@@ -258,7 +258,7 @@ fn many_that_are_due_keep_another_task_waiting_no_longer_than_the_peers() {
     const ENTRIES: usize = 500_000;
     ends(|| {
         paused().block_on(async {
-            let (mut ours, mut peers, shared) = (DelayQueue::new(), peer::DelayQueue::new(), builder().build());
+            let (mut ours, mut peers, shared) = (DelayQueue::new(), peer::DelayQueue::new(), SharedQueue::new());
             for at in 0..ENTRIES {
                 let when = ms(1 + at as u64 % 1_000);
                 ours.insert(Box::new(at), when);
@@ -302,7 +302,7 @@ fn the_poll_that_ends_a_row_of_entries_drops_what_a_handle_cancelled() {
 fn a_row_of_entries_ends_where_a_poll_is_pending() {
     ends(|| {
         paused().block_on(async {
-            let (mut queue, shared) = (DelayQueue::new(), builder().build());
+            let (mut queue, shared) = (DelayQueue::new(), SharedQueue::new());
             let mut stream = shared.stream();
             let waker = Waker::from(Arc::<Wakes>::default());
             let mut cx = Context::from_waker(&waker);

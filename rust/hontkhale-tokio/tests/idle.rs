@@ -142,6 +142,69 @@ fn a_read_and_a_write_that_wait_are_both_woken() {
 }
 
 #[test]
+fn the_task_that_waited_last_is_woken() {
+    ends(|| {
+        paused().block_on(async {
+            let wakes = [Arc::<Wakes>::default(), Arc::default()];
+            let (_client, mut server) = connected(&IdleTimeouts::new(), IDLE);
+            while poll_write(&mut server, &wakes[0].clone().into()).is_ready() {}
+            for waits in &wakes {
+                assert!(poll_read(&mut server, &waits.clone().into()).is_pending());
+                assert!(poll_write(&mut server, &waits.clone().into()).is_pending());
+            }
+            sleep(IDLE + ms(1)).await;
+            assert_eq!(wakes.map(|woken| woken.take()), [0, 2]);
+        });
+    });
+}
+
+/// A stream that writes all of its slices at once.
+struct Vectored(DuplexStream);
+
+impl AsyncWrite for Vectored {
+    fn poll_write(mut self: Pin<&mut Self>, cx: &mut Context<'_>, buf: &[u8]) -> Poll<io::Result<usize>> {
+        Pin::new(&mut self.0).poll_write(cx, buf)
+    }
+
+    fn poll_write_vectored(
+        mut self: Pin<&mut Self>,
+        cx: &mut Context<'_>,
+        bufs: &[IoSlice<'_>],
+    ) -> Poll<io::Result<usize>> {
+        let bytes: Vec<u8> = bufs.iter().flat_map(|buf| buf.iter().copied()).collect();
+        Pin::new(&mut self.0).poll_write(cx, &bytes)
+    }
+
+    fn is_write_vectored(&self) -> bool {
+        true
+    }
+
+    fn poll_flush(mut self: Pin<&mut Self>, cx: &mut Context<'_>) -> Poll<io::Result<()>> {
+        Pin::new(&mut self.0).poll_flush(cx)
+    }
+
+    fn poll_shutdown(mut self: Pin<&mut Self>, cx: &mut Context<'_>) -> Poll<io::Result<()>> {
+        Pin::new(&mut self.0).poll_shutdown(cx)
+    }
+}
+
+#[test]
+fn slices_are_written_as_the_stream_within_writes_them() {
+    ends(|| {
+        paused().block_on(async {
+            let (mut client, server) = duplex(8);
+            let mut server = IdleTimeouts::new().wrap(Vectored(server), IDLE);
+            assert!(server.get_ref().is_write_vectored() && server.is_write_vectored());
+            assert!(!IdleTimeouts::new().wrap(duplex(8).0, IDLE).is_write_vectored());
+            assert_eq!(server.write_vectored(&[IoSlice::new(b"pi"), IoSlice::new(b"ng")]).await.unwrap(), 4);
+            let mut heard = [0; 4];
+            client.read_exact(&mut heard).await.unwrap();
+            assert_eq!(&heard, b"ping");
+        });
+    });
+}
+
+#[test]
 fn after_the_timeout_each_call_errs_and_moves_nothing() {
     ends(|| {
         paused().block_on(async {
@@ -155,6 +218,8 @@ fn after_the_timeout_each_call_errs_and_moves_nothing() {
                 assert!(is_over(server.flush().await));
                 assert!(is_over(server.shutdown().await));
             }
+            server.get_mut().write_u8(7).await.unwrap();
+            assert_eq!(client.read_u8().await.unwrap(), 7);
             let (mut server, mut heard) = (server.into_inner(), [0; 4]);
             server.read_exact(&mut heard).await.unwrap();
             assert_eq!(&heard, b"here");
@@ -175,26 +240,13 @@ fn a_zero_timeout_is_over_at_once_and_the_longest_never() {
             assert_eq!(start.elapsed(), Duration::ZERO);
             let (_nano, mut soon) = connected(&timeouts, Duration::from_nanos(1));
             assert!(is_over(soon.read_u8().await));
-            let (mut client, mut never) = connected(&timeouts, Duration::MAX);
-            sleep(Duration::from_secs(365 * 86_400)).await;
-            client.write_u8(1).await.unwrap();
-            never.read_u8().await.unwrap();
-        });
-    });
-}
-
-#[test]
-fn an_inner_connection_that_was_taken_back_has_no_timeout() {
-    ends(|| {
-        paused().block_on(async {
-            let timeouts = IdleTimeouts::new();
-            let (mut client, mut server) = connected(&timeouts, IDLE);
-            assert!(server.get_ref().is_write_vectored() == server.is_write_vectored());
-            server.get_mut().write_u8(1).await.unwrap();
-            let mut server = server.into_inner();
-            sleep(2 * IDLE).await;
-            server.write_u8(2).await.unwrap();
-            assert_eq!(client.read_u16().await.unwrap(), 0x0102);
+            let year = Duration::from_secs(365 * 86_400);
+            let mut longest = [140 * year, Duration::MAX].map(|after| connected(&timeouts, after));
+            sleep(year).await;
+            for (client, never) in &mut longest {
+                client.write_u8(1).await.unwrap();
+                never.read_u8().await.unwrap();
+            }
         });
     });
 }

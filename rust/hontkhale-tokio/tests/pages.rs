@@ -1,6 +1,8 @@
-//! The programs of the page run. Two of them stand in it, the others are linked.
+//! The programs of the page run. Three of them stand in it, the others are linked.
 
 mod common;
+#[path = "../examples/connections.rs"]
+mod connections;
 #[path = "../examples/idle_timeouts.rs"]
 mod idle_timeouts;
 #[path = "../examples/leases.rs"]
@@ -18,6 +20,12 @@ const README: &str = include_str!("../README.md");
 fn is_in_page(program: &str) -> bool {
     let body = program.split_once("\n\n").expect("a program begins with what it is").1;
     README.contains(body)
+}
+
+#[test]
+fn connections() {
+    ends(connections::main);
+    assert!(is_in_page(include_str!("../examples/connections.rs")));
 }
 
 #[test]

@@ -3,7 +3,7 @@
 mod common;
 
 use common::{ends, ms, paused, Dice};
-use hontkhale_tokio::{builder, DelayQueue, QueueExt};
+use hontkhale_tokio::{DelayQueue, SharedQueue};
 use std::collections::BTreeMap;
 use std::future::poll_fn;
 use tokio::runtime::Runtime;
@@ -78,7 +78,7 @@ fn a_queue_that_waits_goes_on_in_the_next_runtime() {
 fn a_stream_outlives_its_runtime() {
     ends(|| {
         let first = paused();
-        let queue = first.block_on(async { builder().build() });
+        let queue = first.block_on(async { SharedQueue::new() });
         let mut stream = queue.stream();
         first.block_on(async {
             queue.insert("a", ms(10)).unwrap();
@@ -168,7 +168,7 @@ fn a_stream_goes_on_in_a_second_runtime_while_the_first_is_not_driven() {
     for has_waited in [false, true] {
         ends(move || {
             let (first, second) = (paused(), paused());
-            let queue = first.block_on(async { builder().build() });
+            let queue = first.block_on(async { SharedQueue::new() });
             let mut stream = queue.stream();
             first.block_on(async {
                 queue.insert("a", ms(10)).unwrap();
@@ -276,7 +276,7 @@ fn a_clock_beyond_the_last_tick_is_taken_as_the_last() {
         paused().block_on(async {
             let mut queue = DelayQueue::new();
             queue.insert("a", ms(10));
-            let (shared, years) = (builder().build(), std::time::Duration::from_secs(365 * 86_400));
+            let (shared, years) = (SharedQueue::new(), std::time::Duration::from_secs(365 * 86_400));
             let mut stream = shared.stream();
             shared.insert("b", ms(10)).unwrap();
             for _ in 0..8 {

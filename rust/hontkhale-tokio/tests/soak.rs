@@ -10,7 +10,8 @@ mod common;
 
 use common::{ms, Dice};
 use futures_core::Stream;
-use hontkhale_tokio::{delay_queue, DelayQueue, Handle, QueueExt, QueueStream};
+use hontkhale_tokio::shared_queue::QueueStream;
+use hontkhale_tokio::{delay_queue, DelayQueue, Handle, SharedQueue};
 use std::collections::HashMap;
 use std::future::poll_fn;
 use std::panic::{catch_unwind, resume_unwind, AssertUnwindSafe};
@@ -253,7 +254,7 @@ fn cancel(handle: &Handle, key: &delay_queue::Key, told: &Told) -> Option<Instan
 
 /// A queue that all fill, and its streams.
 struct Filled {
-    queue: hontkhale::DelayQueue<Value>,
+    queue: SharedQueue<Value>,
     known: Mutex<Vec<(hontkhale::delay_queue::Key, Arc<Told>)>>,
     start: Instant,
     ledger: Arc<Ledger>,
@@ -261,7 +262,7 @@ struct Filled {
 
 impl Filled {
     fn new(ledger: &Arc<Ledger>) -> Filled {
-        let queue = hontkhale::DelayQueue::builder().max_entries(MOST).build();
+        let queue = SharedQueue::builder().max_entries(MOST).build().into();
         Filled { queue, known: Mutex::default(), start: Instant::now(), ledger: ledger.clone() }
     }
 
@@ -285,7 +286,7 @@ impl Filled {
                 let (told_too, ledger) = (told.clone(), self.ledger.clone());
                 let value = Value { told: told_too, ledger, ends, panics: dice.below(50) == 0 };
                 // An insert that finds no room drops what was cancelled.
-                match guarded(|| self.queue.insert_at(value, when.into_std())) {
+                match guarded(|| self.queue.insert_at(value, when)) {
                     Some(Ok(key)) => {
                         let mut known = lock(&self.known);
                         if at < known.len() {
@@ -322,7 +323,7 @@ impl Filled {
             None => Poll::Ready(None),
         });
         if let Ok(Some(Some(out))) = tokio::time::timeout(ms(20), polled).await {
-            check_out(self.start, out.deadline.into(), out.value);
+            check_out(self.start, out.deadline, out.value);
         }
     }
 
@@ -339,12 +340,12 @@ impl Filled {
                 });
                 // None where a value's drop panicked amid the poll.
                 if let Some(Some(out)) = polled.await {
-                    check_out(self.start, out.deadline.into(), out.value);
+                    check_out(self.start, out.deadline, out.value);
                 }
             }
         });
         // What was cancelled and nobody freed goes with the last hold of the queue, and a panic there with the others.
-        while guarded(|| self.queue.try_recv().is_err()).is_none() {}
+        while guarded(|| self.queue.get_ref().try_recv().is_err()).is_none() {}
         let all = self.known.into_inner().unwrap_or_else(PoisonError::into_inner);
         assert!(all.iter().all(|(_, told)| told.is_dropped.load(SeqCst)), "a value is lost");
     }

@@ -5,7 +5,8 @@ mod common;
 use common::{ends, ms, paused, running, threaded, Dice};
 use hontkhale::delay_queue::ManualClock;
 use hontkhale::DelayQueue;
-use hontkhale_tokio::{builder, QueueExt, QueueStream};
+use hontkhale_tokio::shared_queue::QueueStream;
+use hontkhale_tokio::SharedQueue;
 use std::sync::atomic::{AtomicU64, Ordering::SeqCst};
 use std::sync::Arc;
 use std::thread;
@@ -22,7 +23,7 @@ fn the_types_go_between_threads() {
 fn entries_come_out_at_their_deadlines() {
     ends(|| {
         paused().block_on(async {
-            let (queue, mut dice, start) = (builder().build(), Dice(7), Instant::now());
+            let (queue, mut dice, start) = (SharedQueue::new(), Dice(7), Instant::now());
             let mut stream = queue.stream();
             let mut whens: Vec<u64> = (0..2_000).map(|_| dice.below(100_000)).collect();
             for &when in &whens {
@@ -43,7 +44,7 @@ fn entries_come_out_at_their_deadlines() {
 fn a_sooner_insert_or_reset_from_another_task_wakes() {
     ends(|| {
         paused().block_on(async {
-            let (queue, start) = (builder().build(), Instant::now());
+            let (queue, start) = (SharedQueue::new(), Instant::now());
             let mut stream = queue.stream();
             let other = queue.clone();
             tokio::spawn(async move {
@@ -69,7 +70,7 @@ fn a_sooner_insert_or_reset_from_another_task_wakes() {
 fn a_stream_that_is_dropped_amid_its_wait_leaves_everything() {
     ends(|| {
         paused().block_on(async {
-            let queue = builder().build();
+            let queue = SharedQueue::new();
             for value in 0..100 {
                 queue.insert(value, ms(10 + value)).unwrap();
             }
@@ -90,7 +91,7 @@ fn a_stream_whose_clock_stands_still_leaves_their_turn_to_others() {
     ends(|| {
         running().block_on(async {
             let clock = ManualClock::new();
-            let queue = DelayQueue::builder().clock(&clock).build();
+            let queue = SharedQueue::from(DelayQueue::builder().clock(&clock).build());
             queue.insert("late", ms(5)).unwrap();
             let mut stream = queue.stream();
             let late = tokio::spawn(async move { stream.next().await.map(|out| out.value) });
@@ -105,7 +106,7 @@ fn a_stream_whose_clock_stands_still_leaves_their_turn_to_others() {
 fn an_insert_from_another_thread_wakes() {
     ends(|| {
         threaded(2).block_on(async {
-            let queue = DelayQueue::new();
+            let queue = SharedQueue::new();
             let mut stream = queue.stream();
             for round in 0..2_000u64 {
                 let other = queue.clone();
@@ -113,7 +114,7 @@ fn an_insert_from_another_thread_wakes() {
                     other.insert(round, Duration::from_micros(round % 1_500)).unwrap();
                 });
                 let out = timeout(Duration::from_secs(60), stream.next()).await.expect("it is woken").unwrap();
-                assert!(out.value == round && out.deadline <= std::time::Instant::now());
+                assert!(out.value == round && out.deadline <= Instant::now());
                 thread.join().unwrap();
             }
         });
@@ -125,7 +126,7 @@ fn an_insert_from_another_thread_wakes() {
 fn four_threads_beside_streams_that_come_and_go() {
     const EACH: u64 = 20_000;
     ends(|| {
-        let queue = DelayQueue::new();
+        let queue = SharedQueue::new();
         let (count, sum) = (Arc::new(AtomicU64::new(0)), Arc::new(AtomicU64::new(0)));
         threaded(4).block_on(async {
             let tasks: Vec<_> = (0..4)
@@ -137,7 +138,7 @@ fn four_threads_beside_streams_that_come_and_go() {
                             for _ in 0..1_000 {
                                 match timeout(ms(3), stream.next()).await {
                                     Ok(Some(out)) => {
-                                        assert!(out.deadline <= std::time::Instant::now());
+                                        assert!(out.deadline <= Instant::now());
                                         count.fetch_add(1, SeqCst);
                                         sum.fetch_add(out.value, SeqCst);
                                     }

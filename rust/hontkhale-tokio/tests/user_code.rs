@@ -4,7 +4,7 @@ mod common;
 
 use common::{ends, ms, paused, Wakes};
 use futures_core::Stream;
-use hontkhale_tokio::{builder, delay_queue::Key, DelayQueue, Handle, QueueExt};
+use hontkhale_tokio::{delay_queue::Key, DelayQueue, Handle, SharedQueue};
 use std::future::poll_fn;
 use std::panic::{catch_unwind, AssertUnwindSafe};
 use std::pin::Pin;
@@ -209,7 +209,7 @@ fn calling(call: Arc<Call>) -> Waker {
 fn a_streams_waker_calls_the_queue() {
     ends(|| {
         paused().block_on(async {
-            let (queue, start) = (builder().build(), tokio::time::Instant::now().into_std());
+            let (queue, start) = (SharedQueue::new(), tokio::time::Instant::now());
             let mut stream = queue.stream();
             let (filled, calls) = (queue.clone(), Arc::new(AtomicUsize::new(0)));
             let left = calls.clone();
@@ -242,7 +242,7 @@ fn a_streams_waker_calls_the_queue() {
 
 #[test]
 fn the_drop_of_a_cancelled_value_calls_the_queue_of_the_stream() {
-    struct Inserts(hontkhale::DelayQueue<Option<Inserts>>);
+    struct Inserts(SharedQueue<Option<Inserts>>);
     impl Drop for Inserts {
         fn drop(&mut self) {
             let _ = self.0.insert(None, ms(1));
@@ -250,7 +250,7 @@ fn the_drop_of_a_cancelled_value_calls_the_queue_of_the_stream() {
     }
     ends(|| {
         paused().block_on(async {
-            let queue = builder().build();
+            let queue = SharedQueue::new();
             let mut stream = queue.stream();
             let key = queue.insert(Some(Inserts(queue.clone())), ms(5)).unwrap();
             queue.cancel(&key).unwrap();
