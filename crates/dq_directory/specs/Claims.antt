@@ -9,9 +9,9 @@ pub record Claimed (X : Type 0) : Type 0 where
   pub thing : X
   pub row : ℕ
 
--- the claim is of this directory
+-- the claim is of this directory: of the row in which its number stands there
 abbrev pub IsOf : {X : Type 0} → List Named → Claimed X → Type 0
-IsOf rows c = (k j : ℕ) → StandsAt c.number k j → c.row ≡ name_at rows k
+IsOf rows c = (k : ℕ) × (j : ℕ) × StandsAt c.number k j × (c.row ≡ name_at rows k)
 
 -- whose directory it is, how many numbers were given, and how many may be
 pub record Desk : Type 0 where

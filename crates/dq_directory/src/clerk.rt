@@ -67,7 +67,7 @@ impl<X: Drop, A: Allocator + Clone> Clerk<X, A> {
     /// - `NoMemory` if memory is refused.
     pub fn add(&mut self, thing: X) -> Result<Claim<X, A>, (AddError, X)>
         ensures next { IfOk result (λ c. c.number ≡ self.old.given) }
-        ensures claim { IfOk result (λ c. IsOf self.new.rows c × (c.thing ≡ thing)) }
+        ensures claim { IfOk result (λ c. IsOf self.old.rows c × (c.thing ≡ thing)) }
         ensures one_more { OnOk result (self.new.given ≡ self.old.given + 1) }
         ensures room { OnOk result (self.old.given < self.old.most) }
         ensures why { IfErr result (λ e. e.0 ≡ why_refused self.old) }

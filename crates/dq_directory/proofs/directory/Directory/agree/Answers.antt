@@ -1,16 +1,17 @@
 use Rattle.std.proofs.Common.{◌≡◌, ℕ, sym, ap, subst, ◌∙◌}
 use Rattle.dq_directory.specs.Rows.{StandsAt, name_at}
 use Rattle.dq_directory.specs.Claims.{Claimed}
+use Rattle.dq_directory.proofs.Places.{one_row}
 use Rattle.dq_directory.proofs.directory.Directory.agree.Goals as goal
 
 pub agrees-requires : goal.agrees-requires
 agrees-requires g c =
-    let row = c.locate.result.0 in
-    let place = c.locate.result.1 in
-    let one : c.one.inside.number ≡ c.args.one.now.number = ap (λ (w : Claimed _). w.number) c.one.view_is in
-    let at = subst (λ (n : ℕ). StandsAt n row place) one c.locate.ensures in
-    let there = subst (λ (n : ℕ). StandsAt n row place) c.requires.number at in
-    ap (λ (w : Claimed _). w.row) c.one.view_is ∙ c.requires.one row place at ∙ sym (ap (λ (w : Claimed _). w.row) c.other.view_is ∙ c.requires.other row place there)
+    let one = c.requires.one in
+    let other = c.requires.other in
+    let there = subst (λ (n : ℕ). StandsAt n other.0 other.1) (sym c.requires.number) other.2 in
+    let same = one_row c.args.one.now.number one.0 one.1 other.0 other.1 one.2 there in
+    ap (λ (w : Claimed _). w.row) c.one.view_is ∙ one.3 ∙ ap (name_at c.args.self.now) same
+    ∙ sym (ap (λ (w : Claimed _). w.row) c.other.view_is ∙ other.3)
 
 pub agrees-requires-2 : goal.agrees-requires-2
 agrees-requires-2 g c =

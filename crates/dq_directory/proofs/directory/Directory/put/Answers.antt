@@ -1,6 +1,6 @@
 use Rattle.std.proofs.Common.{rules, ◌≡◌, refl, sym, ap, ◌∙◌}
 use Rattle.dq_directory.specs.Rows.{name_at}
-use Rattle.dq_directory.proofs.Places.{one_row, one_place, name_is}
+use Rattle.dq_directory.proofs.Places.{one_place, name_is}
 use Rattle.dq_directory.proofs.directory.Directory.put.Goals as goal
 
 pub invariant_of-result : goal.invariant_of-result
@@ -14,13 +14,9 @@ invariant_of-result g c =
     (c.requires, λ k j at. of ∙ sym (ap (name_at places) (one_place c.args.number k j row place at c.locate-at.ensures) ∙ named))
 
 pub returns-in-Ok-clause-claim : goal.returns-in-Ok-clause-claim
-returns-in-Ok-clause-claim g c = (
-  (λ k j at.
-      let row = c.locate-at.result.0 in
-      let rows = c.args.self.now in
-      let named : name_at rows row ≡ c.index.result.now.id = name_is rows row c.index.result.now (search rules) (search rules) in
-      let of : c.in-Some.row.of ≡ c.index.result.now.id = search rules in
-      of ∙ sym (ap (name_at rows) (one_row c.args.number k j row c.locate-at.result.1 at c.locate-at.ensures) ∙ named)),
-  refl,
-  search rules,
-)
+returns-in-Ok-clause-claim g c =
+    let row = c.locate-at.result.0 in
+    let rows = c.args.self.now in
+    let named : name_at rows row ≡ c.index.result.now.id = name_is rows row c.index.result.now (search rules) (search rules) in
+    let of : c.in-Some.row.of ≡ c.index.result.now.id = search rules in
+    ((row, c.locate-at.result.1, c.locate-at.ensures, of ∙ sym named), refl, search rules)
