@@ -152,11 +152,22 @@ fn no_entry_of_the_cache_is_shown_from_its_deadline_on() {
     while client.ask("count") != "0" {
         assert!(begun.elapsed() < LONG, "what has expired is never freed");
     }
-    // A name that comes back is its own, whatever becomes of the old one.
-    for _ in 0..200 {
-        client.says("put page 1 old => ok");
-        clock.advance(SECOND / 1_000);
-        client.says("put page 60000 new => ok\nget page => value new\ndrop page => ok");
-    }
     client.says("get => that isn't known\nput page x text => a number is wanted");
+}
+
+/// A name comes back while the thread that frees what has expired has its old entry in hand.
+#[test]
+fn a_name_that_comes_back_is_not_freed_with_its_old_entry() {
+    let clock = ManualClock::new();
+    let cache = Cache::new(DelayQueue::builder().clock(&clock).build());
+    for round in 0..20_000 {
+        assert!(cache.put("page", SECOND / 1_000, "old"));
+        clock.advance(SECOND / 1_000);
+        for _ in 0..round % 100 {
+            std::hint::spin_loop();
+        }
+        assert!(cache.put("page", SECOND, "new"));
+        assert_eq!(cache.get("page").as_deref(), Some("new"));
+        assert!(cache.remove("page"));
+    }
 }
