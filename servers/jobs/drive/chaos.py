@@ -154,6 +154,8 @@ def holders(it, hosts, seed):
         "CREATE OR REPLACE TRIGGER note_given AFTER UPDATE ON jobs FOR EACH ROW WHEN (OLD.state = 'waiting' AND "
         "NEW.state = 'running') EXECUTE FUNCTION note_given()"
     )
+    # Those that fail again and again are tried again soon.
+    it.sql("INSERT INTO jobs_kinds (kind, most_delay) VALUES ('', 2) ON CONFLICT DO NOTHING")
     it.jobs("enqueue", "1500", "--spread", str(SECONDS * 1000))
     holding = [Holding([host.address for host in hosts], f"{seed} {number}") for number in range(12)]
     for thread in holding:

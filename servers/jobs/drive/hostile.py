@@ -1,7 +1,7 @@
 """What does harm, and what stalls.
 
-Workers of one name, clocks that are wrong, great payloads, floods, bad jobs, clients that say nonsense, links that are cut, rows
-that others have locked, statements that are too slow: whoever isn't concerned goes on, and whoever is does so soon after it.
+Clocks that are wrong, great payloads, floods, clients that say nonsense, links that are cut, rows
+that others have locked: whoever isn't concerned goes on, and whoever is does so soon after it.
 """
 import contextlib
 import glob
@@ -20,16 +20,6 @@ from holder import GONE, Connection, Holder, Refusal, packed, replaced
 from links import Apart, Wire
 
 MEBIBYTE = 1 << 20
-
-
-def one_name(it):
-    empty(it)
-    workers = [it.spawn("worker", "--name", "twin", "--effect", EFFECT) for _ in range(2)]
-    it.wait_for_owners(2)
-    it.jobs("enqueue", "5000", "--spread", "3000")
-    exactly_once(it, 5000)
-    end(*workers)
-    print("hostile: two workers of one name shared 5,000 jobs, each done once", flush=True)
 
 
 def shifted(**more):
@@ -202,31 +192,6 @@ def flood(it):
     )
 
 
-def bad_job(it):
-    empty(it)
-    effect = "INSERT INTO effects (job) SELECT id / (payload <> 'bad')::int FROM taken"
-    worker = it.spawn("worker", "--effect", effect, "--attempts", "2")
-    it.wait_for_owners(1)
-    it.sql(
-        "INSERT INTO jobs (due, payload) SELECT now() + interval '1 second', CASE WHEN i % 100 = 0 THEN 'bad' "
-        "ELSE 'good' END "
-        "FROM generate_series(1, 1000) i"
-    )
-
-    def settled():
-        """the good ones are done and the bad ones dead"""
-        return it.sql("SELECT state, attempt, payload, count(*) FROM jobs GROUP BY 1, 2, 3 ORDER BY 1") == [
-            ["dead", "2", "bad", "10"],
-            ["done", "1", "good", "990"],
-        ]
-
-    wait_for(settled)
-    assert it.sql("SELECT DISTINCT error FROM jobs WHERE state = 'dead'") == [["division by zero (22012)"]]
-    assert it.number("SELECT count(DISTINCT job) FROM effects") == it.number("SELECT count(*) FROM effects") == 990
-    end(worker)
-    print("hostile: 10 bad jobs among 990 good ones are dead after 2 attempts, and the good ones done once", flush=True)
-
-
 def selected_effect(it):
     """An effect that is a SELECT of a function."""
     empty(it)
@@ -330,28 +295,6 @@ def silent_clients(it):
     end(worker)
     resource.setrlimit(resource.RLIMIT_NOFILE, (soft, hard))
     print(f"hostile: beside {count} silent connections, of which some were refused, 20 leases went on", flush=True)
-
-
-def jobs_elsewhere(it):
-    """Two workers, and a holder that asks one alone: it is sent to the other, and all jobs are given out."""
-    empty(it)
-    ports = [free_port() for _ in range(2)]
-    workers = [it.spawn("worker", "--listen", f"127.0.0.1:{port}") for port in ports]
-    it.wait_for_owners(2)
-    it.jobs("enqueue", "100")
-    address, given, moved = f"127.0.0.1:{ports[0]}", set(), 0
-    until = time.monotonic() + HANG
-    while len(given) < 100:
-        assert time.monotonic() < until, f"{len(given)} of 100 jobs were given"
-        reply = Connection(address).call("JOBS.TAKE", 10, "WAIT", 2000)
-        if isinstance(reply, Refusal):
-            assert reply.startswith("MOVED "), reply
-            address = reply.split()[2]
-            moved += 1
-        else:
-            given.update(job[0] for job in reply)
-    end(*workers)
-    print(f"hostile: a holder that asked one of two workers was sent on {moved} times, and had all 100", flush=True)
 
 
 def great_payloads(it):
@@ -468,38 +411,6 @@ def cut_link(it, seconds=30):
         assert new > 0, "the worker waits for sessions that it had before its link was cut"
         end(worker)
     print(f"hostile: a link was cut for {seconds} s; all jobs were done, once, {took:.1f} s after it", flush=True)
-
-
-def slow_effect(it):
-    """One job of many is too slow for the limit of a statement."""
-    empty(it)
-    it.sql("ALTER ROLE jobs SET statement_timeout = '1s'")
-    effect = (
-        "INSERT INTO effects (job) SELECT id FROM taken, LATERAL (SELECT pg_sleep(CASE payload WHEN 'slow' THEN 60 "
-        "ELSE 0 END)) it"
-    )
-    worker = it.spawn("worker", "--effect", effect, "--attempts", "2", "--statement-timeout", "1000")
-    it.wait_for_owners(1)
-    # On a busy machine a fast one may be too slow too, by itself. It has more attempts.
-    it.sql(
-        "INSERT INTO jobs (due, payload, attempts) SELECT now() + interval '1 second', CASE WHEN i = 70 THEN 'slow' ELSE '' "
-        "END, CASE WHEN i = 70 THEN 2 ELSE 100 END FROM generate_series(1, 200) i"
-    )
-
-    def settled():
-        """the fast ones are done and the slow one is dead"""
-        return it.sql("SELECT state, payload, count(*) FROM jobs GROUP BY 1, 2 ORDER BY 1") == [
-            ["dead", "slow", "1"],
-            ["done", "", "199"],
-        ]
-
-    wait_for(settled)
-    assert it.number("SELECT attempt FROM jobs WHERE payload = 'slow'") == 2
-    again = it.number("SELECT count(*) FROM jobs WHERE payload = '' AND attempt > 1")
-    assert again < 20, f"{again:.0f} fast jobs lost an attempt by the slow one"
-    end(worker)
-    it.sql("ALTER ROLE jobs RESET statement_timeout")
-    print("hostile: one job of 200 is too slow: it is dead after 2 attempts, and the others are done", flush=True)
 
 
 def vanished_host(it):
@@ -752,15 +663,15 @@ def main(quick):
         print(f"hostile: {case.__name__} isn't run, since only root makes network namespaces", flush=True)
     with cluster() as it:
         for case in [
-            *[one_name, wrong_clock, great_payload, lost_lock, flood, bad_job, selected_effect, row_without_lease],
-            *[broken_effect, web_page, silent_clients, jobs_elsewhere, great_payloads, taken_away],
+            *[wrong_clock, great_payload, lost_lock, flood, selected_effect, row_without_lease, broken_effect, web_page],
+            *[silent_clients, great_payloads, taken_away],
         ]:
             case(it)
         full_table(it, 100_000 if quick else 1_000_000)
     with cluster() as it:
         for case in [
             *[vanished_host, frozen_host, locked_rows, locked_lease, told_deadline, two_schemas, expiry_behind_a_lock],
-            *[old_snapshot, old_statistics, cut_link, slow_effect],
+            *[old_snapshot, old_statistics, cut_link],
         ]:
             if case not in apart:
                 case(it)

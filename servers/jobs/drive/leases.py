@@ -4,9 +4,7 @@ How long the machine itself made things wait is measured and told, and isn't hel
 """
 import random
 import re
-import signal
 import sys
-import time
 import urllib.request
 
 from cluster import HANG, MANY, cluster, free_port, wait_for
@@ -60,18 +58,6 @@ def metric(port, name):
         return float(re.search(rf"^{name} (\S+)$", answer.read().decode(), re.M)[1])
 
 
-class Lag:
-    """How long the database lets a trivial statement wait, at worst."""
-
-    def __init__(self, it):
-        self.it, self.worst = it, 0.0
-
-    def look(self):
-        begun = time.monotonic()
-        self.it.sql("SELECT 1")
-        self.worst = max(self.worst, time.monotonic() - begun)
-
-
 def epoch(it, what, jobs):
     ids = ",".join(str(job.id) for job in jobs)
     rows = it.sql(f"SELECT id, {what} FROM jobs WHERE id IN ({ids})")
@@ -85,17 +71,16 @@ def silent_and_beating(it):
     workers = Workers(it, 3)
     it.wait_for_owners(3)
     it.jobs("enqueue", "300")
-    holder, lag = Holder(workers.addresses), Lag(it)
+    holder = Holder(workers.addresses)
     jobs = holder.take(300)
     silent, beating = jobs[::2], jobs[1::2]
     ends = epoch(it, UNTIL, silent)
     assert len(ends) == 150, f"{len(ends)} of 150 leases stand in the table"
-    holder.beat_for(beating, LEASE + INTERVAL, BEAT, lag.look)
+    holder.beat_for(beating, LEASE + INTERVAL, BEAT)
 
     def all_replaced():
         """each silent holder is replaced"""
         holder.beat(beating)
-        lag.look()
         return len(epoch(it, "extract(epoch FROM ended)", silent)) == len(silent)
 
     wait_for(all_replaced, every=BEAT)
@@ -106,8 +91,7 @@ def silent_and_beating(it):
     kept = len(beating)
     print(
         f"leases: 150 silent holders lost theirs {after[0] * 1000:.1f} to {after[-1] * 1000:.1f} ms after the "
-        f"lease of {LEASE:g} s, "
-        f"and {kept} of 150 that beat kept theirs; the database answered within {lag.worst * 1000:.0f} ms",
+        f"lease of {LEASE:g} s, and {kept} of 150 that beat kept theirs",
         flush=True,
     )
     fencing(it, holder, silent, beating)
@@ -194,63 +178,6 @@ def death(it, workers, holder, beating, moment):
     return beating
 
 
-def outage(it, workers, holder, beating):
-    """The database is stopped hard and started: holders that beat are not replaced, for their worker lives."""
-    holder.beat(beating)
-    before = workers.owners()
-    it.stop("immediate")
-    holder.beat_for(beating, LEASE + 1, BEAT)
-    it.start()
-    holder.beat_for(beating, LEASE + 4, BEAT)
-    it.wait_for_owners(3)
-    after = workers.owners()
-    # A worker that the machine kept from coming back in time has lost partitions to others.
-    moved = {partition for partition in before if before[partition] != after[partition]}
-    lost = [job for job in beating if job.refused and job.id % 64 not in moved]
-    assert not lost, f"{len(lost)} holders were replaced though they beat and their worker owns the partition"
-    rows = it.number("SELECT count(*) FROM jobs WHERE state = 'running' AND attempt = 1")
-    print(
-        f"leases: the database was away for longer than a lease; {rows:.0f} of {len(beating)} that beat through "
-        "it kept theirs, and "
-        f"{len(moved)} of 64 partitions went to another worker",
-        flush=True,
-    )
-
-
-def stopped(it, workers, holder, beating):
-    """A worker is stopped and its partitions go to others: when it goes on, it changes nothing."""
-    owners = workers.owners()
-    victim = owners[beating[0].id % 64]
-    theirs = [job for job in beating if owners[job.id % 64] == victim]
-    old = Connection(workers.addresses[victim])
-    workers.running[victim].send_signal(signal.SIGSTOP)
-
-    def taken_over():
-        """others own its partitions"""
-        owners = workers.owners()
-        return len(owners) == 64 and victim not in owners.values()
-
-    wait_for(taken_over)
-    # Nobody beats: the leases end, and the jobs are given out by the new owners.
-    others = [it for number, it in enumerate(workers.addresses) if number != victim]
-    again = Holder(others).take(len(theirs))
-    before = it.sql("SELECT id, attempt, state FROM jobs ORDER BY id")
-    workers.running[victim].send_signal(signal.SIGCONT)
-    replies = old.calls([(word, job.id, job.attempt) for job in theirs for word in ("JOBS.BEAT", "JOBS.DONE")])
-    accepted = [reply for reply in replies if not isinstance(reply, Refusal)]
-    assert not accepted, f"a worker that was stopped accepted {accepted[:3]}"
-    assert (
-        it.sql("SELECT id, attempt, state FROM jobs ORDER BY id") == before
-    ), "a worker that was stopped changed a job"
-    print(
-        f"leases: a worker was stopped beyond its session; {len(again)} jobs went on elsewhere, and awake it "
-        "accepted no word of "
-        f"{len(replies)}",
-        flush=True,
-    )
-    it.wait_for_owners(3)
-
-
 def dead_letters(it):
     it.sql("TRUNCATE jobs")
     workers = Workers(it, 1, "--attempts", "2", lease=HANG)
@@ -276,11 +203,6 @@ def main(quick):
         for _ in range(1 if quick else 4):
             beating = [job for job in beating if job.refused is None]
             beating = death(it, workers, holder, beating, draws.uniform(0, INTERVAL))
-        if not quick:
-            beating = [job for job in beating if job.refused is None]
-            outage(it, workers, holder, beating)
-            beating = [job for job in beating if job.refused is None]
-            stopped(it, workers, holder, beating)
         for process in workers.running:
             process.terminate()
         assert [process.wait(HANG) for process in workers.running] == [0, 0, 0], "a drained worker ends well"

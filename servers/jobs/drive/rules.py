@@ -1,7 +1,7 @@
 """What the tables' rules do: kinds that are paused, bounded, many or changed, jobs that are cancelled or deleted, workers of two
 sorts, holders that are silent, and names and numbers as long as they may be."""
+import signal
 import subprocess
-import time
 
 from cluster import EFFECT, HANG, LONG, WAIT, cluster, empty, end, exactly_once, free_port, run, wait_for
 from holder import Connection, Refusal
@@ -28,11 +28,11 @@ def sorts(it):
     (left,) = [worker for worker in both if worker.poll() is None]
     it.wait_for_owners(1)
     # It stands still until its terms are over, and another of the other sort comes meanwhile: awake it ends.
-    left.send_signal(subprocess.signal.SIGSTOP)
+    left.send_signal(signal.SIGSTOP)
     words = ["--effect", EFFECT] if left is both[1] else ["--listen", f"127.0.0.1:{free_port()}"]
     new = it.spawn("worker", *words)
     it.wait_for_number(f"SELECT count(*) FROM jobs_workers WHERE until > now() AND (address = '-') = {left is both[1]}", 1)
-    left.send_signal(subprocess.signal.SIGCONT)
+    left.send_signal(signal.SIGCONT)
     wait_for(lambda: left.poll() == 1)
     it.wait_for_owners(1)
     end(new)
@@ -218,15 +218,20 @@ def bounded(it):
     end(*workers)
     # A worker that has an effect has one statement of the kind at a time.
     empty(it)
-    it.sql("CREATE TABLE at_once (job bigint, others bigint)")
+    it.sql("CREATE TABLE at_once (job bigint, statement text, at timestamptz)")
     effect = (
-        "INSERT INTO at_once SELECT id, (SELECT count(*) FROM pg_locks WHERE locktype = 'advisory' AND classid = 77) "
-        "FROM taken, LATERAL (SELECT pg_try_advisory_xact_lock(77, id::int), pg_sleep(0.01)) it"
+        "INSERT INTO at_once SELECT id, pg_current_xact_id(), clock_timestamp() "
+        "FROM taken, LATERAL (SELECT pg_sleep(0.005 + 0 * id)) it"
     )
     it.sql("INSERT INTO jobs (kind, due) SELECT 'slow', now() + i * interval '2 ms' FROM generate_series(1, 300) i")
     workers = [it.spawn("worker", "--effect", effect) for _ in range(2)]
     it.wait_for_number("SELECT count(*) FROM jobs WHERE state = 'done'", 300)
-    assert it.number("SELECT count(DISTINCT job) FROM at_once") == 300
+    # Each statement's effects stand together where none was had beside it.
+    rows = it.sql(
+        "SELECT count(DISTINCT job), count(DISTINCT statement), count(*) FILTER (WHERE statement IS DISTINCT FROM before) "
+        "FROM (SELECT *, lag(statement) OVER (ORDER BY at) AS before FROM at_once) it"
+    )
+    assert rows[0][0] == "300" and rows[0][1] == rows[0][2], rows
     end(*workers)
     it.sql("DELETE FROM jobs_kinds")
     print(f"rules: {most:.0f} of a bounded kind ran at a time, and 50 others beside 200,000 of it", flush=True)
@@ -272,13 +277,10 @@ def delays(it):
 
 
 def main():
-    import sys
     with cluster() as it:
         cases = [sorts, many_kinds, silent, ends, cancelled, changed_kind, paused, bounded, long_names, pruned, delays]
-        for case in [c for c in cases if not sys.argv[1:] or c.__name__ in sys.argv[1:]]:
-            begun = time.monotonic()
+        for case in cases:
             case(it)
-            print(f"{case.__name__} {time.monotonic() - begun:.1f} s", flush=True)
 
 
 if __name__ == "__main__":

@@ -78,40 +78,6 @@ BEGIN ATOMIC
     );
 END;
 
--- STEP: how long a job waits for its next attempt.
-CREATE OR REPLACE FUNCTION jobs_delay(attempt integer, kind text) RETURNS interval STABLE
-BEGIN ATOMIC
-    SELECT interval '1 second' * coalesce(
-        (SELECT least(power(2, least(attempt - 1, 60)) * k.first_delay, k.most_delay)
-            FROM jobs_kinds k WHERE k.kind = jobs_delay.kind),
-        least(power(2, least(attempt - 1, 60)), 600)
-    );
-END;
-
--- STEP: the workers of this table alone are told, by a channel of the table's number.
-CREATE OR REPLACE FUNCTION jobs_tell() RETURNS trigger LANGUAGE plpgsql AS $$
-DECLARE
-    near integer;
-    told text;
-BEGIN
-    SELECT count(*), string_agg(concat_ws(' ', id, (extract(epoch FROM due) * 1000000)::bigint, priority, kind), ',')
-    INTO near, told
-    FROM (
-        SELECT id, due, priority, kind FROM enqueued
-        WHERE state = 'waiting' AND due < clock_timestamp() + interval '600 milliseconds'
-        LIMIT 101
-    ) soon;
-    IF near > 100 THEN
-        -- Too many to be listed: whoever hears it reads the table.
-        told := '*';
-    END IF;
-    IF near > 0 THEN
-        PERFORM pg_notify('jobs_' || TG_RELID, told);
-    END IF;
-    RETURN NULL;
-END
-$$;
-
 -- STEP: an index whose making was broken off is made again.
 DO $$ BEGIN
     IF EXISTS (SELECT FROM pg_index WHERE indexrelid = to_regclass('jobs_over') AND NOT indisvalid) THEN
@@ -161,53 +127,3 @@ BEGIN
     RETURN found;
 END
 $$;
-
--- STEP: the first time of a schedule after another.
-CREATE OR REPLACE FUNCTION jobs_next(cron text, zone text, since timestamptz) RETURNS timestamptz
-LANGUAGE plpgsql STABLE AS $$
-DECLARE
-    fields text[] := regexp_split_to_array(btrim(cron), '\s+');
-    today timestamp := date_trunc('day', since AT TIME ZONE zone);
-    days integer[];
-    weekdays integer[];
-    found timestamptz;
-BEGIN
-    IF array_length(fields, 1) <> 5 THEN
-        RAISE EXCEPTION 'a schedule has five fields: %', cron;
-    END IF;
-    days := jobs_cron_field(fields[3], 1, 31);
-    weekdays := jobs_cron_field(fields[5], 0, 7);
-    SELECT min(at) INTO found
-    FROM (
-        SELECT (day + make_interval(hours => hour, mins => minute)) AT TIME ZONE zone AS at
-        FROM (
-            SELECT day FROM generate_series(today, today + interval '9 years', interval '1 day') day
-            WHERE extract(month FROM day)::integer = ANY (jobs_cron_field(fields[4], 1, 12))
-                -- Where both days are named, either will do.
-                AND CASE WHEN fields[3] <> '*' AND fields[5] <> '*'
-                    THEN extract(day FROM day)::integer = ANY (days)
-                        OR weekdays && ARRAY[extract(dow FROM day)::integer, extract(isodow FROM day)::integer]
-                    ELSE extract(day FROM day)::integer = ANY (days)
-                        AND weekdays && ARRAY[extract(dow FROM day)::integer, extract(isodow FROM day)::integer]
-                END
-            ORDER BY day LIMIT 3
-        ) days,
-        unnest(jobs_cron_field(fields[2], 0, 23)) hour, unnest(jobs_cron_field(fields[1], 0, 59)) minute
-    ) times
-    WHERE at > since;
-    IF found IS NULL THEN
-        RAISE EXCEPTION 'a schedule that never comes: %', cron;
-    END IF;
-    RETURN found;
-END
-$$;
-
--- STEP
-CREATE OR REPLACE FUNCTION jobs_plan() RETURNS trigger LANGUAGE plpgsql AS $$
-BEGIN
-    NEW.next := jobs_next(NEW.cron, NEW.zone, clock_timestamp());
-    RETURN NEW;
-END
-$$;
-CREATE OR REPLACE TRIGGER jobs_plan BEFORE INSERT OR UPDATE OF cron, zone ON jobs_schedules
-FOR EACH ROW EXECUTE FUNCTION jobs_plan();

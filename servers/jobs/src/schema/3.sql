@@ -91,6 +91,8 @@ BEGIN
     RETURN NEW;
 END
 $$;
+CREATE OR REPLACE TRIGGER jobs_plan BEFORE INSERT OR UPDATE OF cron, zone ON jobs_schedules
+FOR EACH ROW EXECUTE FUNCTION jobs_plan();
 
 -- STEP: an index whose making was broken off is made again.
 DO $$ BEGIN
@@ -153,7 +155,7 @@ BEGIN
 END
 $$;
 
--- STEP: as before; what doesn't fit into a notification is read in the table.
+-- STEP: the workers of this table alone are told, by a channel of its number. What doesn't fit is read in the table.
 CREATE OR REPLACE FUNCTION jobs_tell() RETURNS trigger LANGUAGE plpgsql AS $$
 DECLARE
     near integer;
