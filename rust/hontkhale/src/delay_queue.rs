@@ -26,7 +26,7 @@ pub use handle::{Handle, Timeout};
 pub use key::Key;
 pub use receive::{Drain, Iter, TryIter};
 pub use receiver::Receiver;
-pub use stats::Stats;
+pub use stats::{Metrics, Stats};
 pub use time::ManualClock;
 
 use shared::{Shared, Step};
@@ -506,7 +506,8 @@ impl<T> DelayQueue<T> {
             .map(|tick| self.shared.front.time.moment(tick))
     }
 
-    /// What a server watches: how much waits, how late it is, and what is held. It takes the lock of each shard in turn.
+    /// What a server watches: how much came and went, how much waits, how late it is, and what is held. It takes the lock of each
+    /// shard in turn.
     ///
     /// ```
     /// use hontkhale::delay_queue::ManualClock;
@@ -523,6 +524,11 @@ impl<T> DelayQueue<T> {
     /// ```
     pub fn stats(&self) -> Stats {
         self.shared.stats()
+    }
+
+    /// Begins `latest` and `lateness` of the [`stats`](DelayQueue::stats) anew. It takes the lock of each shard in turn.
+    pub fn reset_lateness(&self) {
+        self.shared.reset_lateness();
     }
 
     /// Takes memory for so many entries in all, those that wait among them, and keeps it for good. While fewer wait, no

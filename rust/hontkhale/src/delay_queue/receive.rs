@@ -50,14 +50,12 @@ impl<T> Shared<T> {
     ) -> Result<R, RecvTimeoutError> {
         loop {
             self.tidy();
-            // It is asked first: what was put in before a close, or was due in time, comes out.
-            let over = self.over(until);
             if let Some(taken) = take() {
                 return Ok(taken);
             }
-            if let Some(over) = over {
-                self.tidy();
-                return Err(over);
+            if let Some(over) = self.over(until) {
+                // What was put in before a close, or was due in time, comes out.
+                return self.taken_last(take).ok_or(over);
             }
             self.use_quiet_moment();
             if let Some(taken) = self.wait_in_line(until, &mut take) {
@@ -217,7 +215,9 @@ impl<T> Shared<T> {
         loop {
             match shard.poll(now, whole) {
                 Piece::Answer(Turn::Out(out)) => {
-                    latest = latest.max(now.saturating_sub(out.deadline));
+                    let late = now.saturating_sub(out.deadline);
+                    shard.count_late(late);
+                    latest = latest.max(late);
                     known = (out.deadline, self.front.time.moment_after(out.deadline, known));
                     if more(self.expired(room.at, out, known.1)) {
                         continue;
@@ -285,7 +285,8 @@ impl<T> Shared<T> {
 
     pub fn try_receive(&self) -> Result<Expired<T>, TryRecvError> {
         self.tidy();
-        self.take_one().map_or_else(|| self.taken_last(|| self.take_one()), Ok)
+        self.take_one()
+            .map_or_else(|| self.nothing_taken(|| self.take_one()), Ok)
     }
 
     pub fn try_receive_many(&self, row: &mut Vec<Expired<T>>, most: usize) -> Result<usize, TryRecvError> {
@@ -294,18 +295,28 @@ impl<T> Shared<T> {
         }
         self.tidy();
         self.take_some(row, most)
-            .map_or_else(|| self.taken_last(|| self.take_some(row, most)), Ok)
+            .map_or_else(|| self.nothing_taken(|| self.take_some(row, most)), Ok)
     }
 
     /// Why nothing is taken where nothing was due; or what was put in since, just before a close.
-    fn taken_last<R>(&self, take: impl FnOnce() -> Option<R>) -> Result<R, TryRecvError> {
+    fn nothing_taken<R>(&self, take: impl FnMut() -> Option<R>) -> Result<R, TryRecvError> {
         // What was freed is dropped while nothing is in hand.
         self.use_quiet_moment();
         if self.front.bell.is_closed() {
-            take().ok_or(TryRecvError::Closed)
+            self.taken_last(take).ok_or(TryRecvError::Closed)
         } else {
             Err(TryRecvError::Empty)
         }
+    }
+
+    /// What is taken by a last look. What was freed is dropped where that is nothing.
+    #[cold]
+    fn taken_last<R>(&self, mut take: impl FnMut() -> Option<R>) -> Option<R> {
+        let taken = take();
+        if taken.is_none() {
+            self.tidy();
+        }
+        taken
     }
 }
 

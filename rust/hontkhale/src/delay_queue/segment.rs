@@ -4,12 +4,15 @@ use crate::core::{CoreError, DelayCore, Piece};
 use crate::delay_queue::dropping::LetGo;
 use crate::delay_queue::key::Places;
 use crate::delay_queue::waking::NEVER;
-use crate::lasting::{fresh_queue, Anew, Begun, Due, Kept, LastingConfig, LastingQueue, LastingShard, NumberedCaller};
+use crate::lasting::{
+    fresh_queue, Anew, Begun, Due, Ended, Kept, LastingConfig, LastingQueue, LastingShard, NumberedCaller,
+};
 use crate::lasting::{move_entry, move_within, Moved, NextDeadline, ReopenError};
 use crate::locks::MutexGuard;
 use crate::memory::room_for;
 use crate::ticks::{EntryId, Key};
 use crate::words::{Keeper, WordsError};
+use std::array;
 use std::mem::needs_drop;
 use std::sync::atomic::{
     AtomicBool, AtomicU64, AtomicUsize,
@@ -33,6 +36,8 @@ pub(crate) struct Row {
     has_room: AtomicBool,
     /// Whether values are set aside there, to be dropped.
     has_aside: AtomicBool,
+    /// How many entries came out late, by the power of two of their ticks.
+    late: [AtomicU64; u64::BITS as usize],
 }
 
 /// A row of shards.
@@ -83,6 +88,7 @@ impl<T> Segment<T> {
             linked: AtomicUsize::new(0),
             has_room: AtomicBool::new(true),
             has_aside: AtomicBool::new(false),
+            late: array::from_fn(|_| AtomicU64::new(0)),
         };
         let mut rows = room_for(config.shards)?;
         rows.extend((0..config.shards).map(row));
@@ -361,6 +367,11 @@ impl Row {
     pub fn linked(&self) -> usize {
         self.linked.load(Relaxed)
     }
+
+    /// How many entries came out late by less than 2 to the power of `exponent` + 1 ticks, and not by less than half of that.
+    pub fn late_by(&self, exponent: usize) -> u64 {
+        self.late[exponent].load(Relaxed)
+    }
 }
 
 impl<T> Locked<'_, T> {
@@ -390,6 +401,18 @@ impl<T> Locked<'_, T> {
             core.poll_some_deferring(now, STEPS)
         };
         turn.expect("a tick that isn't beyond the last")
+    }
+
+    /// Counts an entry that came out that late.
+    #[inline(always)]
+    pub fn count_late(&self, ticks: u64) {
+        let late = &self.row.late[(ticks | 1).ilog2() as usize];
+        late.store(late.load(Relaxed) + 1, Relaxed);
+    }
+
+    /// Counts those that come out late from now on.
+    pub fn begin_late_anew(&self) {
+        self.row.late.iter().for_each(|late| late.store(0, Relaxed));
     }
 
     /// Notes when something is due next, after a poll.
@@ -445,9 +468,15 @@ impl<T> Locked<'_, T> {
         (begun, old)
     }
 
-    /// How many entries of the shard were cancelled and freed.
-    pub fn reaped(&self) -> u64 {
-        self.shard.past.cancelled + self.core().tally().cancelled
+    /// What became of the entries of the shard. An entry counts as cancelled once it was freed.
+    pub fn ended(&self) -> Ended {
+        let (past, tally) = (&self.shard.past, self.core().tally());
+        Ended {
+            inserted: past.inserted + tally.inserted,
+            expired: past.expired + tally.expired,
+            removed: past.removed + tally.removed,
+            cancelled: past.cancelled + tally.cancelled,
+        }
     }
 }
 

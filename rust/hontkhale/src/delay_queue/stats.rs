@@ -1,7 +1,9 @@
 //! What a queue tells of itself.
 
-use crate::delay_queue::segment::Segment;
+use crate::delay_queue::segment::{Row, Segment};
 use crate::delay_queue::shared::Shared;
+use crate::lasting::Ended;
+use std::array;
 use std::fmt;
 use std::mem::size_of;
 use std::sync::atomic::Ordering::SeqCst;
@@ -11,12 +13,25 @@ use std::time::Duration;
 const SLOT_BYTES: usize = 32;
 const SHARD_BYTES: usize = 10_000;
 
+/// How many powers of two of milliseconds a deadline may be late.
+const POWERS: usize = 43;
+
 /// What a server watches of a [`DelayQueue`](crate::DelayQueue).
+///
+/// While other threads change the queue each number is about right. Where none does, `inserted` is `expired`, `removed`, `cancels`
+/// and `waiting` together.
 #[derive(Clone, Copy, Debug, PartialEq, Eq)]
 #[non_exhaustive]
 pub struct Stats {
-    /// The entries that wait, or are due and didn't come out yet: about so many while other threads change the queue, and
-    /// never too few, as [`len`](crate::DelayQueue::len) tells.
+    /// The entries that were inserted since the queue's making.
+    pub inserted: u64,
+    /// Those that came out to a receiver.
+    pub expired: u64,
+    /// Those that were taken out before: by `remove` and its like, a guard, `drain` or `clear`.
+    pub removed: u64,
+    /// Those that were cancelled. The values of all but `cancelled` were taken out and dropped, later than the cancel.
+    pub cancels: u64,
+    /// The entries that wait, or are due and didn't come out yet: never too few, as [`len`](crate::DelayQueue::len) tells.
     pub waiting: usize,
     /// The entries that were cancelled and whose values are still in the queue.
     pub cancelled: usize,
@@ -27,8 +42,72 @@ pub struct Stats {
     /// By how much the oldest entry that is due is late, at most; nothing where none is due. An entry that was extended or
     /// cancelled counts by its earlier deadline until the queue comes upon it.
     pub late: Duration,
-    /// By how much an entry was late at most, as it came out or by `late`.
+    /// By how much an entry was late at most, as it came out or by `late`, since the making or the last
+    /// [`reset_lateness`](crate::DelayQueue::reset_lateness).
     pub latest: Duration,
+    /// How many entries came out how late since then: at a place `k` those that were less than 2 to the power of `k` + 1
+    /// milliseconds late, and, but for the first place, not less than 2 to the power of `k`.
+    pub lateness: [u64; POWERS],
+}
+
+/// Where [`Stats::report`] tells what a queue has come to. A metrics library has a kind of each.
+///
+/// ```
+/// use hontkhale::delay_queue::Metrics;
+/// use hontkhale::DelayQueue;
+/// use std::time::Duration;
+///
+/// /// Text as Prometheus reads it.
+/// struct Text(String);
+///
+/// impl Metrics for Text {
+///     fn counter(&mut self, name: &str, total: u64) {
+///         self.0 += &format!("sessions_{name}_total {total}\n");
+///     }
+///     fn gauge(&mut self, name: &str, value: f64) {
+///         self.0 += &format!("sessions_{name} {value}\n");
+///     }
+///     fn bucket(&mut self, name: &str, below: Duration, count: u64) {
+///         self.0 += &format!("sessions_{name}_bucket{{le=\"{}\"}} {count}\n", below.as_secs_f64());
+///     }
+/// }
+///
+/// let queue = DelayQueue::new();
+/// queue.insert("ann", Duration::from_secs(30))?;
+/// let mut text = Text(String::new());
+/// queue.stats().report(&mut text);
+/// assert!(text.0.contains("sessions_inserted_total 1\n") && text.0.contains("sessions_waiting 1\n"));
+/// # Ok::<(), Box<dyn std::error::Error>>(())
+/// ```
+pub trait Metrics {
+    /// A total since the queue's making.
+    fn counter(&mut self, name: &str, total: u64);
+    /// What rises and falls. Lengths of time are in seconds.
+    fn gauge(&mut self, name: &str, value: f64);
+    /// A bucket of a histogram: how often less than that long was measured. They come in rising order.
+    fn bucket(&mut self, name: &str, below: Duration, count: u64);
+}
+
+impl Stats {
+    /// Tells all of it: the counters `inserted`, `expired`, `removed` and `cancels`, the gauges `waiting`, `cancelled`, `let_go`,
+    /// `memory_bytes`, `late_seconds` and `latest_seconds`, and the buckets of `lateness_seconds`.
+    pub fn report(&self, metrics: &mut impl Metrics) {
+        metrics.counter("inserted", self.inserted);
+        metrics.counter("expired", self.expired);
+        metrics.counter("removed", self.removed);
+        metrics.counter("cancels", self.cancels);
+        metrics.gauge("waiting", self.waiting as f64);
+        metrics.gauge("cancelled", self.cancelled as f64);
+        metrics.gauge("let_go", self.let_go as f64);
+        metrics.gauge("memory_bytes", self.memory as f64);
+        metrics.gauge("late_seconds", self.late.as_secs_f64());
+        metrics.gauge("latest_seconds", self.latest.as_secs_f64());
+        let mut sum = 0;
+        for (power, count) in (1..).zip(self.lateness) {
+            sum += count;
+            metrics.bucket("lateness_seconds", Duration::from_millis(1 << power), sum);
+        }
+    }
 }
 
 impl fmt::Display for Stats {
@@ -54,13 +133,16 @@ impl<T> Segment<T> {
         shard.core().filed(&shard.core().peek()?.entry())
     }
 
-    /// How many cancelled entries were freed, but for those whose values are set aside.
-    fn reaped(&self) -> u64 {
-        let reaped = |place| {
+    /// Adds what became of the entries. Those whose values are set aside don't count as cancelled yet.
+    fn add_ended(&self, sum: &mut Ended) {
+        for place in 0..self.rows.len() {
             let shard = self.enter(place);
-            shard.reaped() - shard.core().aside() as u64
-        };
-        (0..self.rows.len()).map(reaped).sum()
+            let ended = shard.ended();
+            sum.inserted += ended.inserted;
+            sum.expired += ended.expired;
+            sum.removed += ended.removed;
+            sum.cancelled += ended.cancelled - shard.core().aside() as u64;
+        }
     }
 
     fn memory(&self) -> usize {
@@ -86,17 +168,42 @@ impl<T> Shared<T> {
 
     pub fn stats(&self) -> Stats {
         let waiting = self.waiting();
-        let reaped: u64 = self.segments().map(|(_, segment)| segment.reaped()).sum();
+        let mut ended = Ended {
+            inserted: 0,
+            expired: 0,
+            removed: 0,
+            cancelled: 0,
+        };
+        self.segments().for_each(|(_, segment)| segment.add_ended(&mut ended));
         let cancels = self.front.cancels();
+        let moves = self.moves_made.load(SeqCst);
         let now = self.front.time.tick();
         let late = self.first_filed_before(now).map_or(0, |first| now - first);
         Stats {
+            // A move takes an entry out in one place and puts it in at another.
+            inserted: ended.inserted.saturating_sub(moves),
+            expired: ended.expired,
+            removed: ended.removed.saturating_sub(moves),
+            cancels,
             waiting,
-            cancelled: cancels.saturating_sub(reaped) as usize,
+            cancelled: cancels.saturating_sub(ended.cancelled) as usize,
             let_go: self.let_go.len(),
             memory: size_of::<Shared<T>>() + self.segments().map(|(_, segment)| segment.memory()).sum::<usize>(),
             late: Duration::from_millis(late),
             latest: Duration::from_millis(self.latest.load(SeqCst).max(late)),
+            lateness: array::from_fn(|power| self.rows().map(|row| row.late_by(power)).sum()),
         }
+    }
+
+    fn rows(&self) -> impl Iterator<Item = &Row> {
+        self.segments().flat_map(|(_, segment)| segment.rows.iter())
+    }
+
+    /// Counts the lateness of what comes out from now on.
+    pub fn reset_lateness(&self) {
+        for (_, segment) in self.segments() {
+            (0..segment.rows.len()).for_each(|place| segment.enter(place).begin_late_anew());
+        }
+        self.latest.store(0, SeqCst);
     }
 }

@@ -183,3 +183,60 @@ fn a_deadline_a_century_away_comes_out_then() {
     clock.advance(ms(1));
     assert_eq!(queue.try_recv().map(|expired| expired.value), Ok("far"));
 }
+
+/// While the queue grows, moves entries, renews shards and gives memory back.
+#[test]
+fn each_entry_is_counted_by_its_end() {
+    let clock = ManualClock::new();
+    let queue = DelayQueue::builder().clock(&clock).last_stamp(3).shards(3).build();
+    let (mut inserted, mut expired, mut removed, mut cancels) = (0, 0, 0, 0);
+    for turn in 0..2_000_u64 {
+        let insert = |after| queue.insert(turn.to_string(), ms(after)).expect("room");
+        let keys: Vec<_> = (0..turn % 50).map(insert).collect();
+        inserted += turn % 50;
+        for key in keys.iter().step_by(5) {
+            (0..3).for_each(|after| assert_eq!(queue.reset(key, ms(40 + after)), Ok(*key)));
+        }
+        for key in keys.iter().skip(1).step_by(3) {
+            match turn % 4 {
+                0 => removed += u64::from(queue.remove(key).is_ok()),
+                1 => cancels += u64::from(queue.cancel(key).is_ok()),
+                2 => removed += u64::from(queue.remove_if_due(key).is_ok_and(|value| value.is_some())),
+                _ => {}
+            }
+        }
+        clock.advance(ms(turn % 7));
+        expired += queue.try_iter().count() as u64;
+        if turn % 300 == 299 {
+            removed += queue.clear() as u64;
+        }
+        let stats = queue.stats();
+        assert_eq!(
+            (stats.inserted, stats.expired, stats.removed, stats.cancels),
+            (inserted, expired, removed, cancels)
+        );
+        assert_eq!(inserted, expired + removed + cancels + stats.waiting as u64);
+        assert_eq!(stats.lateness.iter().sum::<u64>(), expired);
+    }
+    assert!(expired > 0 && removed > 0 && cancels > 0);
+}
+
+#[test]
+fn the_lateness_is_told_by_powers_of_two_until_it_is_reset() {
+    let clock = ManualClock::new();
+    let queue = DelayQueue::builder().clock(&clock).build();
+    for late in [0, 1, 2, 3, 4, 7, 8, 1_000, 1_024] {
+        queue.insert((), ms(10)).expect("room");
+        clock.advance(ms(10 + late));
+        assert!(queue.try_recv().is_ok());
+    }
+    let stats = queue.stats();
+    assert_eq!(stats.lateness[..11], [2, 2, 2, 1, 0, 0, 0, 0, 0, 1, 1]);
+    assert_eq!((stats.latest, stats.lateness.iter().sum::<u64>()), (ms(1_024), 9));
+    queue.reset_lateness();
+    let stats = queue.stats();
+    assert_eq!(
+        (stats.latest, stats.lateness.iter().sum::<u64>(), stats.expired),
+        (ms(0), 0, 9)
+    );
+}
