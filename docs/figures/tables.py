@@ -294,6 +294,16 @@ def adapter_times():
                  for threads, once, entries, peer, here in sorted(found, key=lambda it: it[3] / it[4])), 2)
 
 
+def idle_servers():
+    """What idle timeouts take in a server of 10,000 connections, by the adapter and by tokio's timeout; lines but the head's."""
+    said = {"no_timeouts": "none", "idle_timeouts": "`IdleTimeout`", "by_timeout": "tokio's `timeout`"}
+    folder = TOP / "rust" / "examples" / "everyday" / "tokio" / "src" / "bin"
+    lines = lambda name: "" if name == "no_timeouts" else sum(1 for it in text_of(folder / f"{name}.rs").splitlines() if it and not it.startswith("//"))
+    return grid(["Timeouts", "lines of the program", "processor an echo, µs", "instructions an echo, outside of the kernel", "memory a connection, bytes"],
+                ([said[name], lines(name), echo, f"{int(instructions):,}", f"{int(memory):,}"]
+                 for name, echo, instructions, memory in rows_of("idle-servers")))
+
+
 def adapter_memory():
     """What a compact of the adapter and of its peer makes of a million entries, the longest beside the peer's first."""
     found = {(it[2], it[3]): [int(figure) for figure in it[4:]] for it in rows_of("adapter-room") if it[:2] == ["compact", "release"]}

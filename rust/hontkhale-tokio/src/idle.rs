@@ -112,6 +112,16 @@ impl Drop for Runs {
 async fn end_idle_ones(mut idle: QueueStream<Arc<Waits>>, _runs: Runs) {
     while let Some(expired) = idle.next().await {
         expired.value.end();
+        // A thread may have left a waker there meanwhile.
+        caught(|| drop(expired));
+    }
+}
+
+/// Makes a call of the program's code. A panic ends here, so that the other connections go on.
+fn caught(call: impl FnOnce()) {
+    if let Err(panic) = catch_unwind(AssertUnwindSafe(call)) {
+        // Its value may panic as it is dropped.
+        let _ = catch_unwind(AssertUnwindSafe(|| drop(panic))).map_err(mem::forget);
     }
 }
 
@@ -173,12 +183,10 @@ impl WakerCell {
         drop(before);
     }
 
-    /// A waker that panics keeps no other connection waiting: its panic ends here.
     fn wake(&self) {
         let waker = self.waker().take();
-        if let Err(panic) = catch_unwind(AssertUnwindSafe(|| waker.map(Waker::wake))) {
-            // Its value may panic as it is dropped.
-            let _ = catch_unwind(AssertUnwindSafe(|| drop(panic))).map_err(mem::forget);
+        if let Some(waker) = waker {
+            caught(|| waker.wake());
         }
     }
 }
