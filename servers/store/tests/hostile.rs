@@ -586,7 +586,6 @@ fn a_silent_connection_is_closed_after_the_timeout() {
     assert!([2, 4, 8, 16, 32].into_iter().any(closes_the_silent), "the machine is too slow for this test");
 }
 
-/// A value of two MiB, which is sent whole before anything is read.
 #[test]
 fn whoever_is_sent_away_is_closed_by_the_thread_that_serves_it() {
     let store = Store::new(&["--threads", "3"]);
