@@ -82,6 +82,7 @@ impl<T, W: Words> DelayCore<T, W> {
     /// assert!(matches!(queue.remove(&first.entry()), Err(CoreError::Missing)));
     /// # Ok::<(), CoreError>(())
     /// ```
+    #[allow(clippy::result_large_err)]
     pub fn fold(self) -> Result<Folded<W>, DelayCore<T, W>> {
         if self.slots.linked() > 0 || self.slots.aside() > 0 {
             return Err(self);
