@@ -64,7 +64,7 @@ impl Client {
 fn lease_table(deadlines: DelayQueue<String>) -> SocketAddr {
     let listener = TcpListener::bind("127.0.0.1:0").unwrap();
     let address = listener.local_addr().unwrap();
-    thread::spawn(move || lease_table::serve(listener, &LeaseTable::new(deadlines)));
+    thread::spawn(move || lease_table::serve(listener, &LeaseTable::new(deadlines, 0)));
     address
 }
 

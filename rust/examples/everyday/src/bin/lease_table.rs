@@ -10,7 +10,8 @@
 //! | `free NAME TOKEN` | `ok`, and the next in line has it; or `lost` |
 //!
 //! Each lease has a greater token than those before it. A holder that was cut off may believe in its lease after the end.
-//! So whatever a lease protects should remember the greatest token that it has seen, and refuse a smaller one.
+//! So whatever a lease protects should remember the greatest token that it has seen, and refuse a smaller one. A table that
+//! is started again has no lease, and its tokens begin above those of before.
 
 use hontkhale::delay_queue::Key;
 use hontkhale::DelayQueue;
@@ -20,7 +21,7 @@ use std::net::{TcpListener, TcpStream};
 use std::sync::mpsc::{channel, Receiver, Sender};
 use std::sync::{Arc, PoisonError, RwLock, RwLockReadGuard, RwLockWriteGuard};
 use std::thread;
-use std::time::Duration;
+use std::time::{Duration, SystemTime};
 
 struct Lease {
     token: u64,
@@ -36,7 +37,6 @@ struct Waiter {
     granted: Sender<u64>,
 }
 
-#[derive(Default)]
 struct Leases {
     by_name: HashMap<String, Lease>,
     last_token: u64,
@@ -49,9 +49,10 @@ pub struct LeaseTable {
 }
 
 impl LeaseTable {
-    /// A table, and a thread that ends its leases at their deadlines.
-    pub fn new(deadlines: DelayQueue<String>) -> Arc<LeaseTable> {
-        let table = Arc::new(LeaseTable { leases: RwLock::default(), deadlines });
+    /// A table whose tokens are greater than the last one, and a thread that ends its leases at their deadlines.
+    pub fn new(deadlines: DelayQueue<String>, last_token: u64) -> Arc<LeaseTable> {
+        let leases = RwLock::new(Leases { by_name: HashMap::new(), last_token });
+        let table = Arc::new(LeaseTable { leases, deadlines });
         let ends = Arc::clone(&table);
         thread::spawn(move || {
             for expired in &ends.deadlines {
@@ -170,5 +171,7 @@ fn answer(table: &LeaseTable, line: &str) -> String {
 #[allow(dead_code)]
 fn main() {
     let listener = TcpListener::bind("127.0.0.1:7008").expect("a free port");
-    serve(listener, &LeaseTable::new(DelayQueue::new()));
+    // A table grants less than a lease a microsecond, so the next one begins above its last token.
+    let begun = SystemTime::now().duration_since(SystemTime::UNIX_EPOCH).expect("a clock past 1970");
+    serve(listener, &LeaseTable::new(DelayQueue::new(), begun.as_micros() as u64));
 }
