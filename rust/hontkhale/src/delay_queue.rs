@@ -176,6 +176,86 @@ impl<T> DelayQueue<T> {
             .map_err(|(kind, value)| InsertError::new(kind, value))
     }
 
+    /// Puts in the value that `make` makes of its key, to come out after `after`, and returns the key: for a value that knows its
+    /// key, such as a table's record. It reads the clock, and takes the lock of one shard.
+    ///
+    /// `make` is called at most once, and not where the insert is refused before there is room. It is called while the shard's
+    /// lock is held, so it is to be short, and nobody else has the key before it returns. Where it panics nothing was put in.
+    ///
+    /// # Errors
+    /// In this order:
+    /// - `TooFar` if the deadline is more than 139 years after the queue was made.
+    /// - `Closed` if the queue was closed. If it was while the value was made, that is dropped.
+    /// - `Full` if as many entries wait as the queue may have.
+    /// - `NoMemory` if the queue has to grow and memory is refused.
+    ///
+    /// # Panics
+    /// If `make` makes a call of this queue that wants the lock which is held: any call that inserts, receives, takes out or tells
+    /// of entries may. It never waits for itself.
+    ///
+    /// ```
+    /// use hontkhale::delay_queue::Key;
+    /// use hontkhale::DelayQueue;
+    /// use std::time::Duration;
+    ///
+    /// struct Session {
+    ///     key: Key,
+    ///     name: &'static str,
+    /// }
+    ///
+    /// let queue = DelayQueue::new();
+    /// let key = queue.insert_with(|key| Session { key, name: "ann" }, Duration::from_secs(30))?;
+    /// let session = queue.remove(&key)?;
+    /// assert_eq!((session.key, session.name), (key, "ann"));
+    /// # Ok::<(), Box<dyn std::error::Error>>(())
+    /// ```
+    pub fn insert_with(&self, make: impl FnOnce(Key) -> T, after: Duration) -> Result<Key, InsertErrorKind> {
+        self.shared.insert_with(make, self.shared.front.time.tick_in(after))
+    }
+
+    /// Returns what `read` makes of an entry's value, where the value is: the entry stays. It takes the lock of the entry's shard.
+    ///
+    /// `read` is called at most once, while the shard's lock is held, so it is to be short.
+    ///
+    /// # Errors
+    /// In this order:
+    /// - `WrongQueue` if the key is another queue's.
+    /// - `Ended` if the entry came out, was removed, or was cancelled.
+    ///
+    /// # Panics
+    /// If `read` panics, which changes nothing, or makes a call of this queue that wants the lock which is held.
+    ///
+    /// ```
+    /// use hontkhale::DelayQueue;
+    /// use std::time::Duration;
+    ///
+    /// let queue = DelayQueue::new();
+    /// let key = queue.insert("session".to_string(), Duration::from_secs(30))?;
+    /// queue.get_mut(&key, |name| name.push_str(" 7"))?;
+    /// assert_eq!(queue.get(&key, |name| name.len())?, 9);
+    /// # Ok::<(), Box<dyn std::error::Error>>(())
+    /// ```
+    pub fn get<R>(&self, key: &Key, read: impl FnOnce(&T) -> R) -> Result<R, KeyError> {
+        self.shared.with_value(key, |value| read(value))
+    }
+
+    /// Returns what `change` makes of an entry's value, which it may change where it is: the entry stays. It takes the lock of the
+    /// entry's shard.
+    ///
+    /// `change` is called at most once, while the shard's lock is held, so it is to be short. What it drops is dropped under the
+    /// lock.
+    ///
+    /// # Errors
+    /// In this order:
+    /// - `WrongQueue` if the key is another queue's.
+    /// - `Ended` if the entry came out, was removed, or was cancelled.
+    ///
+    /// # Panics
+    /// If `change` panics, and the value stays as it left it; or if it makes a call of this queue that wants the lock which is held.
+    pub fn get_mut<R>(&self, key: &Key, change: impl FnOnce(&mut T) -> R) -> Result<R, KeyError> {
+        self.shared.with_value(key, change)
+    }
+
     /// Puts a value in, to come out after `after`, and returns a guard. If the guard is dropped before the value came out,
     /// the value is taken out and dropped. It reads the clock, and takes the lock of one shard for constant time. Of others'
     /// values it drops what [`insert`](DelayQueue::insert) does.

@@ -1,7 +1,28 @@
 //! A lock that a panic doesn't poison: whatever panics under it, a shard is whole.
 
+use std::cell::Cell;
+use std::mem::size_of;
 pub(crate) use std::sync::MutexGuard;
 use std::sync::{PoisonError, TryLockError};
+
+thread_local! {
+    /// The address of what lies behind a lock that this thread holds while a program's closure runs, or 0.
+    static LENT: Cell<usize> = const { Cell::new(0) };
+}
+
+/// Calls a program's closure with what lies behind a lock that this thread holds. If the closure waits for the lock, it panics in
+/// the place of waiting for ever.
+pub(crate) fn lend<S, R>(lent: &mut S, call: impl FnOnce(&mut S) -> R) -> R {
+    struct Back(usize);
+    impl Drop for Back {
+        fn drop(&mut self) {
+            LENT.with(|lent| lent.set(self.0));
+        }
+    }
+    let address = lent as *mut S as usize;
+    let _back = Back(LENT.with(|lent| lent.replace(address)));
+    call(lent)
+}
 
 /// How many locks this thread has taken.
 #[cfg(test)]
@@ -38,6 +59,12 @@ impl<T> Mutex<T> {
     pub(crate) fn lock(&self) -> MutexGuard<'_, T> {
         #[cfg(test)]
         taken::one_more();
+        let here = self as *const Mutex<T> as usize;
+        let is_lent = LENT.with(|lent| (here..here + size_of::<Mutex<T>>()).contains(&lent.get()));
+        assert!(
+            !is_lent,
+            "a closure that is called under a queue's lock calls the queue"
+        );
         self.0.lock().unwrap_or_else(PoisonError::into_inner)
     }
 

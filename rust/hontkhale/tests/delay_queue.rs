@@ -36,3 +36,5 @@ mod tasks;
 mod threads;
 #[path = "delay_queue/user_code.rs"]
 mod user_code;
+#[path = "delay_queue/values.rs"]
+mod values;

@@ -389,15 +389,28 @@ impl Front {
     #[inline]
     pub fn count_cancel(&self) -> bool {
         self.lane().cancels.fetch_add(1, SeqCst);
-        self.count_out(1)
+        self.count_out()
     }
 
-    /// Counts entries that wait no longer, and tells whether somebody asks whether the queue is empty now.
+    /// Counts entries that wait no longer, but tells so where more is to be done: then nothing is counted yet.
     #[inline(always)]
-    pub fn count_out(&self, entries: usize) -> bool {
+    pub fn note_ended(&self, entries: usize) -> bool {
+        match self.watch.get() {
+            Watch::NOTHING => false,
+            Watch::COUNTED => {
+                self.uncount(entries);
+                false
+            }
+            _ => true,
+        }
+    }
+
+    /// Counts an entry that waits no longer, and tells whether somebody asks whether the queue is empty now.
+    #[inline(always)]
+    pub fn count_out(&self) -> bool {
         let watch = self.watch.get();
         if watch & Watch::COUNTED != 0 {
-            self.uncount(entries);
+            self.uncount(1);
         }
         watch & Watch::ASKED != 0
     }

@@ -37,9 +37,16 @@ impl Handle {
             told = self.queue.upgrade().ok_or(KeyError::Closed)?.slow_step(key, step);
         }
         if matches!(step, Step::Cancel) && told.is_deadline() && self.front.count_cancel() {
-            self.queue.upgrade().into_iter().for_each(|queue| queue.note_end());
+            self.note_end();
         }
         told.result()
+    }
+
+    #[cold]
+    fn note_end(&self) {
+        if let Some(queue) = self.queue.upgrade() {
+            queue.note_end();
+        }
     }
 
     fn step(&self, key: &Key, step: Step) -> Result<Instant, KeyError> {

@@ -64,6 +64,16 @@ impl<T> Shared<T> {
         }
     }
 
+    /// What is taken by a last look. What was freed is dropped where that is nothing.
+    #[cold]
+    fn taken_last<R>(&self, mut take: impl FnMut() -> Option<R>) -> Option<R> {
+        let taken = take();
+        if taken.is_none() {
+            self.tidy();
+        }
+        taken
+    }
+
     /// Why a wait is over, where it is.
     fn over(&self, until: Option<Instant>) -> Option<RecvTimeoutError> {
         if self.front.bell.is_closed() {
@@ -216,8 +226,10 @@ impl<T> Shared<T> {
             match shard.poll(now, whole) {
                 Piece::Answer(Turn::Out(out)) => {
                     let late = now.saturating_sub(out.deadline);
-                    shard.count_late(late);
-                    latest = latest.max(late);
+                    if late > 0 {
+                        shard.count_late(late);
+                        latest = latest.max(late);
+                    }
                     known = (out.deadline, self.front.time.moment_after(out.deadline, known));
                     if more(self.expired(room.at, out, known.1)) {
                         continue;
@@ -235,7 +247,7 @@ impl<T> Shared<T> {
         }
         let is_last = shard.core().is_empty();
         drop(shard);
-        if latest > self.latest.load(Relaxed) {
+        if latest > 0 && latest > self.latest.load(Relaxed) {
             self.latest.fetch_max(latest, SeqCst);
         }
         if is_last && room.at > 0 {
@@ -256,7 +268,7 @@ impl<T> Shared<T> {
     /// moved is counted as moved until it is noted here.
     #[inline(always)]
     fn note_out(&self, outs: &mut [Expired<T>]) {
-        if self.note_ended(outs.len()) {
+        if self.front.note_ended(outs.len()) {
             outs.iter_mut().for_each(|out| out.key = self.note_watched(out.key));
         }
     }
@@ -299,24 +311,14 @@ impl<T> Shared<T> {
     }
 
     /// Why nothing is taken where nothing was due; or what was put in since, just before a close.
-    fn nothing_taken<R>(&self, take: impl FnMut() -> Option<R>) -> Result<R, TryRecvError> {
+    fn nothing_taken<R>(&self, take: impl FnOnce() -> Option<R>) -> Result<R, TryRecvError> {
         // What was freed is dropped while nothing is in hand.
         self.use_quiet_moment();
         if self.front.bell.is_closed() {
-            self.taken_last(take).ok_or(TryRecvError::Closed)
+            take().ok_or(TryRecvError::Closed)
         } else {
             Err(TryRecvError::Empty)
         }
-    }
-
-    /// What is taken by a last look. What was freed is dropped where that is nothing.
-    #[cold]
-    fn taken_last<R>(&self, mut take: impl FnMut() -> Option<R>) -> Option<R> {
-        let taken = take();
-        if taken.is_none() {
-            self.tidy();
-        }
-        taken
     }
 }
 

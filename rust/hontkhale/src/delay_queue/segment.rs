@@ -1,14 +1,14 @@
 //! A queue's rows of shards, which are made one after the other as entries come, and give their memory back once they go.
 
 use crate::core::{CoreError, DelayCore, Piece};
-use crate::delay_queue::dropping::LetGo;
 use crate::delay_queue::key::Places;
 use crate::delay_queue::waking::NEVER;
+use crate::delay_queue::{self, dropping::LetGo};
 use crate::lasting::{
     fresh_queue, Anew, Begun, Due, Ended, Kept, LastingConfig, LastingQueue, LastingShard, NumberedCaller,
 };
 use crate::lasting::{move_entry, move_within, Moved, NextDeadline, ReopenError};
-use crate::locks::MutexGuard;
+use crate::locks::{lend, MutexGuard};
 use crate::memory::room_for;
 use crate::ticks::{EntryId, Key};
 use crate::words::{Keeper, WordsError};
@@ -20,6 +20,8 @@ use std::sync::atomic::{
 };
 use std::sync::Arc;
 
+/// By how many powers of two of ticks entries that come out late are counted. The last one is for all that are later, too.
+pub(crate) const POWERS: usize = 12;
 /// How many steps of a poll in pieces are made under one lock.
 const STEPS: u32 = 256;
 
@@ -36,8 +38,8 @@ pub(crate) struct Row {
     has_room: AtomicBool,
     /// Whether values are set aside there, to be dropped.
     has_aside: AtomicBool,
-    /// How many entries came out late, by the power of two of their ticks.
-    late: [AtomicU64; u64::BITS as usize],
+    /// How many entries came out late by a tick or more, by the power of two of these. With them the row is of 128 bytes.
+    late: [AtomicU64; POWERS],
 }
 
 /// A row of shards.
@@ -66,6 +68,54 @@ pub(crate) struct Locked<'s, T> {
     shard: MutexGuard<'s, LastingShard<T>>,
     segment: &'s Segment<T>,
     row: &'s Row,
+}
+
+/// From where an insert has its value.
+pub(crate) trait Source<T>: Sized {
+    /// Puts the value in. It comes back where no slot is free.
+    fn insert(
+        self,
+        core: &mut DelayCore<T, Keeper>,
+        tick: u64,
+        name: impl FnOnce(&Key) -> delay_queue::Key,
+    ) -> Result<Key, Self>;
+}
+
+/// A value that is there.
+pub(crate) struct Given<T>(pub T);
+
+impl<T> Source<T> for Given<T> {
+    #[inline(always)]
+    fn insert(
+        self,
+        core: &mut DelayCore<T, Keeper>,
+        tick: u64,
+        _name: impl FnOnce(&Key) -> delay_queue::Key,
+    ) -> Result<Key, Given<T>> {
+        let inserted = core.insert_deferring(self.0, tick).0;
+        inserted.map_err(|(_, value)| Given(value))
+    }
+}
+
+/// A closure that makes the value, once its key is known.
+pub(crate) struct Made<F>(pub F);
+
+impl<T, F: FnOnce(delay_queue::Key) -> T> Source<T> for Made<F> {
+    fn insert(
+        self,
+        core: &mut DelayCore<T, Keeper>,
+        tick: u64,
+        name: impl FnOnce(&Key) -> delay_queue::Key,
+    ) -> Result<Key, Made<F>> {
+        let Some(next) = core.next_key() else {
+            return Err(self);
+        };
+        let value = lend(core, |_| (self.0)(name(&next)));
+        let inserted = core.insert_deferring(value, tick).0;
+        let key = inserted.map_err(|(refused, _)| refused).expect("a free slot");
+        assert_eq!(key, next, "an insert takes the slot that was freed last");
+        Ok(key)
+    }
 }
 
 /// How many slots of a shard are free in which no value is set aside.
@@ -135,10 +185,16 @@ impl<T> Segment<T> {
         }
     }
 
-    /// Puts an entry in where a slot is free in which no value is set aside, so that nobody's value is in its way. The value
+    /// Puts an entry in where a slot is free in which no value is set aside, so that nobody's value is in its way. The source
     /// comes back where none is. Only what an insert changes is noted.
     #[inline(always)]
-    pub fn insert(&self, place: usize, value: T, tick: u64) -> Result<Key, T> {
+    pub fn insert<S: Source<T>>(
+        &self,
+        place: usize,
+        source: S,
+        tick: u64,
+        name: impl FnOnce(&Key) -> delay_queue::Key,
+    ) -> Result<Key, S> {
         let row = &self.rows[place];
         let mut shard = self.queue.lock(place);
         let takes = shard.takes;
@@ -146,8 +202,8 @@ impl<T> Segment<T> {
         // Without drops nothing is set aside, and the core tells whether a slot is free.
         let is_crowded = needs_drop::<T>() && free(core) == 0;
         let inserted = match takes && !is_crowded {
-            true => core.insert_deferring(value, tick).0.map_err(|(_, value)| value),
-            false => Err(value),
+            true => source.insert(core, tick, name),
+            false => Err(source),
         };
         if inserted.is_err() {
             // That it has no room is noted.
@@ -368,9 +424,9 @@ impl Row {
         self.linked.load(Relaxed)
     }
 
-    /// How many entries came out late by less than 2 to the power of `exponent` + 1 ticks, and not by less than half of that.
-    pub fn late_by(&self, exponent: usize) -> u64 {
-        self.late[exponent].load(Relaxed)
+    /// How many entries came out late by that power of two of ticks.
+    pub fn late_by(&self, power: usize) -> u64 {
+        self.late[power].load(Relaxed)
     }
 }
 
@@ -403,10 +459,20 @@ impl<T> Locked<'_, T> {
         turn.expect("a tick that isn't beyond the last")
     }
 
-    /// Counts an entry that came out that late.
+    /// What a program's closure makes of a live entry's value; none where the entry isn't there, or isn't live.
+    pub fn with_value<R, F: FnOnce(&mut T) -> R>(&mut self, entry: &EntryId, call: F) -> Result<R, F> {
+        let core = self.core_mut();
+        if core.deadline(entry).is_err() {
+            return Err(call);
+        }
+        Ok(lend(core, |core| call(core.get_mut(entry).expect("a live entry"))))
+    }
+
+    /// Counts an entry that came out that late. Those that weren't late aren't counted.
     #[inline(always)]
     pub fn count_late(&self, ticks: u64) {
-        let late = &self.row.late[(ticks | 1).ilog2() as usize];
+        let power = (ticks | 1).ilog2() as usize;
+        let late = &self.row.late[power.min(POWERS - 1)];
         late.store(late.load(Relaxed) + 1, Relaxed);
     }
 
@@ -512,6 +578,15 @@ impl<T> Drop for Claim<'_, T> {
 }
 
 #[cfg(test)]
+impl<T> Segment<T> {
+    /// An insert as the queue's tests make it.
+    pub fn insert_value(&self, place: usize, value: T, tick: u64) -> Result<Key, T> {
+        let inserted = self.insert(place, Given(value), tick, |key| delay_queue::Key::of(0, 0, key));
+        inserted.map_err(|Given(value)| value)
+    }
+}
+
+#[cfg(test)]
 mod tests {
     use super::*;
     use crate::core::CoreError::{Full, TooFar, WasCancelled};
@@ -530,8 +605,8 @@ mod tests {
     /// What a move comes to, of an entry that was extended from 10 to 50, to a shard of so many slots with an entry of its own.
     fn moved(capacity: usize, next: NextDeadline, is_cancelled: bool) -> Result<Option<u64>, CoreError> {
         let (small, other) = (segment(1), segment(capacity));
-        let key = small.insert(0, "moved", 10).expect("a free slot");
-        other.insert(1, "there", 70).expect("a free slot");
+        let key = small.insert_value(0, "moved", 10).expect("a free slot");
+        other.insert_value(1, "there", 70).expect("a free slot");
         let (mut from, mut to) = (small.enter(0), other.enter(1));
         let mut caller = from.issue().expect("memory");
         assert_eq!(caller.extend(&key, 50), Ok(50));
@@ -582,14 +657,14 @@ mod tests {
         let one = segment(1);
         assert!(one.queue.close(0).is_ok());
         assert!(one.rows[0].has_room());
-        assert_eq!(one.insert(0, "refused", 10), Err("refused"));
+        assert_eq!(one.insert_value(0, "refused", 10), Err("refused"));
         assert!(!one.rows[0].has_room());
     }
 
     #[test]
     fn an_entry_moves_within_its_shard_until_no_stamp_is_left() {
         let one = segment(1);
-        let mut key = one.insert(0, "moved", 10).expect("a free slot");
+        let mut key = one.insert_value(0, "moved", 10).expect("a free slot");
         let mut shard = one.enter(0);
         for stamp in 2..=3 {
             assert!(shard.takes_again(&key.entry()));

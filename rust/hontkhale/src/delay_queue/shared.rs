@@ -13,7 +13,7 @@ use crate::delay_queue::dropping::LetGo;
 use crate::delay_queue::errors::{InsertErrorKind, KeyError};
 use crate::delay_queue::key::Key;
 use crate::delay_queue::moves::Moves;
-use crate::delay_queue::segment::{Claim, Locked, Row, Segment};
+use crate::delay_queue::segment::{Claim, Given, Locked, Made, Row, Segment, Source};
 use crate::delay_queue::shared::sweep::Sweep;
 use crate::delay_queue::waking::NEVER;
 use crate::lasting::{Kept, LastingConfig, Moved, NextDeadline, NumberedCaller};
@@ -73,6 +73,8 @@ pub(crate) struct Shared<T> {
     pub moves_made: AtomicU64,
     /// By how many ticks an entry was late at most as it came out.
     pub latest: AtomicU64,
+    /// The entries that had come out as their lateness was counted anew.
+    pub counted_late: AtomicU64,
     sweep: Mutex<Sweep>,
 }
 
@@ -249,6 +251,7 @@ impl<T> Shared<T> {
             let_go: Arc::new(LetGo::new()),
             moves_made: AtomicU64::new(0),
             latest: AtomicU64::new(0),
+            counted_late: AtomicU64::new(0),
             sweep: Mutex::default(),
         }
     }
@@ -285,18 +288,10 @@ impl<T> Shared<T> {
     /// where its halves were just stored waits for them.
     #[inline(always)]
     pub fn insert(&self, value: T, tick: u64) -> Result<Key, (InsertErrorKind, T)> {
-        if tick > LAST_TICK {
-            return Err((InsertErrorKind::TooFar, value));
-        }
-        if self.front.ends.refuses() {
-            return Err((InsertErrorKind::Closed, value));
-        }
-        let counted = match &self.front.bound {
-            Some(bound) if !bound.count() => return Err((InsertErrorKind::Full, value)),
-            bound => Counted(bound.as_ref()),
+        let key = match self.put_in(Given(value), tick) {
+            Ok(key) => key,
+            Err((kind, Given(value))) => return Err((kind, value)),
         };
-        let key = self.insert_where_last(value, tick)?;
-        mem::forget(counted);
         if self.front.ring_before(tick) {
             if let Some(value) = self.take_back(key) {
                 return Err((InsertErrorKind::Closed, value));
@@ -305,9 +300,38 @@ impl<T> Shared<T> {
         Ok(key)
     }
 
+    /// The same of a value that is made under the shard's lock, once its key is known.
+    pub fn insert_with(&self, make: impl FnOnce(Key) -> T, tick: u64) -> Result<Key, InsertErrorKind> {
+        let key = self.put_in(Made(make), tick).map_err(|(kind, _)| kind)?;
+        if self.front.ring_before(tick) {
+            if let Some(value) = self.take_back(key) {
+                self.let_go.drop_value(value);
+                return Err(InsertErrorKind::Closed);
+            }
+        }
+        Ok(key)
+    }
+
+    #[inline(always)]
+    fn put_in<S: Source<T>>(&self, source: S, tick: u64) -> Result<Key, (InsertErrorKind, S)> {
+        if tick > LAST_TICK {
+            return Err((InsertErrorKind::TooFar, source));
+        }
+        if self.front.ends.refuses() {
+            return Err((InsertErrorKind::Closed, source));
+        }
+        let counted = match &self.front.bound {
+            Some(bound) if !bound.count() => return Err((InsertErrorKind::Full, source)),
+            bound => Counted(bound.as_ref()),
+        };
+        let key = self.insert_where_last(source, tick)?;
+        mem::forget(counted);
+        Ok(key)
+    }
+
     /// The same of an entry that is counted already, where this thread found room last.
     #[inline(always)]
-    fn insert_where_last(&self, value: T, tick: u64) -> Result<Key, (InsertErrorKind, T)> {
+    fn insert_where_last<S: Source<T>>(&self, source: S, tick: u64) -> Result<Key, (InsertErrorKind, S)> {
         let noted = &self.front.lane().room;
         let packed = noted.load(Relaxed);
         let room = Room::of(packed);
@@ -315,44 +339,58 @@ impl<T> Shared<T> {
             .segment(room.at)
             .filter(|segment| room.left > 0 && segment.rows[room.place].has_room())
         {
-            None => self.insert_anywhere(value, tick),
+            None => self.insert_anywhere(source, tick),
             Some(segment) => {
                 noted.store(packed - 1, Relaxed);
-                let insert = self.insert_at(room.at, segment, room.place, value, tick);
-                insert.or_else(|value| self.insert_anywhere(value, tick))
+                let insert = self.insert_at(room.at, segment, room.place, source, tick);
+                insert.or_else(|source| self.insert_anywhere(source, tick))
             }
         }
     }
 
     /// The same in this thread's shard of the first segment that has room there, or in any that has.
     #[cold]
-    fn insert_anywhere(&self, value: T, tick: u64) -> Result<Key, (InsertErrorKind, T)> {
-        let mut value = value;
+    fn insert_anywhere<S: Source<T>>(&self, source: S, tick: u64) -> Result<Key, (InsertErrorKind, S)> {
+        let mut source = source;
         let route = route();
         for (at, segment) in self.segments() {
             let place = route % segment.rows.len().min(self.limits.spread);
             if segment.rows[place].has_room() {
-                match self.insert_noted(at, segment, place, value, tick) {
+                match self.insert_noted(at, segment, place, source, tick) {
                     Ok(key) => return Ok(key),
-                    Err(back) => value = back,
+                    Err(back) => source = back,
                 }
             }
         }
-        self.insert_elsewhere(value, tick)
+        self.insert_elsewhere(source, tick)
     }
 
     /// An insert at a place, which this thread tries first the next times.
-    fn insert_noted(&self, at: usize, segment: &Segment<T>, place: usize, value: T, tick: u64) -> Result<Key, T> {
-        let key = self.insert_at(at, segment, place, value, tick)?;
+    fn insert_noted<S: Source<T>>(
+        &self,
+        at: usize,
+        segment: &Segment<T>,
+        place: usize,
+        source: S,
+        tick: u64,
+    ) -> Result<Key, S> {
+        let key = self.insert_at(at, segment, place, source, tick)?;
         let room = Room { left: TRIES, at, place };
         self.front.lane().room.store(room.packed(), Relaxed);
         Ok(key)
     }
 
-    /// An insert at a place. The value comes back where there is no room.
+    /// An insert at a place. The source comes back where there is no room.
     #[inline(always)]
-    fn insert_at(&self, at: usize, segment: &Segment<T>, place: usize, value: T, tick: u64) -> Result<Key, T> {
-        let key = segment.insert(place, value, tick)?;
+    fn insert_at<S: Source<T>>(
+        &self,
+        at: usize,
+        segment: &Segment<T>,
+        place: usize,
+        source: S,
+        tick: u64,
+    ) -> Result<Key, S> {
+        let key = segment.insert(place, source, tick, |key| self.key(at, key))?;
         // A renewal may call a task's waker: one that panics takes the key along, but not the entry.
         self.renew_where_due(segment, at);
         Ok(self.key(at, &key))
@@ -361,23 +399,23 @@ impl<T> Shared<T> {
     /// An insert for which this thread's shards have no room: in any that has, then after a sweep and a renewal, and at last
     /// in a new segment.
     #[cold]
-    fn insert_elsewhere(&self, value: T, tick: u64) -> Result<Key, (InsertErrorKind, T)> {
-        let mut value = value;
+    fn insert_elsewhere<S: Source<T>>(&self, source: S, tick: u64) -> Result<Key, (InsertErrorKind, S)> {
+        let mut source = source;
         for turn in 0.. {
             // It is read first: where another thread has made a segment since, that one is tried before one more is made.
             let grown = self.grown.load(SeqCst);
             for (at, segment) in self.segments() {
                 for place in (0..segment.rows.len()).filter(|place| segment.rows[*place].has_room()) {
-                    match self.insert_noted(at, segment, place, value, tick) {
+                    match self.insert_noted(at, segment, place, source, tick) {
                         Ok(key) => return Ok(key),
-                        Err(back) => value = back,
+                        Err(back) => source = back,
                     }
                 }
             }
             if turn == 0 && grown > 0 {
                 self.make_room();
             } else if let Err(kind) = self.grow(grown) {
-                return Err((kind, value));
+                return Err((kind, source));
             }
         }
         unreachable!("a queue has so many segments at most")
@@ -509,6 +547,25 @@ impl<T> Shared<T> {
         }
     }
 
+    /// What a program's closure makes of a live entry's value, under its shard's lock and no other one.
+    pub fn with_value<R>(&self, key: &Key, call: impl FnOnce(&mut T) -> R) -> Result<R, KeyError> {
+        self.own(key)?;
+        let (mut place, mut call) = (*key, call);
+        loop {
+            let mut shard = self.enter(&place).map_err(|_| KeyError::Ended)?;
+            match shard.with_value(&place.entry(), call) {
+                Ok(made) => return Ok(made),
+                Err(back) => call = back,
+            }
+            drop(shard);
+            // It may have been moved, and again since.
+            let moved = self.at_moved(key, |moved| Ok(*moved)).unwrap_or(*key);
+            if mem::replace(&mut place, moved) == moved {
+                return Err(KeyError::Ended);
+            }
+        }
+    }
+
     fn own(&self, key: &Key) -> Result<(), KeyError> {
         if key.queue() == self.front.number() {
             Ok(())
@@ -611,7 +668,7 @@ impl<T> Shared<T> {
 
     #[inline(always)]
     fn note_removed(&self, place: &Key, is_last: bool) {
-        if self.note_ended(1) {
+        if self.front.note_ended(1) {
             self.note_watched(*place);
         }
         if is_last && place.segment() > 0 {
@@ -627,23 +684,10 @@ impl<T> Shared<T> {
         } else {
             place
         };
-        if self.front.count_out(1) {
+        if self.front.count_out() {
             self.note_end();
         }
         key
-    }
-
-    /// Counts entries that have ended, unless more is to be done, which it tells.
-    #[inline(always)]
-    pub fn note_ended(&self, entries: usize) -> bool {
-        match self.front.watch.get() {
-            Watch::NOTHING => false,
-            Watch::COUNTED => {
-                self.front.uncount(entries);
-                false
-            }
-            _ => true,
-        }
     }
 
     /// Whether an entry is at another place than its key says: so from before one is taken out of its place.

@@ -1,6 +1,6 @@
 //! What a queue tells of itself.
 
-use crate::delay_queue::segment::{Row, Segment};
+use crate::delay_queue::segment::{Row, Segment, POWERS};
 use crate::delay_queue::shared::Shared;
 use crate::lasting::Ended;
 use std::array;
@@ -12,9 +12,6 @@ use std::time::Duration;
 /// What the wheel and the words take of each slot, and what a shard takes besides.
 const SLOT_BYTES: usize = 32;
 const SHARD_BYTES: usize = 10_000;
-
-/// How many powers of two of milliseconds a deadline may be late.
-const POWERS: usize = 43;
 
 /// What a server watches of a [`DelayQueue`](crate::DelayQueue).
 ///
@@ -46,7 +43,8 @@ pub struct Stats {
     /// [`reset_lateness`](crate::DelayQueue::reset_lateness).
     pub latest: Duration,
     /// How many entries came out how late since then: at a place `k` those that were less than 2 to the power of `k` + 1
-    /// milliseconds late, and, but for the first place, not less than 2 to the power of `k`.
+    /// milliseconds late, and, but for the first place, not less than 2 to the power of `k`. Those at the last place were 2,048
+    /// milliseconds late or more.
     pub lateness: [u64; POWERS],
 }
 
@@ -84,7 +82,8 @@ pub trait Metrics {
     fn counter(&mut self, name: &str, total: u64);
     /// What rises and falls. Lengths of time are in seconds.
     fn gauge(&mut self, name: &str, value: f64);
-    /// A bucket of a histogram: how often less than that long was measured. They come in rising order.
+    /// A bucket of a histogram: how often less than that long was measured. They come in rising order, and of the last one the
+    /// length is [`Duration::MAX`].
     fn bucket(&mut self, name: &str, below: Duration, count: u64);
 }
 
@@ -105,7 +104,12 @@ impl Stats {
         let mut sum = 0;
         for (power, count) in (1..).zip(self.lateness) {
             sum += count;
-            metrics.bucket("lateness_seconds", Duration::from_millis(1 << power), sum);
+            let below = if power < POWERS {
+                Duration::from_millis(1 << power)
+            } else {
+                Duration::MAX
+            };
+            metrics.bucket("lateness_seconds", below, sum);
         }
     }
 }
@@ -168,17 +172,15 @@ impl<T> Shared<T> {
 
     pub fn stats(&self) -> Stats {
         let waiting = self.waiting();
-        let mut ended = Ended {
-            inserted: 0,
-            expired: 0,
-            removed: 0,
-            cancelled: 0,
-        };
-        self.segments().for_each(|(_, segment)| segment.add_ended(&mut ended));
+        let ended = self.all_ended();
         let cancels = self.front.cancels();
         let moves = self.moves_made.load(SeqCst);
         let now = self.front.time.tick();
         let late = self.first_filed_before(now).map_or(0, |first| now - first);
+        let mut lateness: [u64; POWERS] = array::from_fn(|power| self.rows().map(|row| row.late_by(power)).sum());
+        // Those that came out in time are counted nowhere else.
+        let counted = self.counted_late.load(SeqCst) + lateness.iter().sum::<u64>();
+        lateness[0] += ended.expired.saturating_sub(counted);
         Stats {
             // A move takes an entry out in one place and puts it in at another.
             inserted: ended.inserted.saturating_sub(moves),
@@ -191,8 +193,19 @@ impl<T> Shared<T> {
             memory: size_of::<Shared<T>>() + self.segments().map(|(_, segment)| segment.memory()).sum::<usize>(),
             late: Duration::from_millis(late),
             latest: Duration::from_millis(self.latest.load(SeqCst).max(late)),
-            lateness: array::from_fn(|power| self.rows().map(|row| row.late_by(power)).sum()),
+            lateness,
         }
+    }
+
+    fn all_ended(&self) -> Ended {
+        let mut ended = Ended {
+            inserted: 0,
+            expired: 0,
+            removed: 0,
+            cancelled: 0,
+        };
+        self.segments().for_each(|(_, segment)| segment.add_ended(&mut ended));
+        ended
     }
 
     fn rows(&self) -> impl Iterator<Item = &Row> {
@@ -204,6 +217,7 @@ impl<T> Shared<T> {
         for (_, segment) in self.segments() {
             (0..segment.rows.len()).for_each(|place| segment.enter(place).begin_late_anew());
         }
+        self.counted_late.store(self.all_ended().expired, SeqCst);
         self.latest.store(0, SeqCst);
     }
 }

@@ -68,7 +68,9 @@ mod tests {
         let shared = &queue.shared;
         let segment = shared.segment(0).expect("a segment");
         let insert = |number: usize| {
-            let key = segment.insert(1, number.to_string(), 1_000_000).expect("a free slot");
+            let key = segment
+                .insert_value(1, number.to_string(), 1_000_000)
+                .expect("a free slot");
             shared.key(0, &key)
         };
         // The row has no slot left, so each goes to the other where it is reset.

@@ -46,7 +46,7 @@ impl<T> Shared<T> {
 
     /// The value of an entry that was taken out of its place, and is counted so.
     fn ended(&self, place: &Key, removed: Removed<T>) -> T {
-        if self.front.count_out(1) {
+        if self.front.count_out() {
             self.note_end();
         }
         let segment = self.segment(place.segment()).expect("a segment of the queue");
