@@ -195,9 +195,9 @@ impl WakerCell {
 /// [`IdleTimeouts::wrap`].
 ///
 /// # What counts
-/// Each read and each write that moved a byte gives it the whole time anew, by a call that takes no lock, but for a thread's
-/// first calls. A flush, a shutdown, an empty read or write and the end of the other side's bytes move none. So a connection
-/// whose other side has ended goes on as long as it writes.
+/// Each read and each write that moved a byte gives it the whole time anew. That takes no lock, but for a thread's first calls;
+/// it reads the clock, and of several within a millisecond one makes the two atomic steps. A flush, a shutdown, an empty read or
+/// write and the end of the other side's bytes move none. So a connection whose other side has ended goes on as long as it writes.
 ///
 /// # The timeout
 /// The task ends the connection at its deadline or after it, and never before. A read and a write that are pending then are both
