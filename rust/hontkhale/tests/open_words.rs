@@ -35,6 +35,15 @@ fn insert_all(queue: &mut Queue<String>, deadlines: impl Iterator<Item = u64>) -
         .collect()
 }
 
+/// Says that a test is over, also where it panics.
+struct Ends<'a>(&'a AtomicBool);
+
+impl Drop for Ends<'_> {
+    fn drop(&mut self) {
+        self.0.store(true, SeqCst);
+    }
+}
+
 const THREADS: u64 = 5_000;
 const AHEAD: u64 = 8;
 
@@ -72,6 +81,7 @@ fn five_thousand_threads_extend_one_table_beside_a_poller() {
                 }
             }
         });
+        let _ends = Ends(is_over);
         let small = || thread::Builder::new().stack_size(64 << 10);
         for _ in 0..THREADS / 50 {
             let wave: Vec<_> = (0..50)
@@ -83,7 +93,6 @@ fn five_thousand_threads_extend_one_table_beside_a_poller() {
                 .collect();
             wave.into_iter().for_each(|thread| thread.join().unwrap());
         }
-        is_over.store(true, SeqCst);
     });
     for expired in due(&mut queue, 2 * THREADS) {
         let entry: usize = expired.value.parse().unwrap();
