@@ -2,13 +2,17 @@
 
 use crate::clock::{Clock, Tick};
 use crate::command::{Client, Desk, Served, Session};
+use crate::connection::{After, Connection, Shop};
 use crate::keeper::keep;
 use crate::keyspace::{Keyspace, Lifetime, Place, KEEPERS};
 use crate::output::Output;
 use crate::resp::{integer, Broken, Parser, Protocol, Reply};
 use crate::room::Room;
-use crate::seats::{Guest, Seats};
+use crate::seats::{Guest, Seat, Seats};
 use crate::settings::Settings;
+use socket2::SockRef;
+use std::io::Write;
+use std::net::{TcpListener, TcpStream};
 use std::sync::atomic::{AtomicBool, AtomicU64, Ordering::SeqCst};
 use std::sync::{mpsc, Arc};
 use std::thread;
@@ -125,6 +129,46 @@ fn others_are_served_amid_a_transaction() {
     });
     wait_until("its names stay claimed", || served(&mut client(&keyspace), "DBSIZE") == Served::Done);
     assert_eq!(ask(&mut client(&keyspace), "DBSIZE"), Reply::Integer(3));
+}
+
+/// A client leaves what it was told unread, so that nothing more can be sent: its transaction is done nevertheless. It has to
+/// be amid one then, which hangs on how much its socket takes.
+#[test]
+fn a_transaction_of_a_client_that_reads_nothing_is_done() {
+    let (keyspace, seats) = (keyspace(), Arc::new(Seats::new(200, 1 << 30)));
+    let mut other = client(&keyspace);
+    is_ok(&mut other, &format!("SET v {}", "v".repeat(15_000)));
+    let mut shop = Shop::new(Desk::new(keyspace.clone(), seats.clone(), Arc::default()));
+    let listener = TcpListener::bind("127.0.0.1:0").unwrap();
+    let del = format!("DEL{}\r\n", " a".repeat(3_000));
+    let mut met = 0;
+    for round in 0..100 {
+        let mut peer = TcpStream::connect(listener.local_addr().unwrap()).unwrap();
+        let (socket, address) = listener.accept().unwrap();
+        SockRef::from(&socket).set_send_buffer_size(16 << 10).unwrap();
+        socket.set_nonblocking(true).unwrap();
+        let seat = Seat::take(&seats, address).unwrap();
+        let mut connection = Connection::new(mio::net::TcpStream::from_std(socket), seat, &shop.desk);
+        let mut line = format!("ECHO {}\r\n", "x".repeat(150 * round));
+        while !connection.is_stuck() {
+            peer.write_all(line.as_bytes()).unwrap();
+            connection.end();
+            while connection.turn(&mut shop).unwrap() == After::Again && !connection.is_stuck() {}
+            line = format!("GET v\r\nMULTI\r\n{del}{del}EXEC\r\n");
+        }
+        met += u32::from(served(&mut other, "GET a") == Served::Later);
+        for turn in 0.. {
+            if served(&mut other, "GET a") == Served::Done {
+                break;
+            }
+            assert!(turn < 1_000, "its names stay claimed");
+            connection.turn(&mut shop).unwrap();
+        }
+        if met == 3 {
+            return;
+        }
+    }
+    panic!("too few clients were amid a transaction");
 }
 
 #[test]
