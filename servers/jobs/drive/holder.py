@@ -54,13 +54,10 @@ class Job:
     def __init__(self, id, attempt, until, address, sent):
         self.id, self.attempt, self.address = id, attempt, address
         # By this machine's clock, which is the database's here: when its last accepted word was sent, a whole lease after
-        # which the lease ends and no sooner, when its answer came, and until when the table had it then.
-        self.sent, self.said = sent, time.time()
-        self.until = until / 1000
+        # which the lease ends and no sooner, and until when the table had it then.
+        self.sent, self.until = sent, until / 1000
         # When it was heard that another has the job.
         self.refused = None
-        # The longest time between two accepted words.
-        self.gap = 0.0
 
 
 class Holder:
@@ -103,9 +100,7 @@ class Holder:
         self.say(jobs, "JOBS.BEAT", self.noted)
 
     def noted(self, job, until):
-        now = time.time()
-        job.gap = max(job.gap, now - job.said)
-        job.said, job.until = now, until / 1000
+        job.until = until / 1000
 
     def say(self, jobs, word, accepted):
         by_address = {}

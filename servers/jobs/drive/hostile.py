@@ -272,7 +272,7 @@ def silent_clients(it):
     soft, hard = resource.getrlimit(resource.RLIMIT_NOFILE)
     resource.setrlimit(resource.RLIMIT_NOFILE, (min(4096, hard), hard))
     port = free_port()
-    worker = it.spawn("worker", "--listen", f"127.0.0.1:{port}", "--lease", "6000", "--write-every", "1000")
+    worker = it.spawn("worker", "--listen", f"127.0.0.1:{port}", "--lease", LONG, "--write-every", "1000")
     it.wait_for_owners(1)
     it.jobs("enqueue", "20")
     holder = Holder([f"127.0.0.1:{port}"])

@@ -131,6 +131,8 @@ def unique(it):
     it.sql(f"UPDATE jobs SET state = 'dead'; {one}; {one}")
     assert it.sql("SELECT state, count(*) FROM jobs GROUP BY 1 ORDER BY 1") == [["dead", "1"], ["waiting", "1"]]
     assert it.jobs("retry", "all") == "0 dead jobs wait again\n", "one of its key waits"
+    it.sql("UPDATE jobs SET state = 'dead'")
+    assert it.jobs("retry", "all") == "1 dead jobs wait again\n", "two of its key are dead"
     it.sql("TRUNCATE jobs")
     print("operator: a second job of a key isn't enqueued while one waits", flush=True)
 
@@ -201,12 +203,17 @@ def status_of_done(it, rows):
 
 def many_done(it, rows):
     """The status of very many done jobs is told as soon as that of few: it touches no more pages."""
+    # Nobody else touches any.
+    for word in ("ALTER SYSTEM SET autovacuum = off", "SELECT pg_reload_conf()"):
+        it.sql(word)
+    it.wait_for_number("SELECT count(*) FROM pg_stat_activity WHERE backend_type = 'autovacuum worker'", 0)
     _, _, few = status_of_done(it, 20_000)
     status, took, pages = status_of_done(it, rows)
     done = int(re.search(r"done about (\d+),", status)[1])
     assert abs(done - rows) < rows / 20 and "of the last 4000 first attempts: p50 3.0 ms" in status, status
     assert pages < 1.3 * few, (pages, few, took)
-    it.sql("TRUNCATE jobs")
+    for word in ("TRUNCATE jobs", "ALTER SYSTEM RESET autovacuum", "SELECT pg_reload_conf()"):
+        it.sql(word)
     print(
         f"operator: the status of {rows} done jobs was told after {took[0] * 1000:.0f} to {took[-1] * 1000:.0f} ms, by {pages:.0f} "
         f"pages; by {few:.0f} of 20000",

@@ -13,7 +13,12 @@ WHERE id = ANY (ARRAY(
         unique_key IS NULL OR NOT EXISTS (
             SELECT FROM jobs o
             WHERE o.kind = j.kind AND o.unique_key = j.unique_key AND o.state IN ('waiting', 'running')
-        )
+        ) AND NOT ($1 IS NULL AND EXISTS (
+            -- Of all that are dead of a key the last comes back.
+            SELECT FROM jobs o
+            WHERE o.kind = j.kind AND o.unique_key = j.unique_key AND o.state = 'dead' AND o.id > j.id
+                AND o.error IS DISTINCT FROM 'cancelled'
+        ))
     )
     ORDER BY id LIMIT 1000 FOR NO KEY UPDATE SKIP LOCKED
 ))

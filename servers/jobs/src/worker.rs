@@ -154,7 +154,10 @@ pub async fn run(options: WorkerOptions) -> Result<(), Box<dyn Error>> {
         (Some(listener), None) => listener.local_addr()?.to_string(),
     };
     let worker = Arc::new(Worker::new(options, address, ending));
-    tell(format_args!("worker {} at {}", worker.options.name, worker.address));
+    match worker.options.effect {
+        Some(_) => tell(format_args!("worker {} has an effect", worker.options.name)),
+        None => tell(format_args!("worker {} at {}", worker.options.name, worker.address)),
+    }
     watched(&worker).await?;
     worker.partitions.divide(setup::check(&worker.options.database).await?);
     let statement = match &worker.options.effect {

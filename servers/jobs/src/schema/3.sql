@@ -186,7 +186,7 @@ DECLARE
     other text;
 BEGIN
     PERFORM pg_advisory_xact_lock('jobs_workers'::regclass::oid::bigint);
-    SELECT name || ' at ' || address INTO other FROM jobs_workers
+    SELECT name || coalesce(' at ' || nullif(address, '-'), '') INTO other FROM jobs_workers
     WHERE until > clock_timestamp() - interval '2 seconds' AND worker <> number AND (address = '-') <> (its_address = '-');
     IF FOUND THEN
         RETURN other;
