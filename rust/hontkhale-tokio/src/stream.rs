@@ -9,8 +9,14 @@ use std::pin::Pin;
 use std::task::{Context, Poll, Waker};
 use tokio::time::Instant;
 
-/// What a [`hontkhale::DelayQueue`] has more of under tokio.
-pub trait QueueExt<T> {
+mod sealed {
+    pub trait Sealed {}
+
+    impl<T> Sealed for hontkhale::DelayQueue<T> {}
+}
+
+/// What a [`hontkhale::DelayQueue`] has more of under tokio. No other type has it.
+pub trait QueueExt<T>: sealed::Sealed {
     /// What expires, as a stream: see [`QueueStream`].
     ///
     /// ```
