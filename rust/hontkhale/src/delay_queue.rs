@@ -76,6 +76,20 @@ use waking::NEVER;
 /// for constant time. An insert may do a bounded part of what keeps the queue going besides, and takes memory where the queue
 /// grows.
 ///
+/// # Odd input
+/// | Input | What it comes to |
+/// |---|---|
+/// | a time of zero, or a moment that is over, of an insert, a guard or a reset | the entry is due at once |
+/// | the same of an extend | the deadline stays, unless it is over: it is never lowered |
+/// | [`Duration::MAX`], or any deadline of more than 139 years | `TooFar` |
+/// | [`Duration::MAX`] of [`recv_timeout`](DelayQueue::recv_timeout) or [`wait_empty`](DelayQueue::wait_empty) | it waits for ever |
+/// | a time of zero, or a moment that is over, of these and of [`recv_deadline`](DelayQueue::recv_deadline) | it doesn't wait |
+/// | an insert, a guard or an [`insert_with`](DelayQueue::insert_with) after a close | `Closed`: the value comes back, or none is made |
+/// | a call by key, [`len`](DelayQueue::len), [`stats`](DelayQueue::stats), [`drain`](DelayQueue::drain) or [`clear`](DelayQueue::clear) after a close | as before it |
+/// | a receive after a close | what is due, then none, or `Closed` |
+/// | a second close of either kind | [`close`](DelayQueue::close) counts |
+/// | a bound of 0 entries | each insert is refused as `Full` |
+///
 /// # Who drops values
 /// The values of entries that were cancelled are dropped by whoever receives, before an entry is in hand, by
 /// [`drain`](DelayQueue::drain) and [`clear`](DelayQueue::clear), and with the last clone, as are those that are left then.
