@@ -1,5 +1,6 @@
 -- Each step keeps the rule.
 use Rattle.std.proofs.Common.{◌≡◌, ◌≢◌, ◌⊎◌, ℕ, zero, suc, ◌+◌, ◌<◌, ◌≤◌, List, [], ◌∷◌, ◌++◌, length, get_or, set, replicate, true, false, true≢false, refl, sym, ap, ◌∙◌, subst, inl, inr, ⊎_elim, arith}
+use Rattle.std.proofs.lemmas.List.{get_or-set_same, get_or-set_other, set-get_or, length-set, length-replicate, get_or-replicate}
 use mathlib.Core.Option.{some, none, some-ne-none, some-injective}
 use mathlib.Core.Logic.{dite}
 use native.Mathlib.Decide.{ℕ_discrete, dec_le}
@@ -28,28 +29,6 @@ at_end [] a b zero e = inr (refl, some-injective a b e)
 at_end [] a b (suc j) e = absurd (some-ne-none b (sym e))
 at_end (x ∷ xs) a b zero e = inl e
 at_end (x ∷ xs) a b (suc j) e = ⊎_elim inl (λ t. inr (ap suc t.0, t.1)) (at_end xs a b j e)
-
-pub word_here : (ws : List ℕ) (i x d : ℕ) → i < length ws → get_or (set ws i x) i d ≡ x
-word_here [] i x d h = absurd (omega arith)
-word_here (y ∷ ys) zero x d h = refl
-word_here (y ∷ ys) (suc i) x d h = word_here ys i x d (omega arith)
-
-pub word_else : (ws : List ℕ) (i j x d : ℕ) → j ≢ i → get_or (set ws i x) j d ≡ get_or ws j d
-word_else [] i j x d n = refl
-word_else (y ∷ ys) zero zero x d n = absurd (n refl)
-word_else (y ∷ ys) zero (suc j) x d n = refl
-word_else (y ∷ ys) (suc i) zero x d n = refl
-word_else (y ∷ ys) (suc i) (suc j) x d n = word_else ys i j x d (λ e. n (ap suc e))
-
-pub word_stays : (ws : List ℕ) (i d : ℕ) → set ws i (get_or ws i d) ≡ ws
-word_stays [] i d = refl
-word_stays (y ∷ ys) zero d = refl
-word_stays (y ∷ ys) (suc i) d = ap (λ l. y ∷ l) (word_stays ys i d)
-
-pub as_long : (ws : List ℕ) (i x : ℕ) → length (set ws i x) ≡ length ws
-as_long [] i x = refl
-as_long (y ∷ ys) zero x = refl
-as_long (y ∷ ys) (suc i) x = ap suc (as_long ys i x)
 
 -- one seat's view is set to another of the same kind
 module _ (views : List SeatView) (id : ℕ) (v w : SeatView) (at : get_elem? views id ≡ some v) (kind : w.writes ≡ v.writes) (place : w.place ≡ v.place) where
@@ -118,14 +97,14 @@ module _ (key slots id : ℕ) (v : SeatView) (c : List (ℕ × ℕ)) (keeper : v
       let mine = (k.each id v at).hint keeper in
       let inside : p + 1 < length s.words = let a = mine.0 in let b = k.size in omega arith in
       let own : IsSeat key ws vs w = record {
-        hint = λ _. (mine.0, let P : ℕ → Type 0 = λ q. get_or ws (q + 1) 0 ≡ h in subst P (sym is) (word_here s.words (p + 1) h 0 inside));
+        hint = λ _. (mine.0, let P : ℕ → Type 0 = λ q. get_or ws (q + 1) 0 ≡ h in subst P (sym is) (get_or-set_same s.words (p + 1) h 0 inside));
         lead = λ y. absurd (off (sym plain ∙ y));
       } in (
         w,
         keeps,
         tt,
         record {
-          size = as_long s.words (p + 1) h ∙ k.size;
+          size = length-set s.words (p + 1) h ∙ k.size;
           writers = apart_on s.views id v w at refl refl k.writers;
           leader = one_on s.views id v w at refl refl refl k.leader;
           each = each_on s.views id v w at refl refl key ws own (others s k at);
@@ -138,13 +117,13 @@ module _ (key slots id : ℕ) (v : SeatView) (c : List (ℕ × ℕ)) (keeper : v
           let w = having_written v h in
           let ws = set s.words (p + 1) h in
           let f = k.each j u e in
-          let front : armed_until ws ≡ armed_until s.words = word_else s.words (p + 1) 0 h 0 (λ q. omega arith) in record {
-            hint = λ y. let b = f.hint y in (b.0, word_else s.words (p + 1) (u.place + 1) h 0 (λ q. ne (k.writers j id u v e at y keeper (omega arith))) ∙ b.1);
+          let front : armed_until ws ≡ armed_until s.words = get_or-set_other s.words (p + 1) 0 h 0 (λ q. omega arith) in record {
+            hint = λ y. let b = f.hint y in (b.0, get_or-set_other s.words (p + 1) (u.place + 1) h 0 (λ q. ne (k.writers j id u v e at y keeper (omega arith))) ∙ b.1);
             lead = λ y. let l = f.lead y in record {
               seen = l.seen;
               wakes = ⊎_elim (λ z. inl (front ∙ z)) (λ z. inr (front ∙ z.0, λ q lt. heed s at u q (z.1 q lt))) l.wakes;
               dealt = dealt_on s.views id v w at refl refl u.dealt l.dealt;
-              fresh = λ q ge lt. word_else s.words (p + 1) (q + 1) h 0 (λ x. let d = l.dealt id v at keeper in omega arith) ∙ l.fresh q ge lt;
+              fresh = λ q ge lt. get_or-set_other s.words (p + 1) (q + 1) h 0 (λ x. let d = l.dealt id v at keeper in omega arith) ∙ l.fresh q ge lt;
             };
           }
         where
@@ -153,14 +132,14 @@ module _ (key slots id : ℕ) (v : SeatView) (c : List (ℕ × ℕ)) (keeper : v
               dite (ℕ_discrete q p)
               (λ x. inr (id, having_written v h, there s.views id (having_written v h) v at, keeper, refl, is ∙ sym x))
               (λ n. ⊎_elim
-              (λ le. inl (let same = word_else s.words (p + 1) (q + 1) h 0 (λ x. n (omega arith)) in omega arith))
+              (λ le. inl (let same = get_or-set_other s.words (p + 1) (q + 1) h 0 (λ x. n (omega arith)) in omega arith))
               (λ o. inr (owed_on s.views id v (having_written v h) at refl refl (λ _. refl) q o))
               was)
 
   pub asks_ok : Allows (IsBell key) slots id (v, c) 0 (λ n. n) (asks (step slots 0 0 0 none) (v, c))
   asks_ok s k sized at wide =
       let a : ℕ = get_or s.words 0 0 in
-      let stays = word_stays s.words 0 0 in
+      let stays = set-get_or s.words 0 0 in
       dite (dec_le a v.hint)
       (λ le. (
         having_asked v,
@@ -218,25 +197,25 @@ module _ (key slots id : ℕ) (v : SeatView) (c : List (ℕ × ℕ)) (keeper : v
       let ws = set s.words 0 0 in
       let mine = (k.each id v at).hint keeper in
       let inside : 0 < length s.words = let b = k.size in omega arith in
-      let rung : armed_until ws ≡ 0 = word_here s.words 0 0 0 inside in
+      let rung : armed_until ws ≡ 0 = get_or-set_same s.words 0 0 0 inside in
       let own : IsSeat key ws (set s.views id w) w = record {
-        hint = λ _. (mine.0, word_else s.words 0 (v.place + 1) 0 0 (λ q. omega arith) ∙ mine.1);
+        hint = λ _. (mine.0, get_or-set_other s.words 0 (v.place + 1) 0 0 (λ q. omega arith) ∙ mine.1);
         lead = λ y. absurd (off (sym plain ∙ y));
       } in (
         w,
         keeps,
         tt,
         record {
-          size = as_long s.words 0 0 ∙ k.size;
+          size = length-set s.words 0 0 ∙ k.size;
           writers = apart_on s.views id v w at refl refl k.writers;
           leader = one_on s.views id v w at refl refl refl k.leader;
           each = each_on s.views id v w at refl refl key ws own (λ j u ne e. let f = k.each j u e in record {
-            hint = λ y. let b = f.hint y in (b.0, word_else s.words 0 (u.place + 1) 0 0 (λ q. omega arith) ∙ b.1);
+            hint = λ y. let b = f.hint y in (b.0, get_or-set_other s.words 0 (u.place + 1) 0 0 (λ q. omega arith) ∙ b.1);
             lead = λ y. let l = f.lead y in record {
               seen = l.seen;
               wakes = inl rung;
               dealt = dealt_on s.views id v w at refl refl u.dealt l.dealt;
-              fresh = λ q ge lt. word_else s.words 0 (q + 1) 0 0 (λ x. omega arith) ∙ l.fresh q ge lt;
+              fresh = λ q ge lt. get_or-set_other s.words 0 (q + 1) 0 0 (λ x. omega arith) ∙ l.fresh q ge lt;
             };
           });
         },
@@ -255,20 +234,20 @@ module _ (key slots id : ℕ) (v : SeatView) (c : List (ℕ × ℕ)) (leads : v.
         hint = λ y. absurd (off (sym plain ∙ y));
         lead = λ _. record {
           seen = omega arith;
-          wakes = inr (word_here s.words 0 until 0 inside, λ q lt. absurd (omega arith));
+          wakes = inr (get_or-set_same s.words 0 until 0 inside, λ q lt. absurd (omega arith));
           dealt = dealt_on s.views id v w at refl refl v.dealt l.dealt;
-          fresh = λ q ge lt. word_else s.words 0 (q + 1) until 0 (λ x. omega arith) ∙ l.fresh q ge lt;
+          fresh = λ q ge lt. get_or-set_other s.words 0 (q + 1) until 0 (λ x. omega arith) ∙ l.fresh q ge lt;
         };
       } in (
         w,
         keeps,
         tt,
         record {
-          size = as_long s.words 0 until ∙ k.size;
+          size = length-set s.words 0 until ∙ k.size;
           writers = apart_on s.views id v w at refl refl k.writers;
           leader = one_on s.views id v w at refl refl refl k.leader;
           each = each_on s.views id v w at refl refl key ws own (λ j u ne e. let f = k.each j u e in record {
-            hint = λ y. let b = f.hint y in (b.0, word_else s.words 0 (u.place + 1) until 0 (λ q. omega arith) ∙ b.1);
+            hint = λ y. let b = f.hint y in (b.0, get_or-set_other s.words 0 (u.place + 1) until 0 (λ q. omega arith) ∙ b.1);
             lead = λ y. absurd (ne (k.leader j id u v e at y leads));
           });
         },
@@ -302,7 +281,7 @@ module _ (key slots id : ℕ) (v : SeatView) (c : List (ℕ × ℕ)) (leads : v.
   pub looks_ok : (i : ℕ) → i ≡ v.seen → i < key → Allows (IsBell key) slots id (v, c) (i + 1) (λ n. n) (looks (step slots (i + 1) 0 0 none) (v, c))
   looks_ok i is small s k sized at wide =
       let a : ℕ = get_or s.words (i + 1) 0 in
-      let stays = word_stays s.words (i + 1) 0 in
+      let stays = set-get_or s.words (i + 1) 0 in
       let l = (k.each id v at).lead leads in
       dite (dec_le v.until a)
       (λ le. (
@@ -393,29 +372,20 @@ module _ (key id : ℕ) (v : SeatView) (leads : v.leads ≡ true) (plain : v.wri
       }
 
 -- the start
-pub all_same : (n p x : ℕ) → p < n → get_or (replicate n x) p 0 ≡ x
-all_same zero p x h = absurd (omega arith)
-all_same (suc n) zero x h = refl
-all_same (suc n) (suc p) x h = all_same n p x (omega arith)
-
-pub so_long : (n x : ℕ) → length (replicate n x) ≡ n
-so_long zero x = refl
-so_long (suc n) x = ap suc (so_long n x)
-
 pub opens : (n : ℕ) (ws : List ℕ) → ws ≡ set (replicate (n + 1) NEVER) 0 0 → IsBell n (opening ws [] first_leader)
 opens n ws is =
     let P : List ℕ → Type 0 = λ l. IsBell n (opening l [] first_leader) in
     subst P (sym is) (record {
-      size = as_long (replicate (n + 1) NEVER) 0 0 ∙ so_long (n + 1) NEVER;
+      size = length-set (replicate (n + 1) NEVER) 0 0 ∙ length-replicate (n + 1) NEVER;
       writers = λ j k x y ej ek hx hy q. absurd (off (ap (λ (z : SeatView). z.writes) (only j x ej) ∙ hx));
       leader = λ j k x y ej ek hx hy. at_0 j x ej ∙ sym (at_0 k y ek);
       each = λ j v e. let Q : SeatView → Type 0 = λ u. IsSeat n (set (replicate (n + 1) NEVER) 0 0) (first_leader ∷ []) u in subst Q (only j v e) (record {
         hint = λ y. absurd (off y);
         lead = λ _. record {
           seen = omega arith;
-          wakes = inl (word_here (replicate (n + 1) NEVER) 0 0 0 (let a = so_long (n + 1) NEVER in omega arith));
+          wakes = inl (get_or-set_same (replicate (n + 1) NEVER) 0 0 0 (let a = length-replicate (n + 1) NEVER in omega arith));
           dealt = λ i u e' y. absurd (off (ap (λ (z : SeatView). z.writes) (only i u e') ∙ y));
-          fresh = λ q ge lt. word_else (replicate (n + 1) NEVER) 0 (q + 1) 0 0 (λ z. omega arith) ∙ all_same (n + 1) (q + 1) NEVER (omega arith);
+          fresh = λ q ge lt. get_or-set_other (replicate (n + 1) NEVER) 0 (q + 1) 0 0 (λ z. omega arith) ∙ get_or-replicate (n + 1) (q + 1) NEVER 0 (omega arith);
         };
       });
     })

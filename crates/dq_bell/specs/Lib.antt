@@ -2,4 +2,6 @@ pub mod Views
 pub mod Rule
 pub mod Plays
 pub mod Seats
+pub mod Rolls
+pub mod Lines
 pub mod Law

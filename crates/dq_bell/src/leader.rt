@@ -130,6 +130,14 @@ impl<A: Allocator> Leader<A> {
         true
     }
 
+    /// Says that it doesn't sleep: nobody rings it.
+    pub fn rise(&mut self)
+        ensures awake { self.new.until ≡ 0 }
+        ensures same { AtSameBell self.old self.new }
+    {
+        self.arm(0);
+    }
+
     /// Ends the lead: nobody sleeps at the bell from here on. Its hints stay.
     pub fn end(self) {
         let Leader {

@@ -14,8 +14,11 @@ mod due;
 mod hint;
 mod laws;
 mod leader;
+mod line;
+mod roll;
 mod rule;
 mod rung;
+mod sleepers;
 #[cfg(test)]
 mod tests;
 
@@ -24,7 +27,9 @@ pub use due::Due;
 pub use hint::Hint;
 pub use laws::{no_wake_is_lost, nobody_sleeps_once_closed};
 pub use leader::Leader;
+pub use line::Line;
 pub use rung::Rung;
+pub use sleepers::Call;
 
 /// The hint of a place where nothing waits, and the tick of a sleep without an end.
 pub const NEVER: u64 = 18446744073709551615;

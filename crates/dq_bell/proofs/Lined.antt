@@ -1,0 +1,53 @@
+-- Somebody leads wherever anybody sleeps, and the lead is handed on.
+
+use Rattle.std.proofs.Common.{◌≡◌, ◌≢◌, ◌⊎◌, ℕ, zero, suc, ◌+◌, ◌<◌, ◌≤◌, ◌==◌, if◌then◌else◌, Bool, true, false, Option, None, Some, List, [], ◌∷◌, get_or, set, refl, sym, ap, ◌∙◌, inl, inr, arith}
+use Rattle.std.proofs.lemmas.List.{get_or-set_other}
+use Rattle.dq_bell.specs.Seats.{LeaderSeat, CloserSeat}
+use Rattle.dq_bell.specs.Rolls.{RollState, StandsInLine, first_in, LeavesRoll}
+use Rattle.dq_bell.specs.Lines.{LineState, SleepsAt, IsAwakeAt, HasLooked, IsLine, LeavesLine}
+
+first_of : (count x : ℕ) → 0 < count → (f : ℕ) × ((if count == 0 then None else Some x) ≡ Some f)
+first_of count x h = (x, grind arith)
+
+someone_leads : (r : RollState) (i : ℕ) → StandsInLine r i → (f : ℕ) × (first_in r ≡ Some f)
+someone_leads r i h = first_of r.count (get_or r.indexes 0 0) (let a = h.1 in omega arith)
+
+pub led_by : (l : LeaderSeat) (c : CloserSeat) (r : RollState) (s : List Bool) → IsLine l c r s
+    → (i : ℕ) → SleepsAt s i → (f : ℕ) × (first_in r ≡ Some f) × (SleepsAt s f → HasLooked l)
+led_by l c r s line i h = let x = someone_leads r i (line.in_line i h) in (x.0, x.1, line.led x.0 x.1)
+
+one_or_not : (x y : ℕ) → (x ≡ y) ⊎ (x ≢ y)
+one_or_not x y = grind arith
+
+abbrev value : Option ℕ → ℕ
+value None = 0
+value (Some x) = x
+
+same : {o : Option ℕ} (f g : ℕ) → o ≡ Some f → o ≡ Some g → f ≡ g
+same f g e h = ap value (sym e ∙ h)
+
+awake_there : (s : List Bool) (i : ℕ) → IsAwakeAt (set s i false) i
+awake_there [] i = refl
+awake_there (b ∷ s) zero = refl
+awake_there (b ∷ s) (suc i) = awake_there s i
+
+abbrev pub line_of : LeaderSeat → CloserSeat → RollState → List Bool → LineState
+line_of l c r s = record { leader = l; closer = c; roll = r; sleeps = s }
+
+-- the one that led left, and the next one is called
+pub hands_on : (l : LeaderSeat) (c : CloserSeat) (r r2 : RollState) (s : List Bool) (i f : ℕ) (called : Bool)
+    → LeavesRoll r i r2 → IsAwakeAt s i → first_in r ≡ Some i → first_in r2 ≡ Some f → called ≡ get_or s f false
+    → LeavesLine (line_of l c r s) i called (line_of l c r2 (set s f false))
+hands_on l c r r2 s i f called left awake first next is_called = record {
+  bell = (refl, refl, refl);
+  closer = refl;
+  is_out = left.is_out;
+  awake = elim (one_or_not i f) [ inl e ↦ rw e (awake_there s f) | inr n ↦ get_or-set_other s f i false false n ∙ awake ];
+  stay = left.others;
+  follows = λ n. absurd (n first);
+  next = λ _ g e. let q : g ≡ f = same g f e next in (rw q (awake_there s f), rw q is_called);
+  sleep_on = λ j ji or. elim or [
+    | inl n ↦ absurd (n first)
+    | inr n ↦ get_or-set_other s f j false false (λ e. n (rw e next))
+  ];
+}

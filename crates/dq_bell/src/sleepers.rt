@@ -1,0 +1,99 @@
+//! Who sleeps, by index, each with the `W` that wakes it.
+ghost use Rattle.std.specs.Prelude.{◌≡◌, ℕ, ◌<◌, ◌≤◌, true, false, length, is_some, slice_index_or, slice_set, IfOk, IfErr};
+ghost use Rattle.dq_bell.specs.Lines.{SleepsAt, IsAwakeAt, AllSleepOn};
+
+use std::alloc::{AllocError, Allocator, Global};
+use std::marker::Model;
+
+/// One that was called out of its sleep. Whoever has it wakes it, with no lock held.
+#[must_use = "it sleeps on until it is woken"]
+pub struct Call<W>(pub W);
+
+/// Who sleeps.
+#[derive(Drop)]
+pub(crate) struct Sleepers<W, A: Allocator = Global> {
+    calls: Vec<Option<W>, A>,
+}
+
+impl<W, A: Allocator> Model for Sleepers<W, A> {
+    ghost use Rattle.std.specs.Prelude.{List, Bool, map, is_some};
+
+    ghost Value = { List Bool };
+
+    ghost view = { λ s. map is_some s.calls.items };
+}
+
+impl<W, A: Allocator> Sleepers<W, A> {
+    /// Nobody.
+    pub fn new(calls: Vec<Option<W>, A>) -> Sleepers<W, A>
+        requires { length calls.items ≡ 0 }
+        ensures { length result ≡ 0 }
+    {
+        Sleepers { calls }
+    }
+
+    /// Whether the one at an index sleeps.
+    pub fn sleeps_at(&self, at: usize) -> bool
+        ensures { result ≡ slice_index_or self.now at false }
+    {
+        at < self.calls.len() && self.calls[at].is_some()
+    }
+
+    /// Takes the one at an index out, where it sleeps.
+    pub fn take(&mut self, at: usize) -> Option<W>
+        ensures sleeps { self.new ≡ slice_set self.old at false }
+        ensures taken { is_some result ≡ slice_index_or self.old at false }
+    {
+        if at < self.calls.len() {
+            self.calls[at].take()
+        } else {
+            None
+        }
+    }
+
+    /// The same, as a call.
+    pub fn call(&mut self, at: usize) -> Option<Call<W>>
+        ensures sleeps { self.new ≡ slice_set self.old at false }
+        ensures called { is_some result ≡ slice_index_or self.old at false }
+    {
+        match self.take(at) {
+            Some(call) => Some(Call(call)),
+            None => None,
+        }
+    }
+}
+
+impl<W: Drop, A: Allocator> Sleepers<W, A> {
+    /// The one at an index sleeps.
+    pub fn put(&mut self, at: usize, call: W)
+        requires { at < length self.old }
+        ensures { self.new ≡ slice_set self.old at true }
+    {
+        self.calls[at] = Some(call);
+    }
+
+    /// Room for the one at an index, where there was room for all before it.
+    pub fn grow(&mut self, at: usize) -> Result<(), AllocError>
+        ensures room { IfOk result (λ _. at ≤ length self.old → at < length self.new) }
+        ensures more { length self.old ≤ length self.new }
+        ensures same { AllSleepOn self.old self.new }
+    {
+        if at >= self.calls.len() {
+            self.calls.push(None)?;
+        }
+        Ok(())
+    }
+
+    /// Calls one of those that sleep. Where it answers `None` nobody does.
+    pub fn call_last(&mut self) -> Option<Call<W>>
+        ensures fewer { (i : ℕ) → SleepsAt self.new i → SleepsAt self.old i }
+        ensures all { is_some result ≡ false → (i : ℕ) → IsAwakeAt self.new i }
+    {
+        while let Some(call) = self.calls.pop() {
+            if let Some(call) = call {
+                return Some(Call(call));
+            }
+        }
+        None
+    }
+}
