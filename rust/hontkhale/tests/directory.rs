@@ -1,7 +1,7 @@
 //! The directory of what is made later: what one thread adds, others find under its number, and nothing else.
 
 use hontkhale::directory::{AddError, Clerk, Directory, MOST};
-use std::sync::atomic::{AtomicU32, Ordering};
+use std::sync::atomic::{AtomicBool, AtomicU32, Ordering};
 use std::sync::Arc;
 use std::thread;
 
@@ -11,17 +11,18 @@ const THINGS: u32 = 20_000;
 
 fn directory_of(things: u32) -> (Clerk<Box<u32>>, Directory<Box<u32>>) {
     let mut clerk = Clerk::new(things).expect("memory");
-    add_all(&mut clerk, things, &AtomicU32::new(0));
+    assert!(add_all(&mut clerk, things, &AtomicU32::new(0)));
     let directory = clerk.directory().clone();
     (clerk, directory)
 }
 
-/// Adds so many things, each of which is its own number, and tells after each how many there are.
-fn add_all(clerk: &mut Clerk<Box<u32>>, things: u32, added: &AtomicU32) {
-    for number in 0..things {
-        assert_eq!(clerk.add(Box::new(number)), Ok(number));
-        added.store(number + 1, Ordering::SeqCst);
-    }
+/// Adds so many things, each of which is its own number, and tells after each how many there are. Whether all were added.
+fn add_all(clerk: &mut Clerk<Box<u32>>, things: u32, added: &AtomicU32) -> bool {
+    (0..things).all(|number| {
+        let is_added = clerk.add(Box::new(number)) == Ok(number);
+        added.store(number + u32::from(is_added), Ordering::SeqCst);
+        is_added
+    })
 }
 
 /// Looks from the last number to the first. What is there is its own number's, and so is all below it. How many are there.
@@ -38,24 +39,28 @@ fn look(directory: &Directory<Box<u32>>, things: u32) -> u32 {
 #[test]
 fn readers_find_what_was_added_at_once_and_in_order() {
     let mut clerk = Clerk::new(THINGS).expect("memory");
-    let added = AtomicU32::new(0);
+    let (added, is_over) = (AtomicU32::new(0), AtomicBool::new(false));
     let read = |directory: Directory<Box<u32>>| {
-        let added = &added;
+        let (added, is_over) = (&added, &is_over);
         move || loop {
+            let is_last = is_over.load(Ordering::SeqCst);
             let before = added.load(Ordering::SeqCst);
             let found = look(&directory, THINGS);
             assert!(found >= before, "{found} of {before} that were added are there");
-            if found == THINGS {
+            if is_last {
                 break;
             }
         }
     };
-    thread::scope(|scope| {
+    let all_added = thread::scope(|scope| {
         for _ in 0..READERS {
             scope.spawn(read(clerk.directory().clone()));
         }
-        add_all(&mut clerk, THINGS, &added);
+        let all_added = add_all(&mut clerk, THINGS, &added);
+        is_over.store(true, Ordering::SeqCst);
+        all_added
     });
+    assert!(all_added);
 }
 
 // promise: directory.for-ever
