@@ -184,9 +184,14 @@ fn a_waker_that_panics_keeps_no_other_task_asleep() {
     }
 }
 
-/// The renewal wakes a receiver, which is to drop what was set aside.
+/// The renewal wakes a receiver, which is to drop what was set aside. Whether an insert renews depends on the shard in which its
+/// thread inserts: some do.
 #[test]
 fn an_insert_that_renews_a_shard_has_its_entry_in_though_a_waker_panics() {
+    assert!((0..16).any(|_| thread::spawn(an_insert_panics_by_a_waker).join().expect("no other panic")));
+}
+
+fn an_insert_panics_by_a_waker() -> bool {
     let queue = DelayQueue::builder().shards(2).last_stamp(2).build();
     let insert = |after| queue.insert("a value".to_string(), after).expect("room");
     let keys: Vec<_> = (0..128).map(|_| insert(FAR)).collect();
@@ -201,8 +206,9 @@ fn an_insert_that_renews_a_shard_has_its_entry_in_though_a_waker_panics() {
         Ok(key) => queue.remove(&key).is_err(),
         Err(_) => true,
     };
-    assert!((0..100_000).any(panics_or_goes));
-    assert_eq!(queue.len(), 1);
+    let panicked = (0..2_000).any(panics_or_goes);
+    assert_eq!(queue.len(), usize::from(panicked));
+    panicked
 }
 
 #[test]
