@@ -6,8 +6,8 @@ use std::sync::atomic::{AtomicBool, Ordering};
 use std::thread;
 use std::time::Instant;
 
-use hontkhale::owner::{Piece, Turn};
-use hontkhale::shards::{QueueConfig, SharedDelayQueue};
+use hontkhale::parts::owner::{Piece, Turn};
+use hontkhale::parts::shards::{QueueConfig, SharedDelayQueue};
 
 /// The steps of a piece, by the names of the ways to poll.
 const WAYS: [(&str, Option<u32>); 4] =

@@ -1,6 +1,8 @@
 //! Our queue as plain Rust has it: the cargo crate, which is the erased source.
 
-use hontkhale::owner::{shared_queue, CallError, Caller, CoreConfig, DelayCore, Expired, Keeper, Key, OpenWords, Turn};
+use hontkhale::parts::owner::{
+    shared_queue, CallError, Caller, CoreConfig, DelayCore, Expired, Keeper, Key, OpenWords, Turn,
+};
 
 use crate::queue::{Extends, Parts, Polls, Queue, Shared};
 
@@ -35,7 +37,20 @@ impl Calls for OpenWords {
     }
 }
 
-/// The queue, and a caller of it or its open words.
+/// Nobody: the owner alone has the words, so that its steps are plain ones.
+pub struct Nobody;
+
+impl Calls for Nobody {
+    fn extend(&mut self, _key: &Key, _deadline: u64) -> Result<u64, CallError> {
+        unreachable!("nobody extends")
+    }
+
+    fn cancel(&mut self, _key: &Key) -> Result<u64, CallError> {
+        unreachable!("nobody cancels")
+    }
+}
+
+/// The queue, and a caller of it, its open words, or neither.
 pub struct Erased<C> {
     queue: DelayCore<u64, Keeper>,
     calls: C,
@@ -55,6 +70,13 @@ impl Erased<OpenWords> {
         let calls = keeper.open().expect("open words");
         let queue = DelayCore::new(CoreConfig::of(capacity), keeper).expect("a queue of that capacity");
         Erased { queue, calls }
+    }
+}
+
+impl Erased<Nobody> {
+    pub fn alone(capacity: usize) -> Erased<Nobody> {
+        let queue = shared_queue(capacity).expect("a queue of that capacity");
+        Erased { queue, calls: Nobody }
     }
 }
 

@@ -1,13 +1,13 @@
 //! Our shared queue as plain Rust has it: the crate's `SharedDelayQueue`, whose locks are std's and whose extends and cancels take none.
 
-use hontkhale::owner::{Key, Turn};
-use hontkhale::shards::{Handle, QueueConfig, SharedDelayQueue};
+use hontkhale::parts::owner::{Key, Turn};
+use hontkhale::parts::shards::{Handle, QueueConfig, SharedDelayQueue};
 
 use crate::plan::BURST;
 use crate::queue::Sharded;
 use crate::shards::{Begun, Gone};
 
-pub struct ErasedShards(SharedDelayQueue<u64>);
+pub struct ErasedShards(pub(crate) SharedDelayQueue<u64>);
 
 impl ErasedShards {
     /// A queue of so many shards, each with room for so many entries.

@@ -7,7 +7,7 @@ use std::sync::{Mutex, MutexGuard};
 use std::thread::{self, Thread};
 use std::time::{Duration, Instant};
 
-use hontkhale::owner::{shared_queue, DelayCore, Keeper, Piece, Turn};
+use hontkhale::parts::owner::{shared_queue, DelayCore, Keeper, Piece, Turn};
 
 use crate::beside::{DEADLINE, LATER, OPENS};
 use crate::through::print_by_name;

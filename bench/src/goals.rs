@@ -5,22 +5,21 @@
 use std::fs;
 use std::time::Duration;
 
-use hontkhale::delay_queue::ManualClock;
-use hontkhale::DelayQueue;
+use hontkhale::{DelayQueue, ManualClock};
 
 use crate::plan::BURST;
 use crate::product::Standing;
 use crate::table::{unparks, wakes};
 use crate::{rounds_of, Asked, Clocks, PausedClock, Timed, TurnedWithin};
 
-const BARE: &str = "lasting-shards";
+const BARE: &str = "rust-checked-shards";
 /// A goal, the row in which it is timed, and its sides. In the first row each thread has entries of its own.
 const CALLS: [(&str, &str, &[&str]); 5] = [
-    ("extend", "own-extend", &[BARE, "lasting-at", "lasting-now", "queue-at", "queue"]),
-    ("insert", "insert", &[BARE, "lasting-at", "lasting-now", "queue-at", "queue", "queue-reserved"]),
-    ("reset", "reset", &[BARE, "lasting-at", "lasting-now", "queue-at", "queue", "queue-reserved"]),
+    ("extend", "own-extend", &[BARE, "shards-at", "shards-now", "queue-at", "queue"]),
+    ("insert", "insert", &[BARE, "shards-at", "shards-now", "queue-at", "queue", "queue-reserved"]),
+    ("reset", "reset", &[BARE, "shards-at", "shards-now", "queue-at", "queue", "queue-reserved"]),
     ("remove", "remove", &[BARE, "queue-at", "queue-reserved"]),
-    ("recv_many", "poll-burst", &[BARE, "lasting-at", "queue-at", "queue-reserved"]),
+    ("recv_many", "poll-burst", &[BARE, "shards-at", "queue-at", "queue-reserved"]),
 ];
 const TIMEOUTS: &[&str] = &["delay-queue-locked", "adapter-handle"];
 /// How often the wakes are taken, of which each is a median of many.

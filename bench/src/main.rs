@@ -7,6 +7,8 @@ mod adapter;
 mod beside;
 mod best;
 #[cfg(feature = "rust")]
+mod by_hand;
+#[cfg(feature = "rust")]
 mod erased;
 #[cfg(feature = "rust")]
 mod erased_shards;
@@ -16,13 +18,11 @@ mod floor;
 mod free;
 #[cfg(feature = "rust")]
 mod goals;
+#[cfg(feature = "rust")]
+mod growing;
 mod hashed;
 mod heap;
 mod indexed;
-#[cfg(feature = "rust")]
-mod keeps;
-#[cfg(feature = "rust")]
-mod lasting;
 mod lives;
 mod longest;
 mod plan;
@@ -44,6 +44,8 @@ use std::process::ExitCode;
 use adapter::{Adapter, Touching};
 use best::BestHeap;
 #[cfg(feature = "rust")]
+use by_hand::ByHand;
+#[cfg(feature = "rust")]
 use erased::Erased;
 #[cfg(feature = "rust")]
 use erased_shards::ErasedShards;
@@ -51,8 +53,6 @@ use floor::Floor;
 use hashed::HashedWheel;
 use heap::{Extending, HeapQueue};
 use indexed::IndexedHeap;
-#[cfg(feature = "rust")]
-use lasting::{ByHand, Lasting};
 use lives::Life;
 use longest::Touched;
 use plan::shard_room;
@@ -74,9 +74,9 @@ with own- before all of these but the bursts, each of as many threads has a shar
 entries: 1 to 65536, of each shard; threads: 1, and 1 to 64 for callers and over shards
        peers beside ENTRIES ROUNDS, where it was built with our crates: a poll in pieces beside another thread's inserts
        peers fair ENTRIES ROUNDS, likewise: what these inserts wait, for some ways to be fair
-       peers keeps ENTRIES ROUNDS, likewise: how long the calls take that keep a lasting queue going
        peers queue ENTRIES THREADS ROUNDS, likewise: a table of `DelayQueue` beside what it is made of and beside its peers
-       peers goals ENTRIES THREADS ROUNDS, likewise: what the goals of `DelayQueue` compare; peers memory ENTRIES: what an entry takes";
+       peers goals ENTRIES THREADS ROUNDS, likewise: what the goals of `DelayQueue` compare; peers memory ENTRIES: what an entry takes
+       peers growing ENTRIES ROUNDS, likewise: a queue of one owner that grows and shrinks, while so many entries stand";
 
 /// What is timed: a row of one queue, the calls of a row one by one, or a row of shards, of bare calls or of whole lives, and their number.
 #[derive(Clone, Copy, Debug, PartialEq, Eq)]
@@ -170,18 +170,13 @@ fn mine_of(timed: Timed) -> &'static [&'static str] {
     let is_unchecked = cfg!(feature = "proved-bounds");
     match timed {
         Timed::Shards(..) | Timed::Lives(..) if is_unchecked => {
-            &["queue", "queue-at", "queue-reserved", "lasting-shards", "lasting-at", "lasting-now", "rust-shards"]
+            &["queue", "queue-at", "queue-reserved", "shards-at", "shards-now", "rust-shards"]
         }
-        Timed::Shards(..) | Timed::Lives(..) => &[
-            "queue",
-            "queue-at",
-            "queue-reserved",
-            "lasting-shards",
-            "lasting-at",
-            "lasting-now",
-            "rust-checked-shards",
-        ],
+        Timed::Shards(..) | Timed::Lives(..) => {
+            &["queue", "queue-at", "queue-reserved", "shards-at", "shards-now", "rust-checked-shards"]
+        }
         Timed::One(Row::Extend) if is_unchecked => &["rust", "rust-open"],
+        Timed::One(Row::Insert | Row::Poll) if is_unchecked => &["rust", "rust-open", "rust-alone"],
         _ if is_unchecked => &["rust"],
         Timed::One(Row::Callers) => &["rust-checked", "adapter-handle", "queue"],
         _ => &["rust-checked", "adapter", "adapter-handle", "queue"],
@@ -328,6 +323,8 @@ fn rounds_of_one<'a>(asked: &'a Asked, peer: &str, clocks: &'a Clocks<'a>) -> Ro
         #[cfg(feature = "rust")]
         "rust-open" => owned(asked, Erased::open(entries), &NoClock),
         #[cfg(feature = "rust")]
+        "rust-alone" => owned(asked, Erased::alone(entries), &NoClock),
+        #[cfg(feature = "rust")]
         "adapter" => owned(asked, Adapter::new(clock, entries, Touching::Owner), clock),
         #[cfg(feature = "rust")]
         "adapter-handle" => shared(asked, Adapter::new(clock, entries, Touching::Handle), clock),
@@ -357,11 +354,9 @@ fn rounds_of_shards<'a>(asked: &'a Asked, peer: &str, clocks: &'a Clocks<'a>) ->
         #[cfg(feature = "rust")]
         "rust-shards" | "rust-checked-shards" => sharded(asked, |shards| ErasedShards::new(shards, room), &NoClock),
         #[cfg(feature = "rust")]
-        "lasting-shards" => sharded(asked, |shards| Lasting::new(shards, room), &NoClock),
+        "shards-at" => by_hand(By::Moment),
         #[cfg(feature = "rust")]
-        "lasting-at" => by_hand(By::Moment),
-        #[cfg(feature = "rust")]
-        "lasting-now" => by_hand(By::Duration),
+        "shards-now" => by_hand(By::Duration),
         #[cfg(feature = "rust")]
         "queue" => product(By::Duration, 0),
         #[cfg(feature = "rust")]
@@ -396,7 +391,7 @@ fn time(asked: &Asked) {
     let paused: Vec<PausedClock> = names.iter().map(|_| PausedClock::new()).collect();
     #[cfg(feature = "rust")]
     let standing: Vec<Standing> = names.iter().map(|_| Standing::new()).collect();
-    let clocks = paused.iter().enumerate().map(|(_at, paused)| Clocks {
+    let clocks = paused.iter().map(|paused| Clocks {
         paused,
         within: TurnedWithin(paused),
         #[cfg(feature = "rust")]
@@ -439,11 +434,7 @@ fn asked_beside(name: &str, args: &[String]) -> Option<(usize, usize)> {
 fn main() -> ExitCode {
     let args: Vec<String> = std::env::args().skip(1).collect();
     #[cfg(feature = "rust")]
-    for (name, print) in [
-        ("beside", beside::print_rounds as fn(usize, usize)),
-        ("fair", fair::print_ways),
-        ("keeps", keeps::print_rounds),
-    ] {
+    for (name, print) in [("beside", beside::print_rounds as fn(usize, usize)), ("fair", fair::print_ways)] {
         if let Some((entries, rounds)) = asked_beside(name, &args) {
             print(entries, rounds);
             return ExitCode::SUCCESS;
@@ -458,6 +449,7 @@ fn main() -> ExitCode {
                 goals::print(entries, threads, rounds.max(1))
             }
             ("memory", &[entries]) => goals::print_memory(entries.max(1)),
+            ("growing", &[entries @ 1..=10_000_000, rounds]) => growing::print_rounds(entries, rounds.max(1)),
             _ => return time_asked(&args),
         }
         return ExitCode::SUCCESS;

@@ -5,8 +5,7 @@ use std::sync::atomic::{AtomicU64, Ordering};
 use std::sync::Mutex;
 use std::time::{Duration, Instant};
 
-use hontkhale::delay_queue::{Expired, Key, KeyError, ManualClock};
-use hontkhale::DelayQueue;
+use hontkhale::{DelayQueue, Expired, Key, KeyError, ManualClock};
 
 use crate::plan::BURST;
 use crate::queue::{Extends, Parts, Polls, Queue, Sharded, Shared};
@@ -56,7 +55,7 @@ impl Standing {
     #[inline(always)]
     pub fn by_hand(&self, when: Instant) -> u64 {
         let length = when.saturating_duration_since(self.start);
-        length.as_secs() * 1_000 + u64::from((length.subsec_nanos() + 999_999) / 1_000_000)
+        length.as_secs() * 1_000 + u64::from(length.subsec_nanos().div_ceil(1_000_000))
     }
 }
 

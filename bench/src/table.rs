@@ -8,7 +8,7 @@ use std::time::{Duration, Instant};
 use hontkhale::DelayQueue;
 
 use crate::best::BestHeap;
-use crate::lasting::Lasting;
+use crate::erased_shards::ErasedShards;
 use crate::product::{By, Product, Standing};
 use crate::queue::Sharded;
 use crate::rows::{Clock, NoClock};
@@ -57,11 +57,11 @@ pub fn print(entries: usize, threads: usize, rounds: usize) {
     }
     let handed = [
         hand_over(&Standing::new(), entries, threads, rounds),
-        median((0..rounds).map(|_| handed(&Lasting::new(shards, entries), &NoClock, entries, threads)).collect()),
+        median((0..rounds).map(|_| handed(&ErasedShards::new(shards, entries), &NoClock, entries, threads)).collect()),
         median((0..rounds).map(|_| handed(&heaps(shards, entries), &NoClock, entries, threads)).collect()),
     ];
-    let [queue, lasting, heap] = handed.map(|cell| format!("{cell:.1}"));
-    println!("\nInserted by {threads} threads and taken out by another: queue {queue}, lasting-shards {lasting}, heap-best-locked {heap}");
+    let [queue, bare, heap] = handed.map(|cell| format!("{cell:.1}"));
+    println!("\nInserted by {threads} threads and taken out by another: queue {queue}, shards {bare}, heap-best-locked {heap}");
     println!("An insert that is due wakes a receiver in {:.0}, an `unpark` in {:.0}", wakes(), unparks());
 }
 

@@ -79,12 +79,12 @@ def shared_speed():
 
 
 def product_speed():
-    """The same of what a server uses, beside the lasting queue under it."""
+    """The same of what a server uses, beside shards behind locks."""
     return named_speed(PLAN["product_peers"])
 
 
 def product_goals():
-    """What the crate's `DelayQueue` is to reach, and the ratios of the stored run, by the number of threads: of two sizes each."""
+    """What the crate's `DelayQueue` is to reach, and the ratios that the stored run has, by the number of threads: of two sizes each."""
     taken = {(goal, side, entries, threads): float(median) for goal, side, entries, threads, median, _ in rows_of("goals")}
     sizes, many = SIZES[1:], ("1", "2", "4")
 
@@ -96,8 +96,8 @@ def product_goals():
         side = PLAN["goal_sides"][ours]
         return f"{it['words']}{f', {side}' if side and ours != 'unpark' else ''}, beside {PLAN['goal_sides'][beside]}"
 
-    rows = [[told(it, ours, beside), f"{it['most']} times", *(ratios(it["goal"], ours, beside, threads) for threads in many)]
-            for it in PLAN["goals"] for ours, beside in it["pairs"]]
+    pairs = [(it, *pair, [ratios(it["goal"], *pair, threads) for threads in many]) for it in PLAN["goals"] for pair in it["pairs"]]
+    rows = [[told(it, ours, beside), f"{it['most']} times", *cells] for it, ours, beside, cells in pairs if any(cells)]
     memory = {side: value for (goal, side, *_), value in taken.items() if goal == "memory"}
     rows.append(["a million live entries, beside the value", "64 bytes", f"{memory['entry']:.0f} bytes", "", ""])
     rows.append(["the same once they came out", "10%", f"{memory['stays']:.1f}%", "", ""])
@@ -229,32 +229,32 @@ def fair():
                  "beside nobody"], rows, 3)
 
 
-def renewing():
-    """The calls of a lasting queue: steady, and while one shard is renewed at any time."""
-    found = {tuple(it[:4]): it for it in rows_of("pieces") if it[1] == "renewing"}
-
-    def both(call, size, number):
-        return " / ".join(ns_text(number(found[name, "renewing", size, call])) for name in ("steady", "renewed"))
-
-    numbers = {"mean": lambda it: float(it[10]) / float(it[4]), "longest": lambda it: float(it[9])}
-    return grid(["Call", *(f"{what}, {int(size):,} entries" for what in numbers for size in SIZES)],
-                ([call, *(both(call, size, number) for number in numbers.values() for size in SIZES)]
-                 for call in ("insert", "extend", "reset", "remove", "poll", "keep")))
-
-
 def instructions():
     """Instructions and cache misses an operation, of ours, of the heap and of the crate."""
     its = noted("instructions")
-    ours, crate = ("ours-owned", "ours", "heap-note"), ("rust", "rust-checked")
+    ours, crate, words = ("ours-owned", "ours", "heap-note"), ("rust", "rust-checked"), ("rust-alone", "rust-open")
 
     def told(name, what, peers):
-        text = " / ".join(its[name, f"{what} {peer}"] for peer in peers)
+        text = " / ".join(its.get((name, f"{what} {peer}"), "") for peer in peers).strip(" /")
         later = its.get((name, f"{what} heap-note later")) if peers == ours else None
         return f"{text}, and {later} more at a later poll" if later else text
 
-    heads = ["Row", "Instructions: one owner / shared / lazy heap", "by the crate: `rust` / `rust-checked`", "Misses: one owner / shared / lazy heap"]
-    return grid(heads, ([name, told(name, "instructions", ours), told(name, "instructions", crate), told(name, "misses", ours)]
-                        for name in ("insert", "extend", "reset", "remove", "poll")), 4)
+    heads = ["Row", "Instructions: one owner / shared / lazy heap", "by the crate: `rust` / `rust-checked`", "its words nobody's / open",
+             "Misses: one owner / shared / lazy heap"]
+    of = [("instructions", ours), ("instructions", crate), ("instructions", words), ("misses", ours)]
+    return grid(heads, ([name, *(told(name, what, peers) for what, peers in of)]
+                        for name in ("insert", "extend", "reset", "remove", "poll")), 5)
+
+
+def growing():
+    """The instructions of a call of a queue of one owner that grows: a column for each number of entries that stand."""
+    found = {(row, entries, peer): number for row, entries, peer, number in rows_of("growing")}
+    sizes = ("1000", "10000", "100000")
+    names = {"life": "a life, by whole polls", "life-in-pieces": "a life, by pieces of 64 steps", "rest": "a poll with nothing due",
+             "insert": "an insert", "reset": "a reset", "remove": "a remove"}
+    return grid(["Call", *(f"{int(size):,} stand" for size in sizes)],
+                ([name, *(" / ".join(found[row, size, peer] for peer in ("rust", "rust-checked")) for size in sizes)]
+                 for row, name in names.items()))
 
 
 def adapter():
@@ -302,6 +302,15 @@ def idle_servers():
     return grid(["Timeouts", "lines of the program", "processor an echo, µs", "instructions an echo, outside of the kernel", "memory a connection, bytes"],
                 ([said[name], lines(name), echo, f"{int(instructions):,}", f"{int(memory):,}"]
                  for name, echo, instructions, memory in rows_of("idle-servers")))
+
+
+def queue_instructions():
+    """What a call of `DelayQueue` takes, and took before receivers ended by themselves and entries were counted by their lateness."""
+    said = {"insert": "insert", "extend": "extend", "reset": "reset", "remove": "remove", "poll-burst": "recv_many, of 64, each late"}
+    which = {"queue-at": "", "queue-reserved": ", with memory ahead"}
+    return grid(["", "before", "now", "%"],
+                ([said[row] + which[queue], before, now, f"{100 * (int(now) / int(before) - 1):+.1f}"]
+                 for row, queue, before, now in rows_of("queue-instructions")))
 
 
 def adapter_memory():

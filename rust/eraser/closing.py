@@ -1,18 +1,19 @@
 """What has a `requires` and is reached from safe Rust, and how the list `rust/closed` says that it is closed."""
 import re
 
-from patterns import made
+from patterns import TABLES, made
 from rattle import Refused, angle_close_of, clause, close_of, functions, homes
 
 WAYS = {"inside", "checked", "user code"}
+MODULES = dict(TABLES["modules"])
 
 
 class Closed:
     """The list: for each name how it is closed, and the lines that check it; and what the crate gives away."""
 
-    def __init__(self, text, lib):
-        self.ways, self.checks, self.lib = {}, {}, lib
-        self.given, self.exported, self.found = {}, set(), set()
+    def __init__(self, text, parts):
+        self.ways, self.checks, self.given, self.found = {}, {}, given(parts), set()
+        self.exported = {name for name, (module, _) in self.given.items() if module in MODULES.values()}
         name = None
         for number, line in enumerate(text.splitlines(), 1):
             if line.startswith("    ") and name:
@@ -23,11 +24,6 @@ class Closed:
                     raise Refused(f"rust/closed: line {number}: `{line}` says nothing")
                 self.ways[name], self.checks[name] = way, []
 
-    def learn(self, roots):
-        """Learns what the crate gives away, from the text of the root of each module of the sources."""
-        self.given = given(self.lib, roots)
-        self.exported = {name for name, (module, _) in self.given.items() if module in roots}
-
     def close(self, source):
         """Looks at each function of a file that has a `requires`, and puts the checks in."""
         for owner, name, line, body in reversed(requirements(source.tokens)):
@@ -35,7 +31,7 @@ class Closed:
             head = owner or name
             if head in self.ways and self.ways[head] == "inside":
                 if head in self.exported:
-                    raise Refused(f"`{head}` is told to be inside by rust/closed, and is given away by src/lib.rs")
+                    raise Refused(f"`{head}` is told to be inside by rust/closed, and is given away by src/parts.rs")
                 self.found.add(head)
             elif full in self.ways:
                 self.found.add(full)
@@ -52,23 +48,17 @@ class Closed:
             raise Refused(f"rust/closed: `{name}` isn't there, or requires nothing")
 
 
-GIVES = re.compile(r"^pub mod (\w+)(;| \{)|^(\})|pub use crate::(\w+)::([^;]*);", re.M)
-OF_A_ROOT = re.compile(r"^pub use [\w:]*?(\w+|\{[^}]*\});", re.M)
+GIVES = re.compile(r"^pub mod (\w+) \{|^(\})|pub use crate::(\w+)::([^;]*);", re.M)
 
 
-def given(lib, roots):
-    """What src/lib.rs gives away: each name with the module that has it, and with its path in the crate."""
-    found = {}
-    outer = ""
-    for within, form, end, module, names in GIVES.findall(lib):
+def given(parts):
+    """What src/parts.rs gives away: each name with the module that has it, and with its path in the crate."""
+    found, outer = {}, "parts::"
+    for within, end, module, names in GIVES.findall(parts):
         if module:
             found.update((name, (module, f"{outer}{name}")) for name in re.findall(r"\w+", names))
-        elif form == ";":
-            # a module of the sources that is given away whole
-            names = " ".join(OF_A_ROOT.findall(roots.get(within, "")))
-            found.update((name, (within, f"{within}::{name}")) for name in re.findall(r"\w+", names))
         else:
-            outer = "" if end else f"{within}::"
+            outer = "parts::" if end else f"parts::{within}::"
     return found
 
 

@@ -143,7 +143,6 @@ def changed(source, rule, *arguments):
 def erased(hand, closed):
     """The erased text of each file, by its path in the crate."""
     found, fields = sources(hand), {}
-    closed.learn({MODULES[source.crate]: source.text for source in found if source.module_path() == ()})
     for source in found:
         changed(source, ghosts.erased, (ghosts.ghost, ghosts.model, ghosts.tactic))
     names = laws.law_names([source.tokens for source in found])

@@ -1,9 +1,10 @@
 """`derive(Error)` with its texts, as `Display` and `std::error::Error` written out. An enum of errors may get more
-variants one day, so each is `#[non_exhaustive]`. An error that is said by another's text has that one as its source."""
+variants one day, so each is `#[non_exhaustive]`, as is what the table `open` of `rules` has. An error that is said by
+another's text has that one as its source."""
 import re
 
 from lists import elements
-from patterns import made, rewritten
+from patterns import TABLES, made, rewritten
 from rattle import Refused, close_of, tokens_of, words_at
 
 
@@ -57,8 +58,19 @@ def impls(name, arms, source):
     )
 
 
+OPEN = dict(TABLES["open"])
+
+
+def opened(tokens, word):
+    """Marks a struct or an enum as one that may get more fields or variants: behind the derive, before what is public."""
+    start = word - (tokens[word - 1].text == "pub")
+    tokens[start:start] = made("#[non_exhaustive]", tokens[start], "\n")
+
+
 def with_errors(tokens):
     for at in reversed(range(len(tokens))):
+        if tokens[at].text in ("struct", "enum") and tokens[at - 1].text == "pub" and tokens[at + 1].text in OPEN:
+            opened(tokens, at)
         if words_at(tokens, at, "#", "[", "derive", "("):
             close = close_of(tokens, at + 3)
             if tokens[close - 1].text == "Error":
@@ -77,9 +89,7 @@ def one_error(tokens, at):
         variants = [variant_of(it) for it in elements(tokens, body + 1, end)]
         arms = "        match self {\n" + "".join(arm(name, one) for one in variants) + "        }\n"
         tokens[end + 1:end + 1] = tokens_of(impls(name, arms, source_of(name, variants)))[:-1]
-        # Behind the derive, before what is public.
-        start = word - (tokens[word - 1].text == "pub")
-        tokens[start:start] = made("#[non_exhaustive]", tokens[start], "\n")
+        opened(tokens, word)
     else:
         text = tokens[at + 4].text
         its = pattern(fields_of(tokens[body:end]), text)

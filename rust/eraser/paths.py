@@ -14,6 +14,8 @@ CALLS = {"are_fresh", "filled", "room_for", "text_of", "copy_of", "nth", "nth_mu
 
 LINK = re.compile(r"\[`((?:dq_\w+::)?)(\w+)((?:::\w+)?)`\](?![(\[:])")
 DEFINITION = re.compile(r"(\]: )crate::(\w+)")
+# A path of the crate as the docs of the sources have it: a part, or a name of one.
+OF_THE_CRATE = re.compile(r"(\bhontkhale::|\]\(crate::)(\w+)")
 WIDTH = 120
 
 
@@ -91,10 +93,16 @@ def with_links(tokens, module, given):
         token, far = tokens[at], {}
         if "&rt" in token.text:
             raise Refused(f"line {token.line}: a doc speaks of the runtime")
+        token.text = OF_THE_CRATE.sub(lambda it: it[1] + part(it[2], given), token.text)
         token.text = DEFINITION.sub(lambda it: it[1] + "crate::" + given.get(it[2], ["", it[2]])[1], token.text)
         token.text = LINK.sub(lambda match: link(match, known, given, far, token), token.text)
         if far:
             put_definitions(tokens, at, far)
+
+
+def part(name, given):
+    """The path of a part, or of what stands beside the parts; and else the name itself."""
+    return f"parts::{name}" if any(path.split("::")[1] == name for _, path in given.values()) else name
 
 
 def link(match, known, given, far, token):

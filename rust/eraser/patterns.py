@@ -5,9 +5,9 @@ from pathlib import Path
 from lists import next_of
 from rattle import CLOSES, Refused, tokens_of
 
-# The tables of the file by their names: pairs of what stands on both sides of an arrow.
+# The tables of the file by their names: pairs of what stands on both sides of the last arrow.
 TEXT = Path(__file__).with_name("rules").read_text(encoding="utf-8")
-TABLES = {name: [tuple(map(str.strip, line.split(" =>", 1))) for line in lines.splitlines()]
+TABLES = {name: [tuple(map(str.strip, line.rsplit(" =>", 1))) for line in lines.splitlines()]
           for name, lines in re.findall(r"^\[(\w+)\]\n((?:.+\n)*)", TEXT, re.M)}
 
 

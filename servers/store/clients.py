@@ -1,6 +1,5 @@
-"""clients.py PORT: ordinary programs by redis-py, and a web page's request, against a server that is empty."""
+"""clients.py PORT: ordinary programs by redis-py against a server that is empty."""
 
-import http.client
 import sys
 import threading
 import time
@@ -8,22 +7,6 @@ import time
 sys.dont_write_bytecode = True
 
 import redis
-
-
-def sessions(store):
-    """A session store: made, looked at, prolonged, ended."""
-    assert store.set("session:1", "ann", px=6_000_000, nx=True)
-    assert not store.set("session:1", "bob", px=6_000_000, nx=True)
-    assert store.get("session:1") == "ann" and 5_900_000 < store.pttl("session:1") <= 6_000_000
-    assert store.expire("session:1", 12_000, gt=True) and not store.expire("session:1", 9_000, gt=True)
-    assert store.getex("session:1", ex=3_000) == "ann" and 2_900 < store.ttl("session:1") <= 3_000
-    assert store.persist("session:1") and store.ttl("session:1") == -1
-    assert store.getdel("session:1") == "ann" and store.get("session:1") is None
-    store.setex("short", 600, "x")
-    store.psetex("shorter", 30, "x")
-    time.sleep(0.05)
-    assert store.exists("short", "shorter") == 1 and store.type("short") == "string" and store.type("shorter") == "none"
-    assert store.unlink("short", "shorter") == 1
 
 
 def transfers(store):
@@ -86,25 +69,13 @@ def itself(store):
     assert told["redis_version"] and told["connected_clients"] >= 1
 
 
-def web_page(port, store):
-    page = http.client.HTTPConnection("127.0.0.1", port, timeout=120)
-    try:
-        page.request("POST", "/", "SET evil written\r\n", {"Content-Type": "text/plain"})
-        page.getresponse()
-        sys.exit("clients.py: a web page's request is answered")
-    except (http.client.HTTPException, ConnectionError):
-        pass
-    assert store.get("evil") is None
-
-
 def main():
     port = int(sys.argv[1])
     store = redis.Redis(port=port, decode_responses=True)
     assert store.dbsize() == 0
-    for program in (sessions, transfers, many, itself):
+    for program in (transfers, many, itself):
         program(store)
-    web_page(port, store)
-    print(f"clients.py: the programs of redis-py {redis.__version__} are served, a web page's request isn't")
+    print(f"clients.py: the programs of redis-py {redis.__version__} are served")
 
 
 if __name__ == "__main__":

@@ -13,7 +13,7 @@ use Rattle.dq_apps.specs.declared.kept.Kept.{Kept}
 use Rattle.dq_apps.specs.Cache.{Item, Cache, slot_at, entries_of, seen, value_at, is_kept, IsKeptAt, IsCache}
 use Rattle.dq_apps.specs.Calls.{IsUnseen, IsAbsent, is_used_up, IsLeastDeadline, TellsNextDeadline}
 use Rattle.dq_apps.specs.TimerTable.{TimerTable, IsTimer, AreWithin, AreInRange, is_set, is_spent, IsFirst}
-use Rattle.dq_apps.specs.Tied.{shown, cache_of, IsStock, TellsFirstDeadline}
+use Rattle.dq_apps.specs.Tied.{shown_slot, cache_of, IsStock, TellsFirstDeadline}
 use Rattle.dq_apps.proofs.Ties.{shown_at, found, kept_in, at_slot, distinct_shown, looked_alike, count_kept, count_used}
 use Rattle.dq_apps.proofs.Shows.{seen_kept, unseen_none, absent_none}
 
@@ -25,7 +25,7 @@ module _ {K V : Type 0} {eq : K → K → Bool} (laws : IsEquivalence eq) (es : 
   abbrev pub kept_at : (q : K) (s : Kept V) → lookup (eq q) es ≡ Some s → (x : Item K V) × IsKeptAt eq c q s.key.entry.index x × (x.value ≡ s.value) × (x.deadline ≡ s.deadline) × ((slot_at c.slots s.key.entry.index).stamp ≡ s.key.stamp)
   kept_at q s at =
       let f = found laws es t.slots stock.tied q s at in
-      let size : length c.slots ≡ length t.slots = length-map t.slots (shown eq es) in
+      let size : length c.slots ≡ length t.slots = length-map t.slots (shown_slot eq es) in
       let within = f.1.inside in (
         record { key = f.0; value = s.value; deadline = s.deadline },
         record { inside = omega (arith, size, within); item = ap (λ z. z.item) f.2; same = f.3 },
@@ -63,7 +63,7 @@ module _ {K V : Type 0} {eq : K → K → Bool} (laws : IsEquivalence eq) (es : 
 
   pub cache_law : length t.slots ≤ 65536 → AreWithin t.last_stamp t.slots → AreInRange t.slots → t.last_stamp ≤ LAST_STAMP → IsCache eq c
   cache_law few within range last =
-      let size : length c.slots ≡ length t.slots = length-map t.slots (shown eq es) in
+      let size : length c.slots ≡ length t.slots = length-map t.slots (shown_slot eq es) in
       record {
         distinct = distinct_shown laws es t.slots stock.tied;
         deadlines = λ i x is.
@@ -168,5 +168,5 @@ module _ {K V : Type 0} {eq : K → K → Bool} (laws : IsEquivalence eq) (es : 
   counts_are linked worn capacity el ew ec = (
     el ∙ count_kept laws es t.slots stock.tied,
     ew ∙ count_used laws es t.slots stock.tied t.last_stamp,
-    ec ∙ sym (length-map t.slots (shown eq es)),
+    ec ∙ sym (length-map t.slots (shown_slot eq es)),
   )

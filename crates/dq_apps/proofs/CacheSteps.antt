@@ -12,7 +12,7 @@ use Rattle.dq_apps.specs.declared.kept.Kept.{Kept}
 use Rattle.dq_apps.specs.Cache.{Item, Cache, bare, slot_at, moment_at}
 use Rattle.dq_apps.specs.Calls.{IsAbsent, IsSeenWorn, IsKeptWorn, InRange, emptied, renewed, Takes, TakesDue, Renews, Replaces, Adds, fresh_cache}
 use Rattle.dq_apps.specs.TimerTable.{TimerTable, timer_at, unset, stopped, set_at, with_slots, next_key, StopsDue, Starts, Restarts, fresh_timers}
-use Rattle.dq_apps.specs.Tied.{item_at, shown, shown_slots, cache_of, IsStock, IsWritten, HadValue}
+use Rattle.dq_apps.specs.Tied.{item_at, shown_slot, shown_slots, cache_of, IsStock, IsWritten, HadValue}
 use Rattle.dq_apps.proofs.TimerRows.{none_new}
 use Rattle.dq_apps.proofs.Ties.{shown_at, found, kept_in, at_slot}
 use Rattle.dq_apps.proofs.TiedChanges.{same_shown, same_tied, shown_put, tied_emptied, tied_written, shown_written}
@@ -229,7 +229,7 @@ module _ {K V : Type 0} {eq : K → K → Bool} (laws : IsEquivalence eq) (es : 
     pub added_adds : Adds eq c key v when (cache_of eq fs u m)
     added_adds =
         let i = k.entry.index in
-        let size : length c.slots ≡ length t.slots = length-map t.slots (shown eq es) in
+        let size : length c.slots ≡ length t.slots = length-map t.slots (shown_slot eq es) in
         let within = starts.inside in
         let at = shown_at laws es t.slots i in
         let stamp : (slot_at c.slots i).stamp ≡ (timer_at t.slots i).stamp = ap (λ z. z.stamp) at in

@@ -11,7 +11,7 @@ use Rattle.dq_apps.specs.Cache.{Item, CacheSlot, Cache, entries_of, seen, value_
 use Rattle.dq_apps.specs.Calls.{is_used_up}
 use Rattle.dq_apps.specs.AtTheCall.{KeepsSeen}
 use Rattle.dq_apps.specs.TimerTable.{TimerTable, timer_at, unset, is_set, fresh_timers}
-use Rattle.dq_apps.specs.Tied.{shown, cache_of, item_at, item_of, IsTied, IsStock}
+use Rattle.dq_apps.specs.Tied.{shown_slot, cache_of, item_at, item_of, IsTied, IsStock}
 use Rattle.dq_apps.specs.Moves.{HasKey, said, SaysTheSame, HaveMoved}
 use Rattle.dq_apps.specs.Refreshes.{KeepsItem, IsUsedOnce, IsRefreshed}
 use Rattle.dq_apps.proofs.TimerRows.{count-cons, none_new}
@@ -118,8 +118,8 @@ module _ {K V : Type 0} {eq : K → K → Bool} (laws : IsEquivalence eq) where
       last = moved.last ∙ ap (λ x. x.last_stamp) blank;
       moment = refl;
       capacity =
-          length-map g.slots (shown eq fs)
-          ∙ (moved.size ∙ (ap (λ x. length x.slots) blank ∙ (length-replicate (length t.slots) unset ∙ sym (length-map t.slots (shown eq es)))));
+          length-map g.slots (shown_slot eq fs)
+          ∙ (moved.size ∙ (ap (λ x. length x.slots) blank ∙ (length-replicate (length t.slots) unset ∙ sym (length-map t.slots (shown_slot eq es)))));
       items = λ x. (carried es fs t g m stock.tied tied moved.same stay x, carried fs es g t m tied stock.tied (λ q. sym (moved.same q)) came x);
       count = sym (count_kept laws fs g.slots tied) ∙ (set_count ∙ count_kept laws es t.slots stock.tied);
       stamps = λ i.

@@ -9,7 +9,7 @@ use Rattle.dq_core.specs.Machine.{Entry, TableRow}
 use Rattle.dq_apps.specs.declared.kept.Kept.{Kept}
 use Rattle.dq_apps.specs.Cache.{bare, slot_at}
 use Rattle.dq_apps.specs.TimerTable.{timer_at, running, IsRunning}
-use Rattle.dq_apps.specs.Tied.{item_of, item_at, shown, shown_slots, IsTied, IsWritten}
+use Rattle.dq_apps.specs.Tied.{item_of, item_at, shown_slot, shown_slots, IsTied, IsWritten}
 use Rattle.dq_apps.proofs.TimerRows.{set_here, set_there}
 use Rattle.dq_apps.proofs.Shows.{joined}
 use Rattle.dq_apps.proofs.Ties.{shown_at, shown_timer, looked_alike, at_slot}
@@ -57,31 +57,31 @@ module _ {K V : Type 0} {eq : K → K → Bool} (laws : IsEquivalence eq) where
     looks_there : (w : Option (Kept V)) → IsWritten eq es key w fs → (j : ℕ) (e : Entry K) → j ≢ i → (timer_at slots j).entry ≡ Some e → lookup (eq e.value) fs ≡ lookup (eq e.value) es
     looks_there w written j e ne at = written.0 e.value ∙ ap (λ b. cond b w (lookup (eq e.value) es)) (other_key j e ne at)
 
-    shown_there : (w : Option (Kept V)) → IsWritten eq es key w fs → (j : ℕ) → j ≢ i → shown eq fs (timer_at slots j) ≡ shown eq es (timer_at slots j)
+    shown_there : (w : Option (Kept V)) → IsWritten eq es key w fs → (j : ℕ) → j ≢ i → shown_slot eq fs (timer_at slots j) ≡ shown_slot eq es (timer_at slots j)
     shown_there w written j ne = λ k. record { stamp = (timer_at slots j).stamp; item = by (timer_at slots j).entry refl k }
       where
         by : (o : Option (Entry K)) → (timer_at slots j).entry ≡ o → item_at eq fs (timer_at slots j).entry ≡ item_at eq es (timer_at slots j).entry
         by None at = ap (item_at eq fs) at ∙ sym (ap (item_at eq es) at)
         by (Some e) at = ap (item_at eq fs) at ∙ (ap (item_of e.value e.due) (looks_there w written j e ne at) ∙ sym (ap (item_at eq es) at))
 
-    pub shown_put : (w : Option (Kept V)) → IsWritten eq es key w fs → (x : TableRow K) → shown_slots eq fs (set slots i x) ≡ set (shown_slots eq es slots) i (shown eq fs x)
-    shown_put w written x = ext_get_or bare (shown_slots eq fs (set slots i x)) (set (shown_slots eq es slots) i (shown eq fs x)) sizes (λ j within. by j (cases_eq j i))
+    pub shown_put : (w : Option (Kept V)) → IsWritten eq es key w fs → (x : TableRow K) → shown_slots eq fs (set slots i x) ≡ set (shown_slots eq es slots) i (shown_slot eq fs x)
+    shown_put w written x = ext_get_or bare (shown_slots eq fs (set slots i x)) (set (shown_slots eq es slots) i (shown_slot eq fs x)) sizes (λ j within. by j (cases_eq j i))
       where
         size : length (shown_slots eq es slots) ≡ length slots
-        size = length-map slots (shown eq es)
+        size = length-map slots (shown_slot eq es)
 
-        sizes : length (shown_slots eq fs (set slots i x)) ≡ length (set (shown_slots eq es slots) i (shown eq fs x))
-        sizes = length-map (set slots i x) (shown eq fs) ∙ (length-set slots i x ∙ sym (length-set (shown_slots eq es slots) i (shown eq fs x) ∙ size))
+        sizes : length (shown_slots eq fs (set slots i x)) ≡ length (set (shown_slots eq es slots) i (shown_slot eq fs x))
+        sizes = length-map (set slots i x) (shown_slot eq fs) ∙ (length-set slots i x ∙ sym (length-set (shown_slots eq es slots) i (shown_slot eq fs x) ∙ size))
 
-        by : (j : ℕ) → (j ≡ i) ⊎ (j ≡ i → ⊥) → slot_at (shown_slots eq fs (set slots i x)) j ≡ slot_at (set (shown_slots eq es slots) i (shown eq fs x)) j
+        by : (j : ℕ) → (j ≡ i) ⊎ (j ≡ i → ⊥) → slot_at (shown_slots eq fs (set slots i x)) j ≡ slot_at (set (shown_slots eq es slots) i (shown_slot eq fs x)) j
         by j (inl same) =
-            let P : ℕ → Type 0 = λ k. slot_at (shown_slots eq fs (set slots i x)) k ≡ slot_at (set (shown_slots eq es slots) i (shown eq fs x)) k in
+            let P : ℕ → Type 0 = λ k. slot_at (shown_slots eq fs (set slots i x)) k ≡ slot_at (set (shown_slots eq es slots) i (shown_slot eq fs x)) k in
             subst P (sym same)
-            (shown_at laws fs (set slots i x) i ∙ (ap (shown eq fs) (set_here slots i x inside) ∙ sym (get_or-set_same (shown_slots eq es slots) i (shown eq fs x) bare (omega (arith, size, inside)))))
+            (shown_at laws fs (set slots i x) i ∙ (ap (shown_slot eq fs) (set_here slots i x inside) ∙ sym (get_or-set_same (shown_slots eq es slots) i (shown_slot eq fs x) bare (omega (arith, size, inside)))))
         by j (inr ne) =
             shown_at laws fs (set slots i x) j
-            ∙ (ap (shown eq fs) (set_there slots i j x ne)
-            ∙ (shown_there w written j ne ∙ sym (get_or-set_other (shown_slots eq es slots) i j (shown eq fs x) bare ne ∙ shown_at laws es slots j)))
+            ∙ (ap (shown_slot eq fs) (set_there slots i j x ne)
+            ∙ (shown_there w written j ne ∙ sym (get_or-set_other (shown_slots eq es slots) i j (shown_slot eq fs x) bare ne ∙ shown_at laws es slots j)))
 
     -- the timer of another key still runs
     forth_there : (x : TableRow K) (q : K) (s : Kept V) → eq key q ≡ false → lookup (eq q) es ≡ Some s → (copy : K) × IsRunning (set slots i x) s.key copy s.deadline × (eq q copy ≡ true)

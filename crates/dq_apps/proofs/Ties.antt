@@ -9,17 +9,17 @@ use Rattle.dq_apps.specs.declared.kept.Kept.{Kept}
 use Rattle.dq_apps.specs.Cache.{Item, CacheSlot, slot_at, is_kept, AreDistinct}
 use Rattle.dq_apps.specs.Calls.{is_used_up}
 use Rattle.dq_apps.specs.TimerTable.{timer_at, running, IsRunning, is_set, is_spent}
-use Rattle.dq_apps.specs.Tied.{item_of, item_at, shown, shown_slots, IsTied}
+use Rattle.dq_apps.specs.Tied.{item_of, item_at, shown_slot, shown_slots, IsTied}
 use Rattle.dq_apps.proofs.TimerRows.{count-cons}
 
 module _ {K V : Type 0} {eq : K → K → Bool} (laws : IsEquivalence eq) where
-  pub shown_at : (es : List (K × Kept V)) (slots : List (TableRow K)) (i : ℕ) → slot_at (shown_slots eq es slots) i ≡ shown eq es (timer_at slots i)
+  pub shown_at : (es : List (K × Kept V)) (slots : List (TableRow K)) (i : ℕ) → slot_at (shown_slots eq es slots) i ≡ shown_slot eq es (timer_at slots i)
   shown_at es [] i = refl
   shown_at es (s ∷ ss) zero = refl
   shown_at es (s ∷ ss) (suc i) = shown_at es ss i
 
   -- what a timer shows
-  pub shown_timer : (es : List (K × Kept V)) (stamp born : ℕ) (key : K) (d : ℕ) (s : Kept V) → lookup (eq key) es ≡ Some s → shown eq es (record { stamp = stamp; entry = running born key d }) ≡ record { stamp = stamp; item = Some (record { key = key; value = s.value; deadline = d }) }
+  pub shown_timer : (es : List (K × Kept V)) (stamp born : ℕ) (key : K) (d : ℕ) (s : Kept V) → lookup (eq key) es ≡ Some s → shown_slot eq es (record { stamp = stamp; entry = running born key d }) ≡ record { stamp = stamp; item = Some (record { key = key; value = s.value; deadline = d }) }
   shown_timer es stamp born key d s at = ap (λ o. let x : CacheSlot K V = record { stamp = stamp; item = item_of key (Some d) o } in x) at
 
   -- equal keys are looked up alike
@@ -48,7 +48,7 @@ module _ {K V : Type 0} {eq : K → K → Bool} (laws : IsEquivalence eq) where
     found q s at =
         let f = tied.forth q s at in
         let there = sym (looked_alike es q f.0 f.2) ∙ at in
-        (f.0, f.1, shown_at es slots s.key.entry.index ∙ (ap (shown eq es) f.1.timer ∙ shown_timer es s.key.stamp s.key.entry.born f.0 s.deadline s there), f.2)
+        (f.0, f.1, shown_at es slots s.key.entry.index ∙ (ap (shown_slot eq es) f.1.timer ∙ shown_timer es s.key.stamp s.key.entry.born f.0 s.deadline s there), f.2)
 
     -- what a slot shows has its key in the map
     shown_by : (o : Option (Entry K)) (x : Item K V) → item_at eq es o ≡ Some x → (e : Entry K) × (o ≡ Some e) × (x.key ≡ e.value)
@@ -81,7 +81,7 @@ module _ {K V : Type 0} {eq : K → K → Bool} (laws : IsEquivalence eq) where
           ap (λ z. z.deadline) same,
         )
 
-    -- no key is shown twice
+    -- no key is shown_slot twice
     pub distinct_shown : AreDistinct eq (shown_slots eq es slots)
     distinct_shown i j x y ix jy same =
         let a = kept_in i x ix in
@@ -91,24 +91,24 @@ module _ {K V : Type 0} {eq : K → K → Bool} (laws : IsEquivalence eq) where
         sym a.2 ∙ (ap (λ s. s.key.entry.index) kept ∙ b.2)
 
     -- as much is kept as timers are set
-    shows_item : (i : ℕ) (e : Entry K) → (timer_at slots i).entry ≡ Some e → (x : Item K V) × ((shown eq es (timer_at slots i)).item ≡ Some x)
+    shows_item : (i : ℕ) (e : Entry K) → (timer_at slots i).entry ≡ Some e → (x : Item K V) × ((shown_slot eq es (timer_at slots i)).item ≡ Some x)
     shows_item i e at =
         let a = at_slot i e at in (
           record { key = e.value; value = a.0.value; deadline = a.0.deadline },
           ap (λ (s : TableRow K). item_at eq es s.entry) a.3 ∙ ap (λ o. item_of e.value (Some a.0.deadline) o) a.1,
         )
 
-    pub kept_as_set : (i : ℕ) → is_some (timer_at slots i).entry ≡ is_some (shown eq es (timer_at slots i)).item
+    pub kept_as_set : (i : ℕ) → is_some (timer_at slots i).entry ≡ is_some (shown_slot eq es (timer_at slots i)).item
     kept_as_set i = by (timer_at slots i).entry refl
       where
-        by : (o : Option (Entry K)) → (timer_at slots i).entry ≡ o → is_some (timer_at slots i).entry ≡ is_some (shown eq es (timer_at slots i)).item
+        by : (o : Option (Entry K)) → (timer_at slots i).entry ≡ o → is_some (timer_at slots i).entry ≡ is_some (shown_slot eq es (timer_at slots i)).item
         by None at = ap is_some at ∙ sym (ap (λ k. is_some (item_at eq es k)) at)
         by (Some e) at = ap is_some at ∙ sym (ap is_some (shows_item i e at).1)
 
-    count_same : (p : TableRow K → Bool) (q : CacheSlot K V → Bool) (ss : List (TableRow K)) → ((i : ℕ) → p (timer_at ss i) ≡ q (shown eq es (timer_at ss i))) → count_by p ss ≡ count_by q (shown_slots eq es ss)
+    count_same : (p : TableRow K → Bool) (q : CacheSlot K V → Bool) (ss : List (TableRow K)) → ((i : ℕ) → p (timer_at ss i) ≡ q (shown_slot eq es (timer_at ss i))) → count_by p ss ≡ count_by q (shown_slots eq es ss)
     count_same p q [] h = refl
     count_same p q (s ∷ ss) h =
-        count-cons p s ss ∙ ((λ i. cond (h 0 i) 1 0 + count_same p q ss (λ j. h (suc j)) i) ∙ sym (count-cons q (shown eq es s) (shown_slots eq es ss)))
+        count-cons p s ss ∙ ((λ i. cond (h 0 i) 1 0 + count_same p q ss (λ j. h (suc j)) i) ∙ sym (count-cons q (shown_slot eq es s) (shown_slots eq es ss)))
 
     pub count_kept : count_by is_set slots ≡ count_by is_kept (shown_slots eq es slots)
     count_kept = count_same is_set is_kept slots kept_as_set
@@ -122,4 +122,4 @@ module _ {K V : Type 0} {eq : K → K → Bool} (laws : IsEquivalence eq) where
     pub count_used : (last : ℕ) → count_by (is_spent last) slots ≡ count_by (is_used_up last) (shown_slots eq es slots)
     count_used last = count_same (is_spent last) (is_used_up last) slots (λ i.
         let t = timer_at slots i in
-        ap (λ b. b && not (nat_lt t.stamp last)) (none_as_some t.entry (shown eq es t).item (kept_as_set i)))
+        ap (λ b. b && not (nat_lt t.stamp last)) (none_as_some t.entry (shown_slot eq es t).item (kept_as_set i)))

@@ -27,13 +27,13 @@ module _ {K V : Type 0} where
   item_at eq es (Some e) = item_of e.value e.due (lookup (eq e.value) es)
 
   -- a slot with a timer shows the timer's key and deadline, and the value that the map has there
-  abbrev pub shown : (K → K → Bool) → List (K × Kept V) → TableRow K → CacheSlot K V
-  shown eq es s = record { stamp = s.stamp; item = item_at eq es s.entry }
+  abbrev pub shown_slot : (K → K → Bool) → List (K × Kept V) → TableRow K → CacheSlot K V
+  shown_slot eq es s = record { stamp = s.stamp; item = item_at eq es s.entry }
 
   -- what all slots show
   abbrev pub shown_slots : (K → K → Bool) → List (K × Kept V) → List (TableRow K)
       → List (CacheSlot K V)
-  shown_slots eq es slots = map (shown eq es) slots
+  shown_slots eq es slots = map (shown_slot eq es) slots
 
   -- what a map, timers and a moment show
   abbrev pub cache_of : (K → K → Bool) → List (K × Kept V) → TimerTable K → ℕ → Cache K V

@@ -3,6 +3,7 @@
 
 mod calls_memory;
 mod cases;
+mod growing;
 mod laws;
 mod makings;
 mod queues;

@@ -11,7 +11,7 @@ use Rattle.dq_core.specs.declared.words.Look.{Look}
 use Rattle.dq_core.specs.declared.words.CallError.{CallError}
 use Rattle.dq_core.specs.declared.words.CallError.TheVariants.{TooFar, Unknown, Stale, Ended}
 use Rattle.dq_core.specs.WordRows.{WordRow, IsCallable, CallRefused, ExtendRefused, LookRefused, IsExtend, IsCancel, IsLook, extended, given_up}
-use Rattle.dq_core.specs.Slots.{SlotRows, row_at}
+use Rattle.dq_core.specs.Slots.{SlotState, shown, row_at}
 use Rattle.dq_core.specs.Machine.{Entry, put, with_due}
 use Rattle.dq_core.specs.Core.{Core, machine, IsLawful, IsLawfulCore, due_by}
 use Rattle.dq_core.specs.KeyCalls.{IsExtended, IsGivenUp, Extends, Cancels, Shows, ExtendingRefused, KeyRefused, LookingRefused}
@@ -129,7 +129,7 @@ module _ {T W : Type 0} (b : Core T W) (l : IsLawfulCore b) (k : Key) (called : 
       let w = word_at b.known k.entry.index in
       law_learned l true k.entry.index (called_filed b l k called).0 (cancelled k.stamp) at (inr (refl, mark, inr (ap cancelled (sym word_stamp)))) ek
 
-same_words : {T : Type 0} (shard noted : ℕ) (wheel : WheelState) (slots : SlotRows T) (old new : WordRow) → new ≡ old → core_of shard noted wheel slots new.known new.counts new ≡ core_of shard noted wheel slots old.known old.counts old
+same_words : {T : Type 0} (shard noted : ℕ) (wheel : WheelState) (slots : SlotState T) (old new : WordRow) → new ≡ old → core_of shard noted wheel slots new.known new.counts new ≡ core_of shard noted wheel slots old.known old.counts old
 same_words {T} shard noted wheel slots old new e = ap (λ (w : WordRow). core_of {T = T} {W = WordRow} shard noted wheel slots w.known w.counts w) e
 
 extending_refused : {T : Type 0} (b : Core T WordRow) (k : Key) (when : ℕ) (e : CallError) → when ≤ LAST_TICK → k.entry.shard ≡ b.shard → ExtendRefused b.known k when e → ExtendingRefused b k when e
@@ -151,19 +151,19 @@ looking_refused b k (Stale seen) shard r = (shard, r)
 looking_refused b k (Ended how) shard r = absurd r
 
 -- a call by key on the words is one on the queue
-module _ {T : Type 0} (shard noted : ℕ) (wheel : WheelState) (slots : SlotRows T) (old new : WordRow) (k : Key) (l : IsLawful noted wheel.filing slots old.known old.counts) (here : k.entry.shard ≡ shard) where
+module _ {T : Type 0} (shard noted : ℕ) (wheel : WheelState) (slots : SlotState T) (old new : WordRow) (k : Key) (l : IsLawful noted wheel.filing (shown slots) old.known old.counts) (here : k.entry.shard ≡ shard) where
   pub extends_by : (when : ℕ) (r : Result ℕ CallError) → when ≤ LAST_TICK → IsExtend old k when r new → Extends (core_of shard noted wheel slots old.known old.counts old) k when r (core_of shard noted wheel slots new.known new.counts new)
   extends_by when (Ok d) small p =
       extends (core_of shard noted wheel slots old.known old.counts old) l k p.1 (core_of shard noted wheel slots new.known new.counts new) when d small here p.2 (ap (λ w. w.known) p.3) refl refl (ap (λ w. w.counts) p.3) refl refl
   extends_by when (Err e) small p =
       (extending_refused (core_of shard noted wheel slots old.known old.counts old) k when e small here p.0, same_words shard noted wheel slots old new p.1)
 
-  pub extended_lawful : (when : ℕ) (r : Result ℕ CallError) → when ≤ LAST_TICK → IsExtend old k when r new → IsLawful noted wheel.filing slots new.known new.counts
+  pub extended_lawful : (when : ℕ) (r : Result ℕ CallError) → when ≤ LAST_TICK → IsExtend old k when r new → IsLawful noted wheel.filing (shown slots) new.known new.counts
   extended_lawful when (Ok d) small p =
-      let P : WordRow → Type 0 = λ w. IsLawful noted wheel.filing slots w.known w.counts in
+      let P : WordRow → Type 0 = λ w. IsLawful noted wheel.filing (shown slots) w.known w.counts in
       subst P (sym p.3) (law_extended (core_of shard noted wheel slots old.known old.counts old) l k p.1 (extended old.known k d) when d small p.2 refl)
   extended_lawful when (Err e) small p =
-      let P : WordRow → Type 0 = λ w. IsLawful noted wheel.filing slots w.known w.counts in
+      let P : WordRow → Type 0 = λ w. IsLawful noted wheel.filing (shown slots) w.known w.counts in
       subst P (sym p.1) l
 
   pub cancels_by : (r : Result ℕ CallError) → IsCancel old k r new → Cancels (core_of shard noted wheel slots old.known old.counts old) k r (core_of shard noted wheel slots new.known new.counts new)
@@ -172,12 +172,12 @@ module _ {T : Type 0} (shard noted : ℕ) (wheel : WheelState) (slots : SlotRows
   cancels_by (Err e) p =
       (key_refused (core_of shard noted wheel slots old.known old.counts old) k e here p.0, same_words shard noted wheel slots old new p.1)
 
-  pub cancelled_lawful : (r : Result ℕ CallError) → IsCancel old k r new → IsLawful noted wheel.filing slots new.known new.counts
+  pub cancelled_lawful : (r : Result ℕ CallError) → IsCancel old k r new → IsLawful noted wheel.filing (shown slots) new.known new.counts
   cancelled_lawful (Ok d) p =
-      let P : WordRow → Type 0 = λ w. IsLawful noted wheel.filing slots w.known w.counts in
+      let P : WordRow → Type 0 = λ w. IsLawful noted wheel.filing (shown slots) w.known w.counts in
       subst P (sym p.2) (law_given_up (core_of shard noted wheel slots old.known old.counts old) l k p.0 (given_up old.known k) refl)
   cancelled_lawful (Err e) p =
-      let P : WordRow → Type 0 = λ w. IsLawful noted wheel.filing slots w.known w.counts in
+      let P : WordRow → Type 0 = λ w. IsLawful noted wheel.filing (shown slots) w.known w.counts in
       subst P (sym p.1) l
 
 -- the counts stay

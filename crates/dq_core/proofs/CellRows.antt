@@ -5,7 +5,7 @@ use Rattle.std.proofs.lemmas.Bool.{cases_eq, le-ltb, lt-ltb, and_parts}
 use Rattle.dq_core.specs.declared.slots.Held.{Held}
 use Rattle.dq_core.specs.Slots.{Row, SlotRows, unused, row_at, is_held, is_free, is_worn, filled_row, vacated_row, raised_row}
 use Rattle.dq_core.specs.FreeSlots.{FreeIndexes, free_times, GivesBack}
-use Rattle.dq_core.specs.Deferred.{Deferred, deferred_at, MayDefer, DefersIf, Undefers, TakesDeferred}
+use Rattle.dq_core.specs.Deferred.{Deferred, deferred_at, DefersIf, Undefers, TakesDeferred}
 use Rattle.dq_core.specs.SlotRowsKept.{is_open, TakesSlot, GivesSlot, IsSlotRowsKept}
 use Rattle.dq_core.specs.Cells.{CellRow, AreTaken, TakesAny, unused_cell, rows_of, cell_at, AreAside, let_go_value, filled_cell, vacated_cell, let_go_cell, emptied_cell, forgotten_cell, raised_cell}
 use Rattle.dq_core.proofs.SlotRows.{open_parts, free_is, taken_is, takes_given, waiting_is, not_free, held_inside, filled_is, freed_is, worn_is, raised_is, moved_is}
@@ -63,13 +63,15 @@ aside_set {T} {last} {cells} {d} {w} a i x e v inside same_d same_w here_d here_
           (cases_eq j i);
     }
 
-may_others : (d e : Deferred) (i : ℕ) → MayDefer d i e → (j : ℕ) → j ≢ i → deferred_at e j ≡ deferred_at d j
-may_others d e i may j ne = ⊎_elim (λ same. ap (λ x. deferred_at x j) same) (λ more. more.2.1 j ne) may
+pub if_others : (d e : Deferred) (i : ℕ) (b : Bool) → DefersIf b d i e → (j : ℕ) → j ≢ i → deferred_at e j ≡ deferred_at d j
+if_others d e i true more j ne = more.2.1 j ne
+if_others d e i false same j ne = ap (λ x. deferred_at x j) same
 
-pub may_room : (d e : Deferred) (i : ℕ) → MayDefer d i e → length e.bits ≡ length d.bits
-may_room d e i may = ⊎_elim (λ same. ap (λ x. length x.bits) same) (λ more. more.2.0) may
+pub if_room : (d e : Deferred) (i : ℕ) (b : Bool) → DefersIf b d i e → length e.bits ≡ length d.bits
+if_room d e i true more = more.2.0
+if_room d e i false same = ap (λ x. length x.bits) same
 
-takes_others : (f g : FreeIndexes) (d e : Deferred) (i : ℕ) → TakesSlot f d (Some i) g e → (j : ℕ) → j ≢ i → deferred_at e j ≡ deferred_at d j
+pub takes_others : (f g : FreeIndexes) (d e : Deferred) (i : ℕ) → TakesSlot f d (Some i) g e → (j : ℕ) → j ≢ i → deferred_at e j ≡ deferred_at d j
 takes_others f g d e i takes j ne = ⊎_elim (λ t. ap (λ x. deferred_at x j) t.1) (λ t. t.2.4.1 j ne) takes
 
 some_let_go : {T : Type 0} (o : Option (Held T)) (a : Option T) → is_some o ≡ true → is_some (let_go_value o a) ≡ true
@@ -87,21 +89,17 @@ low_not_worn last r low worn = let p = (and_parts _ _ worn).1 in let t = lt-ltb 
     no true is is_not = cc
     no false is is_not = cc
 
-free_not_worn : {T : Type 0} (last : ℕ) (r : Row T) → is_free last r ≡ true → is_worn last r ≡ true → ⊥
+pub free_not_worn : {T : Type 0} (last : ℕ) (r : Row T) → is_free last r ≡ true → is_worn last r ≡ true → ⊥
 free_not_worn last r free worn = low_not_worn last r (free_is last r free).1 worn
 
-if_others : (d e : Deferred) (i : ℕ) (b : Bool) → DefersIf b d i e → (j : ℕ) → j ≢ i → deferred_at e j ≡ deferred_at d j
-if_others d e i true more j ne = more.2.1 j ne
-if_others d e i false same j ne = ap (λ x. deferred_at x j) same
-
 -- a cell where something is set aside is one of the row
-aside_inside : {T : Type 0} (cells : List (CellRow T)) (i : ℕ) → is_some (cell_at cells i).aside ≡ true → i < length cells
+pub aside_inside : {T : Type 0} (cells : List (CellRow T)) (i : ℕ) → is_some (cell_at cells i).aside ≡ true → i < length cells
 aside_inside [] i is = cc
 aside_inside (c ∷ cells) zero is = omega arith
 aside_inside (c ∷ cells) (suc i) is = let h = aside_inside cells i is in omega arith
 
 -- a slot that waits is free
-waits_free : {T : Type 0} {last : ℕ} {rows : List (Row T)} {free : FreeIndexes} {waiting : Deferred} {taken spared : ℕ} → IsSlotRowsKept last rows free waiting taken spared → (i : ℕ) → deferred_at waiting i ≡ 1 → is_free last (row_at rows i) ≡ true
+pub waits_free : {T : Type 0} {last : ℕ} {rows : List (Row T)} {free : FreeIndexes} {waiting : Deferred} {taken spared : ℕ} → IsSlotRowsKept last rows free waiting taken spared → (i : ℕ) → deferred_at waiting i ≡ 1 → is_free last (row_at rows i) ≡ true
 waits_free {last = last} {rows = rows} {free = free} s i waits =
     let sum = s.freed i in
     (open_parts last rows i (free_times free i) (is_open last rows i) refl (omega (arith, sum, waits))).1
@@ -119,7 +117,7 @@ module _ {T : Type 0} {last : ℕ} {cells : List (CellRow T)} {free : FreeIndexe
   row_held i held w = held_not_worn last (cell_at cells i).row (held_row i held) w
 
   -- a slot that waits is free, and not worn
-  waits_open : (i : ℕ) → deferred_at waiting i ≡ 1 → deferred_at worn i ≡ 1 → ⊥
+  pub waits_open : (i : ℕ) → deferred_at waiting i ≡ 1 → deferred_at worn i ≡ 1 → ⊥
   waits_open i one both = free_not_worn last (cell_at cells i).row (subst (λ (r : Row T). is_free last r ≡ true) (rows_at cells i) (waits_free s i one)) (a.are_worn i both)
 
   -- a cell that was filled
@@ -175,14 +173,14 @@ module _ {T : Type 0} {last : ℕ} {cells : List (CellRow T)} {free : FreeIndexe
     let_go_some : is_some (let_go_cell (cell_at cells i)).aside ≡ true
     let_go_some = some_let_go (cell_at cells i).row.held (cell_at cells i).aside (held_row i held)
 
-    pub let_go_aside : (ready : Deferred) → MayDefer waiting i ready → AreAside last (set cells i (let_go_cell (cell_at cells i))) ready worn
-    let_go_aside ready may =
-        aside_set a i (let_go_cell (cell_at cells i)) ready worn (inside_cells i held) (may_others waiting ready i may) (λ j ne. refl)
+    pub let_go_aside : (b : Bool) (ready : Deferred) → DefersIf b waiting i ready → AreAside last (set cells i (let_go_cell (cell_at cells i))) ready worn
+    let_go_aside b ready may =
+        aside_set a i (let_go_cell (cell_at cells i)) ready worn (inside_cells i held) (if_others waiting ready i b may) (λ j ne. refl)
         (λ one. let_go_some) (λ one. absurd (row_held i held (a.are_worn i one)))
 
-    pub let_go_worn : (more : Deferred) → MayDefer worn i more → last ≤ (cell_at cells i).row.stamp → AreAside last (set cells i (let_go_cell (cell_at cells i))) waiting more
-    let_go_worn more may over =
-        aside_set a i (let_go_cell (cell_at cells i)) waiting more (inside_cells i held) (λ j ne. refl) (may_others worn more i may)
+    pub let_go_worn : (b : Bool) (more : Deferred) → DefersIf b worn i more → last ≤ (cell_at cells i).row.stamp → AreAside last (set cells i (let_go_cell (cell_at cells i))) waiting more
+    let_go_worn b more may over =
+        aside_set a i (let_go_cell (cell_at cells i)) waiting more (inside_cells i held) (λ j ne. refl) (if_others worn more i b may)
         (λ one. let_go_some) (λ one. (let_go_some, rw (le-ltb (cell_at cells i).row.stamp last over) refl))
 
   -- a cell of which the value was taken out that was set aside
@@ -224,7 +222,7 @@ module _ {T : Type 0} {last : ℕ} {cells : List (CellRow T)} {free : FreeIndexe
     rows_inside : i < length (rows_of cells)
     rows_inside = omega (arith, inside, rows_length cells)
 
-    kept : (forgotten_cell (cell_at cells i)).aside ≡ (cell_at cells i).aside
+    pub kept : (forgotten_cell (cell_at cells i)).aside ≡ (cell_at cells i).aside
     kept = kept_aside (cell_at cells i).row.held (cell_at cells i).aside (subst (λ (r : Row T). is_held r ≡ false) (rows_at cells i) none)
 
     pub forgotten_worn : (more : FreeIndexes) (ready : Deferred) → last ≤ (row_at (rows_of cells) i).stamp → GivesSlot free waiting i more ready → IsSlotRowsKept last (rows_of (set cells i (forgotten_cell (cell_at cells i)))) more ready taken (spared + 1)

@@ -51,6 +51,9 @@ below_some f i (suc n) one inside =
 bit_most : (v k : ℕ) → bit_at v k ≤ 1
 bit_most v k = omega arith
 
+pub bits_most : (bits : List ℕ) (i : ℕ) → bit_of bits i ≤ 1
+bits_most bits i = bit_most (get_or bits (i / 64) 0) (i % 64)
+
 -- a bit that isn't found to be 1 is 0
 pub bit_not_one : (v k : ℕ) (b : Bool) → (b ≡ true) ↔ (bit_at v k ≡ 1) → b ≡ false → bit_at v k ≡ 0
 bit_not_one v k b is off =

@@ -1,3 +1,5 @@
+pub mod AsideCells
+pub mod AsideCounts
 pub mod Asks
 pub mod ByKey
 pub mod CallWords
@@ -5,6 +7,7 @@ mod Cells
 pub mod CellRows
 pub mod Clearing
 pub mod DeferredBits
+pub mod Dropped
 pub mod Finds
 pub mod Folds
 pub mod FreeBits
@@ -26,6 +29,7 @@ pub mod RunsOfCalls
 pub mod RunsOrdered
 pub mod RunsTogether
 pub mod Searches
+pub mod Settings
 pub mod SlotRows
 pub mod Slotwise
 pub mod Steps

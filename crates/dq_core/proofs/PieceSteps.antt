@@ -25,7 +25,7 @@ use Rattle.dq_core.specs.declared.outcomes.Turn.TheVariants.{Out, Waiting, Idle}
 use Rattle.dq_core.specs.declared.outcomes.Piece.TheVariants.{Answer, Working}
 use Rattle.dq_core.specs.Words.{Counts, word_at, never, live, cancelled, IsInForce, IsSettled, Learned, settled_counts}
 use Rattle.dq_core.specs.declared.words.Settled.TheVariants.{SettledExpired, Later, SettledCancelled}
-use Rattle.dq_core.specs.Slots.{SlotRows, row_at, vacated, vacated_row}
+use Rattle.dq_core.specs.Slots.{SlotState, row_at, vacated, vacated_row}
 use Rattle.dq_core.specs.Machine.{Machine, Pass, RunOf, IsOnTheWay, NoneLiveBefore}
 use Rattle.dq_core.specs.Core.{Core, machine, IsPlaced, IsLawfulCore, filing_for}
 use Rattle.dq_core.specs.TableRows.{machine_of}
@@ -551,7 +551,7 @@ step_rests shared Whole b c rest = rest
 step_rests shared InPieces b c rest = rest
 
 -- where only the words themselves are other than before, as after a look that learned nothing
-pub looked_same : {T W : Type 0} (shard noted : ℕ) (wheel : WheelState) (slots : SlotRows T) (known known' : List Parts) (counts counts' : Counts) (words : W) →
+pub looked_same : {T W : Type 0} (shard noted : ℕ) (wheel : WheelState) (slots : SlotState T) (known known' : List Parts) (counts counts' : Counts) (words : W) →
     known' ≡ known → counts' ≡ counts → core_of shard noted wheel slots known' counts' words ≡ core_of shard noted wheel slots known counts words
 looked_same shard noted wheel slots known known' counts counts' words ek ec =
     ap (λ ws. core_of shard noted wheel slots ws counts' words) ek ∙ ap (λ n. core_of shard noted wheel slots known n words) ec

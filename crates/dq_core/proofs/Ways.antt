@@ -8,7 +8,7 @@ use Rattle.dq_ticks.specs.declared.words.Mark.TheVariants.{LiveMark}
 use Rattle.dq_wheel.specs.State.{WheelState, filed_at}
 use Rattle.dq_core.specs.declared.slots.Held.{Held}
 use Rattle.dq_core.specs.Words.{Counts, word_at, never, Learned, live, cancelled}
-use Rattle.dq_core.specs.Slots.{Row, SlotRows, unused, row_at, vacated_row, raised_row}
+use Rattle.dq_core.specs.Slots.{Row, SlotState, shown, unused, row_at, vacated_row, raised_row}
 use Rattle.dq_core.specs.Machine.{Entry, TableRow, Machine, Event, Note, Pass, Insert, Reset, Extend, Cancel, Remove, Reap, Expire, table_at, put, Has, NoneLiveBefore, with_due, Step, Run, RunOf, IsCallers, IsOnTheWay, IsReaping, IsClearing, Callers, due, is_due_entry, is_due_by, OwnEventsAlone}
 use Rattle.dq_core.specs.Core.{Core, due_by, entry_of, table_of, machine, IsPlaced, AreSlots}
 use Rattle.dq_core.specs.TableRows.{table_row_of, machine_of}
@@ -246,5 +246,5 @@ machine_is {T} {W} c tick noted rows known et en er ek =
     ∙ ap (λ k. machine_of tick noted rows k) ek
 
 -- a queue of its parts
-abbrev pub core_of : {T W : Type 0} → ℕ → ℕ → WheelState → SlotRows T → List Parts → Counts → W → Core T W
-core_of shard noted wheel slots known counts words = record { shard = shard; noted = noted; wheel = wheel; slots = slots; known = known; counts = counts; words = words }
+abbrev pub core_of : {T W : Type 0} → ℕ → ℕ → WheelState → SlotState T → List Parts → Counts → W → Core T W
+core_of shard noted wheel slots known counts words = record { shard = shard; noted = noted; wheel = wheel; slots = shown slots; aside = slots.aside; known = known; counts = counts; words = words }

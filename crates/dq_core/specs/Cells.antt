@@ -1,6 +1,6 @@
 -- No public clause cites this module.
 -- A slot as it lies in memory, with the value that was let go and is set aside there.
-use Rattle.std.specs.Prelude.{◌≡◌, ℕ, zero, suc, ◌<◌, true, List, map, Option, Some, None, is_some}
+use Rattle.std.specs.Prelude.{◌≡◌, ℕ, zero, suc, ◌<◌, Bool, true, List, map, Option, Some, None, is_some}
 use Rattle.std.specs.Prelude.{slice_index_or, slice_set, ◌⊎◌}
 use Rattle.dq_core.specs.declared.slots.Held.{Held}
 use Rattle.dq_core.specs.Deferred.{Deferred, deferred_at, TakesDeferred}
@@ -76,6 +76,10 @@ raised_cell c = record { row = raised_row c.row; aside = c.aside }
 abbrev pub rows_of : {T : Type 0} → List (CellRow T) → List (Row T)
 rows_of {T} cells = map (λ (c : CellRow T). c.row) cells
 
+-- the values that are set aside in cells
+abbrev pub values_of : {T : Type 0} → List (CellRow T) → List (Option T)
+values_of {T} cells = map (λ (c : CellRow T). c.aside) cells
+
 -- the cell at an index; past the end, one that was never used
 abbrev pub cell_at : {T : Type 0} → List (CellRow T) → ℕ → CellRow T
 cell_at cells i = slice_index_or cells i unused_cell
@@ -92,6 +96,15 @@ pub record AreAside {T : Type 0} (last : ℕ) (cells : List (CellRow T)) (waitin
   pub worn_there : AreThere cells worn
   pub are_worn : (i : ℕ) → deferred_at worn i ≡ 1 → is_worn last (cell_at cells i).row ≡ true
 
+-- each value that is set aside waits in its slot where values wait at all, and else none waits
+pub record AreNoted {T : Type 0} (drops : Bool) (cells : List (CellRow T))
+    (waiting worn : Deferred) : Type 0 where
+  pub noted :
+      drops ≡ true → (i : ℕ) → is_some (cell_at cells i).aside ≡ true →
+      (deferred_at waiting i ≡ 1) ⊎ (deferred_at worn i ≡ 1)
+  pub dropping :
+      (i : ℕ) → (deferred_at waiting i ≡ 1) ⊎ (deferred_at worn i ≡ 1) → drops ≡ true
+
 -- a value that waits is taken out of its slot, which waits no more, and there is one fewer; none
 -- comes exactly where none waits
 abbrev pub TakesWaiting : {T : Type 0} →
@@ -107,8 +120,8 @@ abbrev pub AreTaken : FreeIndexes → Deferred → Type 0
 AreTaken free waiting =
     (i : ℕ) → deferred_at waiting i ≡ 1 → (i < room_of free) × (free_times free i ≡ 0)
 
--- a value that waits is taken out of a slot, which is free then or worn, and there is one fewer;
--- none comes exactly where none waits
+-- a value that waits is taken out of a slot, which is free then, or of a worn one where none waits
+-- in another, and there is one fewer; none comes exactly where none waits
 abbrev pub TakesAny : {T : Type 0} →
     List (CellRow T) → FreeIndexes → Deferred → Deferred → Option T →
     List (CellRow T) → FreeIndexes → Deferred → Deferred → Type 0
@@ -117,4 +130,4 @@ TakesAny cells f d w None left g e v =
 TakesAny cells f d w (Some value) left g e v =
     (i : ℕ)
     × ((TakesWaiting cells d (Some (i, value)) left e × GivesBack f i g × (v ≡ w))
-    ⊎ (TakesWaiting cells w (Some (i, value)) left v × (g ≡ f) × (e ≡ d)))
+    ⊎ (TakesWaiting cells w (Some (i, value)) left v × (g ≡ f) × (e ≡ d) × (d.count ≡ 0)))

@@ -1,6 +1,6 @@
 -- No public clause cites this module.
 -- The slots whose value waits for its drop: a bit for each, and how many they are.
-use Rattle.std.specs.Prelude.{◌≡◌, ◌≢◌, ℕ, zero, suc, ◌+◌, ◌*◌, ◌<◌, ◌≤◌, ◌⊎◌, List, Option, Some}
+use Rattle.std.specs.Prelude.{◌≡◌, ◌≢◌, ℕ, zero, suc, ◌+◌, ◌*◌, ◌<◌, ◌≤◌, List, Option, Some}
 use Rattle.std.specs.Prelude.{None, length, Bool, true, false}
 use Rattle.dq_wheel.specs.Walks.{bit_of}
 use Rattle.dq_core.specs.FreeSlots.{IsSummed}
@@ -41,10 +41,6 @@ Defers d i e =
 abbrev pub Undefers : Deferred → ℕ → Deferred → Type 0
 Undefers d i e =
     (deferred_at e i ≡ 0) × (e.count + deferred_at d i ≡ d.count) × OthersWait d i e
-
--- slot i waits from now on, or nothing changes
-abbrev pub MayDefer : Deferred → ℕ → Deferred → Type 0
-MayDefer d i e = (e ≡ d) ⊎ Defers d i e
 
 -- slot i waits from now on where it has to, and else nothing changes
 abbrev pub DefersIf : Bool → Deferred → ℕ → Deferred → Type 0

@@ -10,6 +10,9 @@ use Rattle.dq_wheel.specs.Moves.{passed}
 use Rattle.dq_core.specs.declared.outcomes.Tally.{Tally}
 use Rattle.dq_core.specs.Words.{Counts, word_at, IsOver}
 use Rattle.dq_core.specs.Slots.{Row, row_at}
+use Rattle.dq_core.specs.Core.{Core}
+use Rattle.dq_core.specs.Asides.{waiting_in}
+use Rattle.dq_core.specs.AtTheCall.{linked_in}
 use Rattle.dq_core.specs.Machine.{TableRow, Machine, Note, Pass, Run}
 
 -- a folded queue: its number, the greatest tick noted, its wheel's tick and moves, the last stamp,
@@ -39,6 +42,10 @@ AreVacant rows known =
 -- the slot of a word has no stamp left
 abbrev pub is_worn_word : ℕ → Parts → Bool
 is_worn_word last w = not (nat_lt w.stamp last)
+
+-- nothing is linked in a queue, and no freed value waits for its drop
+abbrev pub IsFoldable : {T W : Type 0} → Core T W → Type 0
+IsFoldable c = (linked_in c ≡ 0) × (waiting_in c.aside ≡ 0)
 
 -- a wheel that came to a tick with nothing in it, and counts its moves on from that many
 abbrev pub resting : ℕ → ℕ → ℕ → Filing

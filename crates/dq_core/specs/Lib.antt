@@ -1,3 +1,4 @@
+pub mod Asides
 pub mod AtTheCall
 pub mod Calls
 pub mod Cells

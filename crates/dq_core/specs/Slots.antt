@@ -16,6 +16,22 @@ pub record SlotRows (T : Type 0) : Type 0 where
   pub last_stamp : ℕ
   pub rows : List (Row T)
 
+-- what is set aside: whether freed values wait for their drop at all, and by slot the freed value
+-- that lies there
+pub record Aside (T : Type 0) : Type 0 where
+  pub drops : Bool
+  pub values : List (Option T)
+
+-- the slots with what is set aside there
+pub record SlotState (T : Type 0) : Type 0 where
+  pub last_stamp : ℕ
+  pub rows : List (Row T)
+  pub aside : Aside T
+
+-- the slots alone
+abbrev pub shown : {T : Type 0} → SlotState T → SlotRows T
+shown s = record { last_stamp = s.last_stamp; rows = s.rows }
+
 -- a slot that was never used
 abbrev pub unused : {T : Type 0} → Row T
 unused = record { stamp = 0; held = None }

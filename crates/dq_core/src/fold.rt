@@ -7,6 +7,7 @@
 
 ghost use Rattle.std.specs.Prelude.{◌≡◌, ◌<◌, ◌≤◌, ◌↔◌, max, length, IsErr, IfOk, IfErr, OnOk, OnErr};
 ghost use Rattle.std.specs.List.{count_by};
+ghost use Rattle.dq_core.specs.Asides.{NoneAside};
 ghost use Rattle.dq_core.specs.Words.{StillBegun};
 ghost use Rattle.dq_core.specs.Folds.{AreOver, AreVacant, is_worn_word, resting};
 ghost use Rattle.dq_core.specs.declared.errors.CoreError.TheVariants.{TickTooLarge};
@@ -100,6 +101,7 @@ fn wheel_and_slots_over<T, W: Words, A: Allocator + Clone>(
         (λ r. r.0.filing ≡ resting (length (W.known words.old)) tick moved) }
     ensures rows { IfOk result
         (λ r. (r.1.last_stamp ≡ last) × AreVacant r.1.rows (W.known words.old)) }
+    ensures none { IfOk result (λ r. NoneAside r.1.aside) }
     ensures refused { OnErr result (words.new ≡ words.old) }
     ensures known { W.known words.new ≡ W.known words.old }
     ensures counts { W.counts words.new ≡ W.counts words.old }
@@ -114,8 +116,7 @@ fn wheel_and_slots_over<T, W: Words, A: Allocator + Clone>(
 
 impl<T: Drop, W: Words, A: Allocator> DelayCore<T, W, A> {
     ghost use Rattle.dq_core.specs.Core.{machine};
-    ghost use Rattle.dq_core.specs.AtTheCall.{linked_in};
-    ghost use Rattle.dq_core.specs.Folds.{folded_machine};
+    ghost use Rattle.dq_core.specs.Folds.{folded_machine, IsFoldable};
 
     /// Gives the memory of an empty queue back, but for its words. Each key stays refused as before. Constant time, but
     /// for the allocator's.
@@ -139,8 +140,9 @@ impl<T: Drop, W: Words, A: Allocator> DelayCore<T, W, A> {
     /// # Ok::<(), CoreError>(())
     /// ```
     pub fn fold(self) -> Result<Folded<W>, DelayCore<T, W, A>>
-        // Nothing was linked. It is no event of the queue machine: that stays as it is.
-        ensures empty { IfOk result (λ f. linked_in self ≡ 0) }
+        // Nothing was linked and no value waited for its drop. It is no event of the queue machine:
+        // that stays as it is.
+        ensures empty { IfOk result (λ f. IsFoldable self) }
         ensures machine { IfOk result (λ f. folded_machine f ≡ machine self) }
 
         // Its number, its last stamp, its words and what they count stay.
@@ -149,8 +151,9 @@ impl<T: Drop, W: Words, A: Allocator> DelayCore<T, W, A> {
             × (f.known ≡ self.known) × (f.counts ≡ self.counts)
             × (f.moved ≡ self.wheel.filing.moved)) }
 
-        // Refused, it comes back as it was.
+        // Refused, it comes back as it was: exactly where an entry is linked or a value waits.
         ensures back { IfErr result (λ q. q ≡ self) }
+        ensures refused { IsErr result → ¬ IsFoldable self }
     {
         if self.slots.linked() > 0 || self.slots.aside() > 0 {
             return Err(self);
@@ -282,7 +285,9 @@ impl<W: Words> Folded<W> {
         ensures machine { IfOk result (λ q. machine q ≡ folded_machine self) }
 
         // Each slot holds nothing, and is at its word's stamp: the next one is beyond all that it had.
+        // Nothing is set aside.
         ensures slots { IfOk result (λ q. AreVacant q.slots.rows self.known) }
+        ensures none { IfOk result (λ q. NoneAside q.aside) }
 
         // No entry from before is there, and under no word one is live.
         ensures stale { IfOk result (λ q. ((id : EntryId) → IsMissing q id)

@@ -14,7 +14,7 @@ ghost use Rattle.std.specs.Prelude.{◌≡◌, ◌≢◌, ℕ, ◌+◌, ◌*◌,
 ghost use Rattle.std.specs.Int.{bit_at};
 ghost use Rattle.dq_wheel.specs.Walks.{bit_of};
 ghost use Rattle.dq_core.specs.FreeSlots.{FreeIndexes, free_times, room_of, GivesBack, IsSummed};
-ghost use Rattle.dq_core.specs.Deferred.{Deferred, deferred_at, Defers, Undefers, TakesDeferred, defers_room};
+ghost use Rattle.dq_core.specs.Deferred.{Deferred, bits_below, deferred_at, Defers, Undefers, TakesDeferred, defers_room};
 ghost use Rattle.dq_core.specs.SlotRowsKept.{TakesSlot};
 
 use std::alloc::{AllocError, Allocator, Global};
@@ -257,6 +257,13 @@ impl<A: Allocator> DeferredDrops<A> {
             current: 0,
             count: 0,
         })
+    }
+
+    /// The count is exact.
+    pub fn law(&self)
+        ensures { self.now.count ≡ bits_below self.now.bits (defers_room self.now) }
+    {
+        let _ = &self.count;
     }
 
     /// How many slots wait.

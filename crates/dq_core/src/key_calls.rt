@@ -51,6 +51,9 @@ impl<T, A: Allocator> DelayCore<T, VecWords<A>, A> {
         ensures refused { OnErr result (self.new ≡ self.old) }
         ensures too_far { IsErrOf result (TooFar LAST_TICK) ↔ (LAST_TICK < when) }
 
+        // Nothing is set aside or taken out.
+        ensures aside { self.new.aside ≡ self.old.aside }
+
         // Exactly: a step of the queue machine, or which refusal comes first.
         ensures extends { Extends self.old key.now when result self.new }
         ensures same { SameCore self.old self.new }
@@ -81,6 +84,9 @@ impl<T, A: Allocator> DelayCore<T, VecWords<A>, A> {
         // Nothing but the word changes, and nothing at all where it is refused.
         ensures rest { KeepsRest self.old self.new }
         ensures refused { OnErr result (self.new ≡ self.old) }
+
+        // Nothing is set aside or taken out.
+        ensures aside { self.new.aside ≡ self.old.aside }
 
         // Exactly: a step of the queue machine, or which refusal comes first.
         ensures cancels { Cancels self.old key.now result self.new }

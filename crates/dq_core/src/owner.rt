@@ -6,12 +6,13 @@
 
 ghost use Rattle.std.specs.Prelude.{◌≡◌, ℕ, ◌+◌, ◌<◌, ◌≤◌, ◌⊎◌, ◌↔◌, max, nat_lt, if◌then◌else◌, length, IfOk, IfErr, IfSome, Some, None, OnOk, OnErr, IsErr, IsErrAnd, IsErrOf};
 ghost use Rattle.std.specs.List.{count_by};
+ghost use Rattle.dq_core.specs.Asides.{answered_at, out_at, waiting_in, with_aside, MakesRoom};
 ghost use Rattle.dq_core.specs.AtTheCall.{IfOut, IfRests, linked_in, IsLinkedAs, OthersStay, with_value_back};
 ghost use Rattle.dq_core.specs.Calls.{SameCore, base_for, IsMissing, Inserts, Polls};
 ghost use Rattle.dq_core.specs.Core.{machine};
 ghost use Rattle.dq_core.specs.Machine.{NoneLinked, NoneLiveBefore, table_at};
 ghost use Rattle.dq_core.specs.Pieces.{IfAnswer, PollsSome};
-ghost use Rattle.dq_core.specs.Slots.{is_worn};
+ghost use Rattle.dq_core.specs.Slots.{is_free, is_worn};
 ghost use Rattle.dq_core.specs.Sweeps.{Sweeps, Clears, NoneCancelled, NotCancelled, SweepsSome, Reaps, removed_counts};
 ghost use Rattle.dq_core.specs.Words.{StillBegun};
 ghost use Rattle.dq_core.specs.declared.errors.CoreError.TheVariants.{TooFar};
@@ -23,16 +24,32 @@ use crate::queue::DelayCore;
 use crate::words::Words;
 use dq_ticks::{EntryId, Key, LAST_TICK};
 use std::alloc::Allocator;
+use std::mem;
 
 impl<T: Drop, W: Words, A: Allocator> DelayCore<T, W, A> {
     /// Drops the freed values that wait for their drop. If a drop panics, the others wait for the next call that
     /// drops.
     #[inline]
     pub fn drop_aside(&mut self)
-        ensures { self.new ≡ self.old }
+        // None waits any more, and nothing else changes.
+        ensures none { waiting_in self.new.aside ≡ 0 }
+        ensures rest { self.new ≡ record self.old { aside = self.new.aside } }
     {
         for _turn in 0..self.aside() {
             drop(self.take_aside());
+        }
+    }
+
+    // Drops the value that waits in the slot that the next insert takes, if one does.
+    #[inline(always)]
+    fn make_room(&mut self)
+        ensures room { MakesRoom self.old.slots self.old.aside self.new.aside }
+        ensures rest { self.new ≡ record self.old { aside = self.new.aside } }
+        ensures full { count_by (is_free self.old.slots.last_stamp) self.old.slots.rows ≡ 0
+            → self.new ≡ self.old }
+    {
+        if mem::needs_drop::<T>() {
+            drop(self.take_crowded());
         }
     }
 
@@ -68,6 +85,10 @@ impl<T: Drop, W: Words, A: Allocator> DelayCore<T, W, A> {
         ensures refused { IfErr result (λ e. (e.1 ≡ value) × (self.new ≡ self.old)) }
         ensures too_far { IsErrAnd result (λ e. e.0 ≡ TooFar LAST_TICK) ↔ (LAST_TICK < when) }
 
+        // No value is dropped but one that waited in the slot that the entry takes.
+        ensures aside { IfOk result
+            (λ k. self.new.aside ≡ with_aside self.old.aside k.entry.index None) }
+
         // Exactly: a step of the queue machine, and what it leaves of the wheel, the slots and the words.
         ensures inserts { Inserts self.old value when result self.new }
         ensures begins { IfOk result
@@ -80,7 +101,7 @@ impl<T: Drop, W: Words, A: Allocator> DelayCore<T, W, A> {
             return Err((CoreError::TooFar { limit: LAST_TICK }, value));
         }
         // Another's drop may panic: it runs before there is an entry whose key would be lost.
-        drop(self.take_crowded());
+        self.make_room();
         self.insert_deferring(value, when).0
     }
 
@@ -150,6 +171,9 @@ impl<T: Drop, W: Words, A: Allocator> DelayCore<T, W, A> {
         ensures ahead { IfRests result (λ next. IfSome next (λ tick. self.new.noted < tick)) }
         ensures idle { IfRests result (λ next. (next ≡ None) ↔ NoneLinked (machine self.new)) }
 
+        // No freed value waits any more, unless an entry comes out.
+        ensures none { IfOk result (λ turn. out_at turn ≡ None → waiting_in self.new.aside ≡ 0) }
+
         // Exactly: a run of the queue machine, and the way of the wheel and of the words.
         ensures polls { Polls W.shared self.old tick result self.new }
         ensures same { SameCore self.old self.new }
@@ -201,6 +225,10 @@ impl<T: Drop, W: Words, A: Allocator> DelayCore<T, W, A> {
         ensures idle { IfAnswer result (λ turn. IfRests turn
             (λ next. (next ≡ None) ↔ NoneLinked (machine self.new))) }
 
+        // No freed value waits any more, unless an entry comes out.
+        ensures none { IfOk result
+            (λ piece. answered_at piece ≡ None → waiting_in self.new.aside ≡ 0) }
+
         // It makes at most `most` steps over the words.
         ensures few_steps { W.steps self.new.words ≤ W.steps self.old.words + most }
 
@@ -231,6 +259,9 @@ impl<T: Drop, W: Words, A: Allocator> DelayCore<T, W, A> {
         ensures counts { self.new.counts ≡ self.old.counts }
         ensures noted { self.new.noted ≡ self.old.noted }
         ensures tick { self.new.wheel.filing.tick ≡ self.old.wheel.filing.tick }
+
+        // No freed value waits any more.
+        ensures none { waiting_in self.new.aside ≡ 0 }
 
         // Exactly: a run of the queue machine, and what it leaves of the wheel, the slots and the words.
         ensures sweeps { Sweeps W.shared self.old result self.new }
@@ -264,6 +295,9 @@ impl<T: Drop, W: Words, A: Allocator> DelayCore<T, W, A> {
         ensures counts { self.new.counts ≡ self.old.counts }
         ensures noted { self.new.noted ≡ self.old.noted }
         ensures tick { self.new.wheel.filing.tick ≡ self.old.wheel.filing.tick }
+
+        // No freed value waits any more.
+        ensures none { waiting_in self.new.aside ≡ 0 }
 
         // Exactly: a run of the queue machine, and what it leaves of the wheel, the slots and the words.
         ensures sweeps { SweepsSome W.shared self.old from (from + count) result.reaped self.new }
@@ -300,6 +334,9 @@ impl<T: Drop, W: Words, A: Allocator> DelayCore<T, W, A> {
         ensures counts { self.new.counts ≡ self.old.counts }
         ensures noted { self.new.noted ≡ self.old.noted }
 
+        // No freed value waits any more.
+        ensures none { OnOk result (waiting_in self.new.aside ≡ 0) }
+
         // Exactly: a run of the queue machine, and what it leaves of the wheel, the slots and the words.
         ensures reaps { Reaps W.shared self.old entry.now result self.new }
         ensures same { SameCore self.old self.new }
@@ -322,6 +359,9 @@ impl<T: Drop, W: Words, A: Allocator> DelayCore<T, W, A> {
         // No tick goes on.
         ensures noted { self.new.noted ≡ self.old.noted }
         ensures tick { self.new.wheel.filing.tick ≡ self.old.wheel.filing.tick }
+
+        // No freed value waits any more.
+        ensures none { waiting_in self.new.aside ≡ 0 }
 
         // Exactly: a run of the queue machine, and what it leaves of the wheel, the slots and the words.
         ensures clears { Clears W.shared self.old result self.new }

@@ -8,7 +8,8 @@
 //! look is a plain load and a step that may end an entry is a fence, which takes longer than all else: so the look
 //! comes first there.
 
-ghost use Rattle.std.specs.Prelude.{◌≡◌, ℕ, ◌+◌, ◌<◌, ◌≤◌, ◌↔◌, max, length, Some, IfSome, None, IsErr, OnErr, OnOk};
+ghost use Rattle.std.specs.Prelude.{◌≡◌, ℕ, ◌+◌, ◌<◌, ◌≤◌, ◌↔◌, max, length, Some, IfOk, IfSome, None, IsErr, OnErr, OnOk};
+ghost use Rattle.dq_core.specs.Asides.{answered_at, given_at, SetsAside};
 ghost use Rattle.dq_core.specs.AtTheCall.{IfOut, IfRests};
 ghost use Rattle.dq_core.specs.Calls.{SameCore};
 ghost use Rattle.dq_core.specs.Core.{machine};
@@ -49,6 +50,9 @@ impl<T, W: Words, A: Allocator> DelayCore<T, W, A> {
             (λ next. IfSome next (λ tick. self.new.noted < tick))) }
         ensures idle { IfAnswer result (λ turn. IfRests turn
             (λ next. (next ≡ None) ↔ NoneLinked (machine self.new))) }
+
+        // The value of each entry that left is set aside, but of what came out.
+        ensures aside { IfOk result (λ piece. SetsAside self.old (answered_at piece) self.new) }
 
         // It makes at most `most` steps over the words.
         ensures few_steps { W.steps self.new.words ≤ W.steps self.old.words + most }
@@ -98,6 +102,7 @@ impl<T, W: Words, A: Allocator> DelayCore<T, W, A> {
         ensures few { result.1 ≤ left }
         ensures few_steps { W.steps self.new.words ≤ W.steps self.old.words + result.1 }
         ensures piece { IsPieceBy W.shared self.old result.1 result.0 self.new }
+        ensures aside { SetsAside self.old (given_at result.0) self.new }
     {
         if W::FENCED && 2 <= left {
             if let Some(index) = self.wheel.first_open() {
@@ -125,6 +130,7 @@ impl<T, W: Words, A: Allocator> DelayCore<T, W, A> {
         ensures few { result ≤ most }
         ensures few_steps { W.steps self.new.words ≤ W.steps self.old.words + result }
         ensures looks { LooksOn W.shared self.old result self.new }
+        ensures aside { SetsAside self.old None self.new }
     {
         let mut made = 0;
         let mut next = from;
@@ -156,6 +162,7 @@ impl<T, W: Words, A: Allocator> DelayCore<T, W, A> {
         ensures one_step { W.steps self.new.words ≤ W.steps self.old.words + 1 }
         ensures noted { self.new.noted ≡ self.old.noted }
         ensures settles { SettlesByLook W.shared self.old result.0 self.new }
+        ensures aside { SetsAside self.old None self.new }
         ensures next { IfDue self.new.wheel.filing result.1 }
     {
         let word = self.words.look(index);

@@ -4,10 +4,11 @@
 //! the owner. The wheel files the index no later than that deadline; where an entry comes due there and its word has
 //! a later deadline, it is filed again.
 
-ghost use Rattle.std.specs.Prelude.{◌≡◌, ◌≢◌, ℕ, ◌+◌, ◌<◌, ◌≤◌, max, length, ◌↔◌, IfOk, IfErr, IfSome, IfNone, OnOk, OnErr, IsErr, IsErrAnd, IsErrOf, IsNone, MatchOption, Some, None, List, [], ◌∷◌, Ok, Err, IsTrue, replicate};
+ghost use Rattle.std.specs.Prelude.{◌≡◌, ◌≢◌, ℕ, ◌+◌, ◌<◌, ◌≤◌, max, length, ◌↔◌, IfOk, IfErr, IfSome, IfNone, OnOk, OnErr, IsErr, IsErrAnd, IsErrOf, IsNone, MatchOption, Some, None, List, [], ◌∷◌, Ok, Err, IsTrue, replicate, true, is_some};
 ghost use Rattle.std.specs.List.{count_by};
 ghost use Rattle.dq_core.specs.Core.{filing_for};
-ghost use Rattle.dq_core.specs.Slots.{unused, is_held, is_worn, row_at};
+ghost use Rattle.dq_core.specs.Asides.{aside_at, given_at, out_at, with_aside, waiting_in, IsCrowded, NoneAside, SetsAside, TakesAside, TakesCrowded};
+ghost use Rattle.dq_core.specs.Slots.{unused, is_held, is_worn, row_at, shown};
 ghost use Rattle.dq_core.specs.Words.{AreFresh, StillBegun};
 ghost use Rattle.dq_core.specs.Calls.{IsConfig};
 ghost use Rattle.dq_wheel.specs.State.{filed_at, fresh_filing};
@@ -58,6 +59,7 @@ pub struct DelayCore<T, W: Words, A: Allocator = Global> {
 impl<T, W: Words, A: Allocator> Model for DelayCore<T, W, A> {
     ghost use Rattle.std.specs.Prelude.{◌≡◌};
     ghost use Rattle.dq_core.specs.Core.{Core, IsLawful};
+    ghost use Rattle.dq_core.specs.Slots.{shown};
 
     ghost Value = { Core T W };
 
@@ -65,14 +67,15 @@ impl<T, W: Words, A: Allocator> Model for DelayCore<T, W, A> {
       shard = a.shard;
       noted = a.noted;
       wheel = a.wheel;
-      slots = a.slots;
+      slots = shown a.slots;
+      aside = a.slots.aside;
       known = W.known a.words;
       counts = W.counts a.words;
       words = a.words;
     } };
 
     ghost invariant = { λ a.
-        IsLawful a.noted a.wheel.filing a.slots (W.known a.words) (W.counts a.words)
+        IsLawful a.noted a.wheel.filing (shown a.slots) (W.known a.words) (W.counts a.words)
         × (W.counts a.words
         ≡ record { begins = a.inserted; expiries = a.expired; removals = a.removed }) };
 }
@@ -115,7 +118,8 @@ fn wheel_and_slots<T, A: Allocator + Clone>(
     requires used { 0 < last }
     requires bound { last ≤ LAST_STAMP }
     ensures { IfOk result (λ r. (r.0.filing ≡ fresh_filing capacity)
-        × (r.1 ≡ record { last_stamp = last; rows = replicate capacity unused })) }
+        × (shown r.1 ≡ record { last_stamp = last; rows = replicate capacity unused })
+        × NoneAside r.1.aside) }
 {
     let other = alloc.clone()?;
     let Ok(wheel) = Wheel::new(other, capacity) else {
@@ -169,6 +173,7 @@ impl<T, W: Words + Drop, A: Allocator + Clone> DelayCore<T, W, A> {
         // An empty queue at tick 0, of that shard and that many slots.
         ensures empty { IfOk result (λ q. NoneLinked (machine q)) }
         ensures start { IfOk result (λ q. (q.noted ≡ 0) × (q.wheel.filing.tick ≡ 0)) }
+        ensures none { IfOk result (λ q. NoneAside q.aside) }
         ensures size { IfOk result
             (λ q. (q.shard ≡ config.shard) × (length q.slots.rows ≡ config.capacity)) }
 
@@ -271,6 +276,14 @@ impl<T, W: Words, A: Allocator> DelayCore<T, W, A> {
         ensures refused { IfErr result.0 (λ e. (e.1 ≡ value) × (self.new ≡ self.old)) }
         ensures too_far { IsErrAnd result.0 (λ e. e.0 ≡ TooFar LAST_TICK) ↔ (LAST_TICK < when) }
 
+        // Beside the key comes what was set aside in the slot, and nothing is left there. A value comes
+        // only where one waits in each slot that was left.
+        ensures beside { IfOk result.0 (λ k. (result.1 ≡ aside_at self.old.aside k.entry.index)
+            × (self.new.aside ≡ with_aside self.old.aside k.entry.index None)) }
+        ensures crowded { OnOk result.0 (self.old.aside.drops ≡ true → is_some result.1 ≡ true
+            → IsCrowded self.old.slots self.old.aside) }
+        ensures alone { OnErr result.0 (result.1 ≡ None) }
+
         // Exactly: a step of the queue machine, and what it leaves of the wheel, the slots and the words.
         ensures inserts { Inserts self.old value when result.0 self.new }
         ensures begins { IfOk result.0
@@ -313,6 +326,7 @@ impl<T, W: Words, A: Allocator> DelayCore<T, W, A> {
         ensures one_step { W.steps self.new.words ≤ W.steps self.old.words + 1 }
         ensures noted { self.new.noted ≡ self.old.noted }
         ensures settles { SettlesDue W.shared self.old result self.new }
+        ensures aside { IfSome result (λ made. SetsAside self.old (given_at made) self.new) }
     {
         let tick = self.wheel.tick();
         let Some(index) = self.wheel.pop_due() else {
@@ -351,6 +365,7 @@ impl<T, W: Words, A: Allocator> DelayCore<T, W, A> {
         ensures one_step { W.steps self.new.words ≤ W.steps self.old.words + 1 }
         ensures noted { self.new.noted ≡ self.old.noted }
         ensures progress { IsStepAt W.shared pace self.old result self.new }
+        ensures aside { SetsAside self.old (given_at result) self.new }
     {
         if let Some(made) = self.settle_due() {
             return made;
@@ -422,6 +437,9 @@ impl<T, W: Words, A: Allocator> DelayCore<T, W, A> {
         ensures ahead { IfRests result (λ next. IfSome next (λ tick. self.new.noted < tick)) }
         ensures idle { IfRests result (λ next. (next ≡ None) ↔ NoneLinked (machine self.new)) }
 
+        // The value of each entry that left is set aside, but of what came out.
+        ensures aside { IfOk result (λ turn. SetsAside self.old (out_at turn) self.new) }
+
         // Exactly: a run of the queue machine, and the way of the wheel and of the words.
         ensures polls { Polls W.shared self.old tick result self.new }
         ensures same { SameCore self.old self.new }
@@ -468,7 +486,9 @@ impl<T, W: Words, A: Allocator> DelayCore<T, W, A> {
 
     /// Returns how many freed values wait for their drop. Constant time.
     #[inline(always)]
-    pub fn aside(&self) -> usize {
+    pub fn aside(&self) -> usize
+        ensures { result ≡ waiting_in self.now.aside }
+    {
         self.slots.aside()
     }
 
@@ -480,7 +500,10 @@ impl<T, W: Words, A: Allocator> DelayCore<T, W, A> {
     /// }
     /// ```
     pub fn take_aside(&mut self) -> Option<T>
-        ensures { self.new ≡ self.old }
+        // One comes exactly while one waits, and nothing else changes.
+        ensures takes { TakesAside self.old.aside result self.new.aside }
+        ensures rest { self.new ≡ record self.old { aside = self.new.aside } }
+        ensures kept { IfNone result (self.new ≡ self.old) }
     {
         self.slots.take_aside()
     }
@@ -489,7 +512,10 @@ impl<T, W: Words, A: Allocator> DelayCore<T, W, A> {
     /// slot is free. Constant time.
     #[inline(always)]
     pub fn take_crowded(&mut self) -> Option<T>
-        ensures { self.new ≡ self.old }
+        // One comes exactly where a slot is left and a value waits in each, and nothing else changes.
+        ensures takes { TakesCrowded self.old.slots self.old.aside result self.new.aside }
+        ensures rest { self.new ≡ record self.old { aside = self.new.aside } }
+        ensures kept { IfNone result (self.new ≡ self.old) }
     {
         self.slots.take_crowded()
     }
@@ -532,6 +558,9 @@ impl<T, W: Words, A: Allocator> DelayCore<T, W, A> {
         ensures kept { KeepsSlots self.old self.new }
         ensures others { OthersStay self.old self.new entry.now.index }
 
+        // Nothing is set aside or taken out.
+        ensures aside { self.new.aside ≡ self.old.aside }
+
         // Exactly: what is known after it, and all else as it was.
         ensures tells { TellsDeadline W.shared self.old entry.now result self.new }
         ensures same { SameCore self.old self.new }
@@ -566,6 +595,9 @@ impl<T, W: Words, A: Allocator> DelayCore<T, W, A> {
         // Refused, no entry leaves or moves; a missing entry is told exactly.
         ensures refused { OnErr result (KeepsSlots self.old self.new) }
         ensures missing { IsErrOf result Missing ↔ IsMissing self.old entry.now }
+
+        // Nothing is set aside or taken out.
+        ensures aside { self.new.aside ≡ self.old.aside }
 
         // Exactly: a step of the queue machine, and what it leaves of the wheel, the slots and the words.
         ensures removes { Removes W.shared self.old entry.now result self.new }
@@ -612,6 +644,9 @@ impl<T, W: Words, A: Allocator> DelayCore<T, W, A> {
         // Refused, no entry leaves or moves; first, and exactly, beyond the last tick.
         ensures refused { OnErr result (KeepsSlots self.old self.new) }
         ensures too_far { IsErrOf result (TooFar LAST_TICK) ↔ (LAST_TICK < when) }
+
+        // Nothing is set aside or taken out.
+        ensures aside { self.new.aside ≡ self.old.aside }
 
         // Exactly: a step of the queue machine, and what it leaves of the wheel, the slots and the words.
         ensures resets { Resets W.shared self.old entry.now when result self.new }

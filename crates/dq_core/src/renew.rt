@@ -91,6 +91,9 @@ impl<T, W: Words, A: Allocator> DelayCore<T, W, A> {
             ((self.old.shard < self.new.shard) × (self.new.shard ≡ shard)) }
         ensures stale { OnOk result (OldAreMissing self.old self.new) }
 
+        // What is set aside stays so.
+        ensures aside { self.new.aside ≡ self.old.aside }
+
         // Refused, the words come back and nothing changes.
         ensures refused { IfErr result (λ e. (e.1 ≡ words) × (self.new ≡ self.old)) }
 
@@ -153,7 +156,8 @@ impl<T, W: Words, A: Allocator> DelayCore<T, W, A> {
 
         // It goes on over the other's words and slots, and what it was comes back.
         ensures rows { OnOk result
-            ((self.new.words ≡ fresh.words) × (self.new.slots ≡ fresh.slots)) }
+            ((self.new.words ≡ fresh.words) × (self.new.slots ≡ fresh.slots)
+            × (self.new.aside ≡ fresh.aside)) }
         ensures back { IfOk result (λ old. old ≡ self.old) }
 
         // Its number rises to the other's, so each entry from before is missing for good.

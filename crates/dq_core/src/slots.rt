@@ -9,7 +9,7 @@
 //! drops a value: no impl here says that one may be dropped.
 ghost use Rattle.std.specs.Prelude.{◌≡◌, ℕ, ◌+◌, ◌<◌, ◌≤◌, ◌^◌, length, replicate, IfOk, MatchOption, Some, None, true, false};
 ghost use Rattle.std.specs.List.{count_by};
-ghost use Rattle.dq_core.specs.Deferred.{deferred_at, defers_room, MayDefer, DefersIf};
+ghost use Rattle.dq_core.specs.Deferred.{deferred_at, defers_room, DefersIf};
 ghost use Rattle.dq_core.specs.Cells.{AreThere, AreTaken, TakesWaiting, TakesAny};
 ghost use Rattle.dq_core.specs.FreeSlots.{free_times, room_of};
 ghost use Rattle.dq_core.specs.SlotRowsKept.{GivesSlot};
@@ -137,6 +137,7 @@ impl<T> Cell<T> {
     fn vacate(&mut self) -> Held<T>
         requires { is_held self.old.row ≡ true }
         ensures held { self.old.row.held ≡ Some result }
+        ensures none { self.old.aside ≡ None }
         ensures vacated { self.new ≡ vacated_cell self.old }
     {
         let value = self.value.take().unwrap();
@@ -193,28 +194,36 @@ pub struct Slots<T, A: Allocator = Global> {
     deferred: DeferredDrops<A>,
     /// The worn slots whose value waits for its drop.
     deferred_worn: DeferredDrops<A>,
+    /// Whether a freed value waits for its drop: not one whose drop does nothing.
+    drops: bool,
 }
 
 impl<T, A: Allocator> Model for Slots<T, A> {
-    ghost use Rattle.dq_core.specs.Slots.{SlotRows};
+    ghost use Rattle.dq_core.specs.Slots.{SlotState};
     ghost use Rattle.std.specs.Prelude.{◌≤◌, length};
     ghost use Rattle.dq_core.specs.Deferred.{defers_room};
-    ghost use Rattle.dq_core.specs.Cells.{rows_of, AreAside};
+    ghost use Rattle.dq_core.specs.Cells.{rows_of, values_of, AreAside, AreNoted};
     ghost use Rattle.dq_core.specs.SlotRowsKept.{IsSlotRowsKept};
 
-    ghost Value = { SlotRows T };
+    ghost Value = { SlotState T };
 
-    ghost view = { λ a. record { last_stamp = a.last; rows = rows_of a.cells.items } };
+    ghost view = { λ a. record {
+      last_stamp = a.last;
+      rows = rows_of a.cells.items;
+      aside = record { drops = a.drops; values = values_of a.cells.items };
+    } };
 
     ghost invariant = { λ a. IsSlotRowsKept a.last (rows_of a.cells.items) a.free a.deferred
         a.held_count a.free_count
         × (length a.cells.items ≤ defers_room a.deferred)
         × (length a.cells.items ≤ defers_room a.deferred_worn)
-        × AreAside a.last a.cells.items a.deferred a.deferred_worn };
+        × AreAside a.last a.cells.items a.deferred a.deferred_worn
+        × AreNoted a.drops a.cells.items a.deferred a.deferred_worn };
 }
 
 impl<T, A: Allocator + Clone> Slots<T, A> {
-    ghost use Rattle.dq_core.specs.Slots.{SlotRows, unused};
+    ghost use Rattle.dq_core.specs.Asides.{NoneAside};
+    ghost use Rattle.dq_core.specs.Slots.{shown, unused};
     ghost use Rattle.dq_ticks.specs.declared.TheConstants.{CAPACITY_LIMIT, LAST_STAMP};
 
     /// A row of slots that were never used.
@@ -222,8 +231,9 @@ impl<T, A: Allocator + Clone> Slots<T, A> {
         requires size { capacity ≤ CAPACITY_LIMIT }
         requires used { 0 < last }
         requires bound { last ≤ LAST_STAMP }
-        ensures { IfOk result
-            (λ s. s ≡ record { last_stamp = last; rows = replicate capacity unused }) }
+        ensures rows { IfOk result
+            (λ s. shown s ≡ record { last_stamp = last; rows = replicate capacity unused }) }
+        ensures none { IfOk result (λ s. NoneAside s.aside) }
     {
         let deferred = DeferredDrops::new(alloc.clone()?, capacity)?;
         let deferred_worn = DeferredDrops::new(alloc.clone()?, capacity)?;
@@ -242,12 +252,14 @@ impl<T, A: Allocator + Clone> Slots<T, A> {
             free,
             deferred,
             deferred_worn,
+            drops: mem::needs_drop::<T>(),
         })
     }
 }
 
 impl<T, A: Allocator + Clone> Slots<T, A> {
     ghost use Rattle.std.specs.Prelude.{OnErr};
+    ghost use Rattle.dq_core.specs.Asides.{NoneAside};
     ghost use Rattle.dq_ticks.specs.declared.words.Parts.{Parts};
     ghost use Rattle.dq_ticks.specs.declared.TheConstants.{CAPACITY_LIMIT, LAST_STAMP};
     ghost use Rattle.dq_core.specs.Words.{StillBegun};
@@ -260,6 +272,7 @@ impl<T, A: Allocator + Clone> Slots<T, A> {
         requires bound { last ≤ LAST_STAMP }
         requires over { AreOver last (W.known words.old) }
         ensures rows { IfOk result (λ s. (s.last_stamp ≡ last) × AreVacant s.rows (W.known words.old)) }
+        ensures none { IfOk result (λ s. NoneAside s.aside) }
         ensures refused { OnErr result (words.new ≡ words.old) }
         ensures known { W.known words.new ≡ W.known words.old }
         ensures counts { W.counts words.new ≡ W.counts words.old }
@@ -289,17 +302,18 @@ impl<T, A: Allocator + Clone> Slots<T, A> {
             free,
             deferred,
             deferred_worn,
+            drops: mem::needs_drop::<T>(),
         })
     }
 }
 
-// Notes that the value of a worn slot was let go there, and waits for its drop where it has one.
+// Notes that the value of a worn slot was let go there, and waits for its drop where values do.
 #[inline(always)]
-fn mark<T, A: Allocator>(deferred: &mut DeferredDrops<A>, index: usize)
+fn mark<A: Allocator>(deferred: &mut DeferredDrops<A>, drops: bool, index: usize)
     requires { index < defers_room deferred.old }
-    ensures { MayDefer deferred.old index deferred.new }
+    ensures { DefersIf drops deferred.old index deferred.new }
 {
-    if mem::needs_drop::<T>() {
+    if drops {
         deferred.add(index);
     }
 }
@@ -307,9 +321,10 @@ fn mark<T, A: Allocator>(deferred: &mut DeferredDrops<A>, index: usize)
 // Gives a slot whose value was let go to the next fills: as a free one, or where the value waits for its drop as one
 // that is taken where none is free.
 #[inline(always)]
-fn set_aside<T, A: Allocator>(
+fn set_aside<A: Allocator>(
     free: &mut FreeSlots<A>,
     deferred: &mut DeferredDrops<A>,
+    drops: bool,
     index: usize,
 )
     requires room { index < room_of free.old }
@@ -317,9 +332,9 @@ fn set_aside<T, A: Allocator>(
     requires bit { index < defers_room deferred.old }
     requires taken { deferred_at deferred.old index ≡ 0 }
     ensures gives { GivesSlot free.old deferred.old index free.new deferred.new }
-    ensures waits { MayDefer deferred.old index deferred.new }
+    ensures waits { DefersIf drops deferred.old index deferred.new }
 {
-    if mem::needs_drop::<T>() {
+    if drops {
         deferred.add(index);
     } else {
         free.give(index);
@@ -404,12 +419,14 @@ impl<T, A: Allocator> Beside for Slots<T, A> {
 }
 
 impl<T, A: Allocator> Slots<T, A> {
-    ghost use Rattle.dq_core.specs.Slots.{SlotRows, row_at, is_free, is_held, is_worn, vacated, raised, unused, IsBorn, IsFilled, IsSlotRows};
+    ghost use Rattle.std.specs.Prelude.{IfErr, IsTrue, is_some};
+    ghost use Rattle.dq_core.specs.Asides.{aside_at, with_aside, waiting_in, IsCrowded, SetsAsideBut, TakesAside, TakesCrowded};
+    ghost use Rattle.dq_core.specs.Slots.{SlotRows, row_at, is_free, is_held, is_worn, shown, vacated, raised, unused, IsBorn, IsFilled, IsSlotRows};
     ghost use Rattle.dq_core.specs.Renewals.{forgotten, never_used};
 
     /// The row is in good order.
     pub fn law(&self)
-        ensures { IsSlotRows self.now }
+        ensures { IsSlotRows (shown self.now) }
     {
         let _ = &self.last;
     }
@@ -492,7 +509,14 @@ impl<T, A: Allocator> Slots<T, A> {
     /// of the free slots it returns the one that waited there too. It hands the value back where no slot is free.
     #[inline(always)]
     pub fn fill(&mut self, value: T) -> Result<(usize, Option<T>), T>
-        ensures { IsFilled self.old value result self.new }
+        ensures filled { IsFilled (shown self.old) value result (shown self.new) }
+        // What comes out beside the index is what was set aside there, in a slot that no fill
+        // takes while it may take one in which no value waits.
+        ensures aside { IfOk result (λ f. (f.1 ≡ aside_at self.old.aside f.0)
+            × (self.new.aside ≡ with_aside self.old.aside f.0 None)) }
+        ensures crowded { IfOk result (λ f. self.old.aside.drops ≡ true → is_some f.1 ≡ true
+            → IsCrowded (shown self.old) self.old.aside) }
+        ensures kept { IfErr result (λ _. self.new.aside ≡ self.old.aside) }
     {
         let Some(index) = self.free.take(&mut self.deferred) else {
             return Err(value);
@@ -509,7 +533,8 @@ impl<T, A: Allocator> Slots<T, A> {
     pub fn vacate(&mut self, index: usize) -> Held<T>
         requires { is_held (row_at self.old.rows index) ≡ true }
         ensures held { (row_at self.old.rows index).held ≡ Some result }
-        ensures vacated { self.new ≡ vacated self.old index }
+        ensures vacated { shown self.new ≡ vacated (shown self.old) index }
+        ensures aside { self.new.aside ≡ self.old.aside }
     {
         let cell = &mut self.cells[index];
         let held = cell.vacate();
@@ -525,33 +550,37 @@ impl<T, A: Allocator> Slots<T, A> {
     #[inline]
     pub fn let_go(&mut self, index: usize)
         requires { is_held (row_at self.old.rows index) ≡ true }
-        ensures { self.new ≡ vacated self.old index }
+        ensures vacated { shown self.new ≡ vacated (shown self.old) index }
+        ensures aside { SetsAsideBut self.old.rows self.old.aside None self.new.rows self.new.aside }
     {
         let cell = &mut self.cells[index];
         cell.let_go();
         if cell.stamp() < self.last {
-            set_aside::<T, A>(&mut self.free, &mut self.deferred, index);
+            set_aside(&mut self.free, &mut self.deferred, self.drops, index);
             self.free_count += 1;
         } else {
-            mark::<T, A>(&mut self.deferred_worn, index);
+            mark(&mut self.deferred_worn, self.drops, index);
         }
         self.held_count -= 1;
     }
 
     /// How many values wait for their drop.
     #[inline(always)]
-    pub fn aside(&self) -> usize {
-        if mem::needs_drop::<T>() {
-            self.deferred.count() + self.deferred_worn.count()
-        } else {
-            0
-        }
+    pub fn aside(&self) -> usize
+        ensures { result ≡ waiting_in self.now.aside }
+    {
+        self.deferred.law();
+        self.deferred_worn.law();
+        self.deferred.count() + self.deferred_worn.count()
     }
 
-    /// Takes out a value that waits for its drop; none where none does.
+    /// Takes out a value that waits for its drop; none comes exactly where none does.
     pub fn take_aside(&mut self) -> Option<T>
-        ensures { self.new ≡ self.old }
+        ensures rows { shown self.new ≡ shown self.old }
+        ensures takes { TakesAside self.old.aside result self.new.aside }
     {
+        self.deferred.law();
+        self.deferred_worn.law();
         take_any(
             &mut self.cells,
             &mut self.free,
@@ -563,20 +592,31 @@ impl<T, A: Allocator> Slots<T, A> {
     // Takes out a value that waits for its drop where one waits in each slot that a fill may take.
     #[inline(never)]
     fn take_from_next(&mut self) -> Option<T>
-        ensures { self.new ≡ self.old }
+        ensures rows { shown self.new ≡ shown self.old }
+        ensures takes { TakesCrowded (shown self.old) self.old.aside result self.new.aside }
     {
+        self.deferred.law();
         let waiting = self.deferred.count();
         if waiting == 0 || waiting < self.free_count {
             return None;
         }
-        self.take_aside()
+        take_any(
+            &mut self.cells,
+            &mut self.free,
+            &mut self.deferred,
+            &mut self.deferred_worn,
+        )
     }
 
-    /// Takes out the value that is set aside where the next fill puts its own, if one is: none is while a slot is free.
+    /// Takes out the value that is set aside where the next fill puts its own; none comes exactly where a slot is free
+    /// in which none is, or where a fill is refused.
     #[inline(always)]
     pub fn take_crowded(&mut self) -> Option<T>
-        ensures { self.new ≡ self.old }
+        ensures rows { shown self.new ≡ shown self.old }
+        ensures takes { TakesCrowded (shown self.old) self.old.aside result self.new.aside }
     {
+        self.deferred.law();
+        self.deferred_worn.law();
         if self.aside() == 0 {
             return None;
         }
@@ -588,7 +628,8 @@ impl<T, A: Allocator> Slots<T, A> {
     pub fn raise(&mut self, index: usize)
         requires held { is_held (row_at self.old.rows index) ≡ true }
         requires left { (row_at self.old.rows index).stamp < self.old.last_stamp }
-        ensures { self.new ≡ raised self.old index }
+        ensures raised { shown self.new ≡ raised (shown self.old) index }
+        ensures aside { self.new.aside ≡ self.old.aside }
     {
         let cell = &mut self.cells[index];
         cell.raise();
@@ -598,7 +639,8 @@ impl<T, A: Allocator> Slots<T, A> {
     fn forget_at(&mut self, index: usize)
         requires in_range { index < length self.old.rows }
         requires empty { is_held (row_at self.old.rows index) ≡ false }
-        ensures { self.new ≡ forgotten self.old index }
+        ensures forgotten { shown self.new ≡ forgotten (shown self.old) index }
+        ensures aside { self.new.aside ≡ self.old.aside }
     {
         let cell = &mut self.cells[index];
         let was_worn = cell.stamp() >= self.last;
@@ -613,7 +655,8 @@ impl<T, A: Allocator> Slots<T, A> {
     /// Makes each slot of a row that holds nothing as if it had never been used. It goes over every slot.
     pub fn forget(&mut self)
         requires { count_by is_held self.old.rows ≡ 0 }
-        ensures { self.new ≡ never_used self.old }
+        ensures forgotten { shown self.new ≡ never_used (shown self.old) }
+        ensures aside { self.new.aside ≡ self.old.aside }
     {
         for index in 0..self.cells.len() {
             self.forget_at(index);

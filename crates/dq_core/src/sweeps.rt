@@ -4,6 +4,7 @@
 //! once.
 
 ghost use Rattle.std.specs.Prelude.{◌≡◌, ℕ, ◌+◌, ◌<◌, ◌≤◌, ◌⊎◌, ◌↔◌, nat_lt, if◌then◌else◌, length, Some, None, OnOk, OnErr, IsErrOf};
+ghost use Rattle.dq_core.specs.Asides.{SetsAside};
 ghost use Rattle.dq_core.specs.AtTheCall.{linked_in, OthersStay};
 ghost use Rattle.dq_core.specs.Calls.{SameCore, IsMissing};
 ghost use Rattle.dq_core.specs.declared.errors.ReapError.TheVariants.{Missing};
@@ -45,6 +46,7 @@ impl<T, W: Words, A: Allocator> DelayCore<T, W, A> {
         ensures begun { StillBegun W.begun self.old.words self.new.words }
         ensures one_step { W.steps self.new.words ≤ W.steps self.old.words + 1 }
         ensures swept { IsSwept W.shared self.old index result self.new }
+        ensures aside { SetsAside self.old None self.new }
     {
         if !self.slots.is_held(index) {
             return false;
@@ -69,6 +71,9 @@ impl<T, W: Words, A: Allocator> DelayCore<T, W, A> {
         ensures counts { self.new.counts ≡ self.old.counts }
         ensures noted { self.new.noted ≡ self.old.noted }
         ensures tick { self.new.wheel.filing.tick ≡ self.old.wheel.filing.tick }
+
+        // The value of each entry that left is set aside.
+        ensures aside { SetsAside self.old None self.new }
 
         // Exactly: a run of the queue machine, and what it leaves of the wheel, the slots and the words.
         ensures sweeps { Sweeps W.shared self.old result self.new }
@@ -105,6 +110,9 @@ impl<T, W: Words, A: Allocator> DelayCore<T, W, A> {
         ensures counts { self.new.counts ≡ self.old.counts }
         ensures noted { self.new.noted ≡ self.old.noted }
         ensures tick { self.new.wheel.filing.tick ≡ self.old.wheel.filing.tick }
+
+        // The value of each entry that left is set aside.
+        ensures aside { SetsAside self.old None self.new }
 
         // Exactly: a run of the queue machine, and what it leaves of the wheel, the slots and the words.
         ensures sweeps { SweepsSome W.shared self.old from (from + count) result.reaped self.new }
@@ -149,6 +157,9 @@ impl<T, W: Words, A: Allocator> DelayCore<T, W, A> {
         ensures counts { self.new.counts ≡ self.old.counts }
         ensures noted { self.new.noted ≡ self.old.noted }
 
+        // The value of each entry that left is set aside.
+        ensures aside { SetsAside self.old None self.new }
+
         // Exactly: a run of the queue machine, and what it leaves of the wheel, the slots and the words.
         ensures reaps { Reaps W.shared self.old entry.now result self.new }
         ensures same { SameCore self.old self.new }
@@ -173,6 +184,7 @@ impl<T, W: Words, A: Allocator> DelayCore<T, W, A> {
         ensures origin { W.origin self.new.words ≡ W.origin self.old.words }
         ensures begun { StillBegun W.begun self.old.words self.new.words }
         ensures emptied { IsEmptied W.shared self.old index result self.new }
+        ensures aside { SetsAside self.old None self.new }
     {
         if !self.slots.is_held(index) {
             return false;
@@ -204,6 +216,9 @@ impl<T, W: Words, A: Allocator> DelayCore<T, W, A> {
         // No tick goes on.
         ensures noted { self.new.noted ≡ self.old.noted }
         ensures tick { self.new.wheel.filing.tick ≡ self.old.wheel.filing.tick }
+
+        // The value of each entry that left is set aside.
+        ensures aside { SetsAside self.old None self.new }
 
         // Exactly: a run of the queue machine, and what it leaves of the wheel, the slots and the words.
         ensures clears { Clears W.shared self.old result self.new }

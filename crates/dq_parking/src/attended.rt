@@ -6,6 +6,7 @@
 ghost use Rattle.std.specs.Prelude.{◌≡◌, ◌↔◌, ◌+◌, ◌<◌, ◌≤◌, ◌⊎◌, nat_lt, if◌then◌else◌, true, false, Some, None};
 ghost use Rattle.std.specs.Prelude.{length, vec_capacity, IfOk, IfErr, IfSome, IsErr, OnErr, IsErrOf};
 ghost use Rattle.dq_ticks.specs.declared.TheConstants.{LAST_TICK};
+ghost use Rattle.dq_core.specs.Asides.{answered_at, aside_at, out_at, with_aside, SetsAside};
 ghost use Rattle.dq_core.specs.AtTheCall.{IfOut, IfRests};
 ghost use Rattle.dq_core.specs.Core.{machine};
 ghost use Rattle.dq_core.specs.Calls.{Inserts, Resets, Removes, Polls, TellsDeadline, base_for, IsMissing};
@@ -85,6 +86,9 @@ impl<T, N: Until, A: Allocator> Attended<T, N, A> {
         ensures inserts { Inserts self.old.core value when result.0 self.new.core }
         ensures begins { IfOk result.0 (λ k. HasBegun self.new.core.words k.entry.index k.stamp
             (base_for self.old.core when)) }
+        ensures beside { IfOk result.0
+            (λ k. (result.2 ≡ aside_at self.old.core.aside k.entry.index)
+            × (self.new.core.aside ≡ with_aside self.old.core.aside k.entry.index None)) }
         ensures attends { Attends N.lasts self.old.core self.old.parked result.1.poller
             self.new.core self.new.parked }
     {
@@ -103,6 +107,7 @@ impl<T, N: Until, A: Allocator> Attended<T, N, A> {
     #[inline(always)]
     pub fn reset(&mut self, entry: &EntryId, when: u64) -> (Result<Key, CoreError>, Leaver<N>)
         ensures resets { Resets true self.old.core entry.now when result.0 self.new.core }
+        ensures aside { self.new.core.aside ≡ self.old.core.aside }
         ensures attends { Attends N.lasts self.old.core self.old.parked result.1.poller
             self.new.core self.new.parked }
     {
@@ -114,6 +119,7 @@ impl<T, N: Until, A: Allocator> Attended<T, N, A> {
     #[inline(always)]
     pub fn remove(&mut self, entry: &EntryId) -> (Result<Removed<T>, CoreError>, Leaver<N>)
         ensures removes { Removes true self.old.core entry.now result.0 self.new.core }
+        ensures aside { self.new.core.aside ≡ self.old.core.aside }
         ensures attends { Attends N.lasts self.old.core self.old.parked result.1.poller
             self.new.core self.new.parked }
     {
@@ -125,6 +131,7 @@ impl<T, N: Until, A: Allocator> Attended<T, N, A> {
     #[inline]
     pub fn deadline(&mut self, entry: &EntryId) -> (Result<u64, CoreError>, Leaver<N>)
         ensures tells { TellsDeadline true self.old.core entry.now result.0 self.new.core }
+        ensures aside { self.new.core.aside ≡ self.old.core.aside }
         ensures attends { Attends N.lasts self.old.core self.old.parked result.1.poller
             self.new.core self.new.parked }
     {
@@ -137,6 +144,7 @@ impl<T, N: Until, A: Allocator> Attended<T, N, A> {
     #[inline(always)]
     pub fn poll(&mut self, tick: u64) -> (Result<Turn<T>, CoreError>, Leaver<N>)
         ensures polls { Polls true self.old.core tick result.0 self.new.core }
+        ensures aside { IfOk result.0 (λ turn. SetsAside self.old.core (out_at turn) self.new.core) }
         ensures attends { Attends N.lasts self.old.core self.old.parked result.1.poller
             self.new.core self.new.parked }
     {
@@ -153,6 +161,8 @@ impl<T, N: Until, A: Allocator> Attended<T, N, A> {
         ensures waiting { IfAnswer result.0 (λ turn. IfRests turn
             (λ next. NoneLiveBefore (machine self.new.core) (self.new.core.noted + 1))) }
         ensures polls { PollsSome true self.old.core tick most result.0 self.new.core }
+        ensures aside { IfOk result.0
+            (λ piece. SetsAside self.old.core (answered_at piece) self.new.core) }
         ensures attends { Attends N.lasts self.old.core self.old.parked result.1.poller
             self.new.core self.new.parked }
     {
@@ -166,6 +176,8 @@ impl<T, N: Until, A: Allocator> Attended<T, N, A> {
     pub fn poll_unparked(&mut self, tick: u64, most: Option<u32>) -> Result<Piece<T>, CoreError>
         requires { self.old.parked ≡ None }
         ensures polls { PollsBy most self.old.core tick result self.new.core }
+        ensures aside { IfOk result
+            (λ piece. SetsAside self.old.core (answered_at piece) self.new.core) }
         ensures attends { Attends N.lasts self.old.core None None self.new.core None }
         ensures none { self.new.parked ≡ None }
     {
@@ -198,6 +210,7 @@ impl<T, N: Until, A: Allocator> Attended<T, N, A> {
     /// Reaps all cancelled entries, and returns how many, with who has left by it. No value is dropped.
     pub fn sweep(&mut self) -> (usize, Leaver<N>)
         ensures sweeps { Sweeps true self.old.core result.0 self.new.core }
+        ensures aside { SetsAside self.old.core None self.new.core }
         ensures attends { Attends N.lasts self.old.core self.old.parked result.1.poller
             self.new.core self.new.parked }
     {
@@ -212,6 +225,7 @@ impl<T, N: Until, A: Allocator> Attended<T, N, A> {
         ensures few_steps { StepsAtMost count self.old.core.words self.new.core.words }
         ensures sweeps { SweepsSome true self.old.core from (from + count) result.0.reaped
             self.new.core }
+        ensures aside { SetsAside self.old.core None self.new.core }
         ensures attends { Attends N.lasts self.old.core self.old.parked result.1.poller
             self.new.core self.new.parked }
     {
@@ -222,6 +236,7 @@ impl<T, N: Until, A: Allocator> Attended<T, N, A> {
     /// Reaps an entry if it was cancelled, with who has left by it. No value is dropped.
     pub fn reap(&mut self, entry: &EntryId) -> (Result<(), ReapError>, Leaver<N>)
         ensures reaps { Reaps true self.old.core entry.now result.0 self.new.core }
+        ensures aside { SetsAside self.old.core None self.new.core }
         ensures attends { Attends N.lasts self.old.core self.old.parked result.1.poller
             self.new.core self.new.parked }
         ensures missing { IsErrOf result.0 ReapError.Missing ↔ IsMissing self.old.core entry.now }
@@ -234,6 +249,7 @@ impl<T, N: Until, A: Allocator> Attended<T, N, A> {
     /// dropped.
     pub fn clear(&mut self) -> (usize, Leaver<N>)
         ensures clears { Clears true self.old.core result.0 self.new.core }
+        ensures aside { SetsAside self.old.core None self.new.core }
         ensures attends { Attends N.lasts self.old.core self.old.parked result.1.poller
             self.new.core self.new.parked }
     {
@@ -247,7 +263,8 @@ impl<T, N: Drop, A: Allocator> Attended<T, N, A> {
     /// its first call, and tells whether it is at it. None where no more are set aside, and it is over; or where
     /// another thread is at it, or this one further up: it drops these too.
     pub fn take_one(&mut self, is_mine: &mut bool) -> Option<T>
-        ensures stays { (self.new.core ≡ self.old.core) × (self.new.parked ≡ self.old.parked) }
+        ensures stays { (self.new.core ≡ record self.old.core { aside = self.new.core.aside })
+            × (self.new.parked ≡ self.old.parked) }
         ensures alone { IfSome result (λ _. (self.new.is_dropping ≡ true) × (is_mine.new ≡ true)
             × ((self.old.is_dropping ≡ false) ⊎ (is_mine.old ≡ true))) }
         ensures over { (result ≡ None) → (is_mine.new ≡ false)

@@ -1,4 +1,4 @@
-//! What waits for a shard, of either queue: where a stream's ticks come from, why it gives no entry, the poller that is
+//! What waits for a shard: where a stream's ticks come from, why it gives no entry, the poller that is
 //! parked in a shard, the shard's queue with it, and its registration with the context of its task; and how many
 //! threads wait for the shard's lock.
 #![tactic(auto)]

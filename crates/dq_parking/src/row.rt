@@ -1,7 +1,7 @@
-//! A row of shards behind locks, of either queue: the locks, who waits for them, and what is done once one is free.
+//! A row of shards behind locks: the locks, who waits for them, and what is done once one is free.
 //!
-//! A front, as `SharedDelayQueue` and `LastingQueue`, has a `Row` of its own shards, and says in `impl Shard` what a
-//! call asks of one. A call by name of a front is then three lines:
+//! A front, as `SharedDelayQueue`, has a `Row` of its own shards, and says in `impl Shard` what a call asks of one. A
+//! call by name of a front is then three lines:
 //!
 //! ```ignore
 //! let mut shard = self.row.lock(rt, place);
@@ -13,7 +13,7 @@
 //! lets the lock go, wakes who has left, and drops what is set aside; `unlock` is for what drops nothing. A value's drop
 //! is a user's code: it may call the queue, and it may panic. So it runs while the lock is free, and where it panics the
 //! shard is whole.
-ghost use Rattle.std.specs.Prelude.{◌≡◌, ℕ, ◌<◌, ◌≤◌, ◌^◌, IfOk, IfErr, IsTrue, vec_len, vec_capacity};
+ghost use Rattle.std.specs.Prelude.{◌≡◌, ℕ, ◌<◌, ◌≤◌, ◌^◌, IfNone, IfOk, IfErr, IsTrue, vec_len, vec_capacity};
 ghost use Rattle.std.specs.Sync.Mutex.{mutex_guard_value};
 ghost use Rattle.dq_core.specs.Calls.{IsConfig};
 ghost use Rattle.dq_core.specs.declared.errors.CoreError.TheVariants.{NoMemory};
@@ -55,6 +55,9 @@ pub trait Shard {
     /// Whether it stands at a place of so many.
     ghost stands: { Self → ℕ → ℕ → Type 0 };
 
+    /// Whether it is one and the other but for what is set aside.
+    ghost same: { Self → Self → Type 0 };
+
     /// What it keeps. The call does nothing, and is for proofs.
     fn law(&self)
         ensures { keeps self.now };
@@ -69,11 +72,12 @@ pub trait Shard {
 
     /// Takes out the value that is set aside where the next insert's entry goes, if one is.
     fn take_crowded(&mut self) -> Option<Self::Value>
-        ensures { self.new ≡ self.old };
+        ensures same { same self.old self.new }
+        ensures kept { IfNone result (self.new ≡ self.old) };
 
     /// Takes out a value for the thread that drops what is set aside, as `Attended::take_one`.
     fn take_one(&mut self, is_mine: &mut bool) -> Option<Self::Value>
-        ensures { self.new ≡ self.old };
+        ensures { same self.old self.new };
 
     /// Ends the dropping before its time, as `Attended::end_dropping`.
     fn end_dropping(&mut self, is_mine: &mut bool)

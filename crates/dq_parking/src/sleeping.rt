@@ -20,8 +20,7 @@ use thiserror::Error;
 /// Why a stream gives no entry.
 #[derive(Clone, Copy, Debug, PartialEq, Eq, Error)]
 pub enum StreamFault {
-    /// The tick of its source is beyond the last tick. A stream of a `SharedDelayQueue` has ended for good, and one of
-    /// a `LastingQueue` goes on.
+    /// The tick of its source is beyond the last tick. The stream has ended for good.
     #[error("the tick is beyond the last tick, {limit}")]
     TickTooLarge {
         /// The last tick.

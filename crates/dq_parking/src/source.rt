@@ -22,8 +22,8 @@ pub trait TickSource: Drop {
     /// What it may answer, and what it is after that.
     ghost tells: { Self → ℕ → Self → Type 0 } = { λ _ _ _. ⊤ };
 
-    /// The tick of this moment, of one millisecond. A stream of a `SharedDelayQueue` asks it while its shard's lock is
-    /// held, so it must not take that lock itself; one of a `LastingQueue` asks it while it holds none.
+    /// The tick of this moment, of one millisecond. A stream asks it while its shard's lock is held,
+    /// so it must not take that lock itself.
     fn now(&mut self) -> u64
         ensures { tells self.old result self.new };
 }

@@ -359,19 +359,16 @@ where
 
     /// Polls the stream once. It returns:
     /// - `Ready(Some(Ok(..)))` with an entry that is due. No live entry of the shard has an earlier deadline.
-    /// - `Pending` if no live entry is due: the task is parked in the shard until its next wake. If the shard holds no
-    ///   entry, a stream of a `LastingQueue` is parked until an insert.
+    /// - `Pending` if no live entry is due: the task is parked in the shard until its next wake.
     /// - `Pending` if the stream is paced and more steps are left: nothing is parked, and the polled task is woken.
-    /// - `Ready(None)` if the shard of a `SharedDelayQueue` holds no entry. Later polls go on. A stream of a
-    ///   `LastingQueue` never returns it.
+    /// - `Ready(None)` if the shard holds no entry. Later polls go on.
     /// - `Ready(Some(Err(..)))` for a fault: `TickTooLarge` if the source tells a tick beyond the last one, and
-    ///   `NoMemory` if no waker can be made. The stream goes on after `NoMemory`, and one of a `LastingQueue` after
-    ///   `TickTooLarge` too. One of a `SharedDelayQueue` has ended then: each later poll returns `Ready(None)` without
-    ///   taking the lock.
+    ///   `NoMemory` if no waker can be made. The stream goes on after `NoMemory`. After `TickTooLarge` it has ended:
+    ///   each later poll returns `Ready(None)` without taking the lock.
     ///
     /// It makes the polled task's waker before it takes the shard's lock, and drops the one that was parked before
-    /// after it has released the lock. A stream of a `SharedDelayQueue` asks the source under the lock, so the source
-    /// may not take that lock; one of a `LastingQueue` asks it before. It costs as much as one poll of the shard.
+    /// after it has released the lock. It asks the source under the lock, so the source may not take that lock. It
+    /// costs as much as one poll of the shard.
     fn poll_next(&mut self, cx: &mut Context<'_>) -> Polled<ValueOf<Q::State>>
         // It waits registered with its context, or with its task woken.
         ensures registered { OnPending result (Covers cx.new (λ s. s ≡ self.new.name.id)) }

@@ -1,5 +1,5 @@
 //! Tests of the queues that many threads share: of the locked shards and their handles, of the stream of a shard's
-//! expired entries, of the cache and the sessions over them, of the lasting queue, and of the directory. They stand in a
+//! expired entries, of the cache and the sessions over them, and of the directory. They stand in a
 //! crate of their own, since a crate is proved once more with its tests, and in one, since each crate of tests costs the
 //! gate.
 #![tactic(auto)]
@@ -8,8 +8,6 @@
 mod apps;
 #[cfg(test)]
 mod directory;
-#[cfg(test)]
-mod lasting;
 #[cfg(test)]
 mod shards;
 #[cfg(test)]

@@ -1,5 +1,5 @@
 -- What a caller was promised, of an entry that comes out of a shard of its own words.
-use Rattle.std.proofs.Common.{◌≤◌, refl, inl, ◌≡◌, ℕ, List, [], ◌∷◌, sym, ap, subst}
+use Rattle.std.proofs.Common.{◌≤◌, false, refl, inl, ◌≡◌, ℕ, List, [], ◌∷◌, sym, ap, subst}
 use mathlib.Core.Option.{some, some-injective, some-ne-none}
 use lib.ListN.{get_elem?}
 use Rattle.dq_core.specs.declared.outcomes.Turn.{Turn}
@@ -16,6 +16,7 @@ use Rattle.dq_words.specs.declared.views.Call.{Call}
 use Rattle.dq_words.specs.declared.views.Call.TheVariants.{Extend}
 use Rattle.dq_words.specs.Files.{IsIn, ends_at, extends_at, keeper_writes}
 use Rattle.dq_words.specs.Plays.{Covers}
+use Rattle.dq_words.specs.Rule.{new_view}
 use Rattle.dq_words.proofs.Gathers.{if_here}
 use Rattle.dq_words.specs.Seats.{Sat}
 use Rattle.dq_words.specs.Together.{IsBeside}
@@ -57,3 +58,13 @@ extended_first T v w k when (Ok d) (Ok (Waiting next)) extends kept = tt
 extended_first T v w k when (Ok d) (Ok Idle) extends kept = tt
 extended_first T v w k when (Ok d) (Err e) extends kept = tt
 extended_first T v w k when (Err e) turn extends kept = tt
+
+-- The same of an accepted extend by open words, whose receipt has that one call.
+pub shown_first : (T : Type 0) (r : View) (k : KeyName) (when : ℕ) (turn : Result (Turn T) CoreError)
+    → r.calls ≡ Extend k.entry.index k.stamp when ∷ [] → KeepsFor r turn → IfOut turn (λ x. x.key ≡ k → when ≤ x.deadline)
+shown_first T r k when (Ok (Out x)) calls kept = λ same.
+    let P : KeyName → Type 0 = λ (key : KeyName). Covers r.calls key.entry.index key.stamp x.deadline in
+    asked_for (new_view false 0) r k.entry.index k.stamp when x.deadline calls (subst P same kept)
+shown_first T r k when (Ok (Waiting next)) calls kept = tt
+shown_first T r k when (Ok Idle) calls kept = tt
+shown_first T r k when (Err e) calls kept = tt

@@ -1,11 +1,11 @@
 -- What an entry of a call makes of a shard's history.
-use Rattle.std.proofs.Common.{◌≡◌, ◌<◌, ℕ, List, ◌∷◌, Some, refl, sym, ap, ◌∙◌, subst, inl, inr}
+use Rattle.std.proofs.Common.{◌≡◌, ◌<◌, ℕ, List, [], ◌∷◌, Some, refl, sym, ap, ◌∙◌, subst, inl, inr}
 use Rattle.dq_journal.specs.declared.views.Entry.{Entry}
 use Rattle.dq_journal.specs.declared.views.View.{View}
 use Rattle.dq_journal.specs.History.{entry, entries_by}
 use Rattle.dq_journal.specs.Once.{EntersOnce, IsTold, IsUnderLock}
-use Rattle.dq_shards.specs.Named.{Follows, IsCall, IsHistory, Once, HasOneMore}
-use Rattle.dq_shards.specs.Shard.{ShardView, IsShard}
+use Rattle.dq_shards.specs.Named.{with_issued, with_set_aside, Follows, IsCall, IsHistory, Once, HasOneMore}
+use Rattle.dq_shards.specs.Shard.{ShardView, IsShard, keeper_of}
 
 -- what stands under the name of one number
 pub one_name : {X : Type 0} (named : ℕ → X) (a b : X) (m n : ℕ) → a ≡ named m → b ≡ named n → m ≡ n → a ≡ b
@@ -54,6 +54,23 @@ module _ {T : Type 0} where
       let on = goes_on h v w u.log a b enters log s.4 call s.5 in
       let P : ℕ → Type 0 = λ n. n < rooms in
       (subst P same s.0, same_table ∙ (s.1 ∙ ap words same), of ∙ (s.2 ∙ ap history same), under, on.0, on.1)
+
+  -- where a value that was set aside is taken out, the shard still follows its history
+  follows_still : (log : List (Entry (ShardView T))) (s t : ShardView T) → t ≡ with_set_aside s t.core.aside → Follows log s → Follows log t
+  follows_still [] s t is follows = tt
+  follows_still (e ∷ es) s t is (m, left, same) =
+      let a = t.core.aside in
+      let n : (keeper_of s).issued ≡ (keeper_of t).issued = sym (ap (λ x. (keeper_of x).issued) is) in
+      (m, left, is ∙ (ap (λ x. with_set_aside x a) same ∙ ap (λ k. with_set_aside (with_issued m k) a) n))
+
+  pub still_named : {X : Type 0} (rooms : ℕ) (words history : ℕ → X) (table : ShardView T → X) (old : X) (h : View (ShardView T)) (a b : ShardView T)
+      → b ≡ with_set_aside a b.core.aside → table b ≡ table a
+      → (a.core.shard < rooms) × (table a ≡ words a.core.shard) × (old ≡ history a.core.shard) × IsUnderLock h × Follows h.log a × IsHistory h.log
+      → (b.core.shard < rooms) × (table b ≡ words b.core.shard) × (old ≡ history b.core.shard) × IsUnderLock h × Follows h.log b × IsHistory h.log
+  still_named rooms words history table old h a b is same_table s =
+      let same = sym (ap (λ x. x.core.shard) is) in
+      let P : ℕ → Type 0 = λ n. n < rooms in
+      (subst P same s.0, same_table ∙ (s.1 ∙ ap words same), s.2 ∙ ap history same, s.3, follows_still h.log a b is s.4, s.5)
 
   -- the same of a caller's view that is known by another name
   pub once_of : (gives : ShardView T → ShardView T → Type 0) (h v w u : View (ShardView T)) (a b : ShardView T)

@@ -5,6 +5,7 @@ use Rattle.dq_ticks.specs.declared.keys.EntryId.{EntryId}
 use Rattle.dq_core.specs.declared.errors.CoreError.{CoreError}
 use Rattle.dq_core.specs.declared.outcomes.Removed.{Removed}
 use Rattle.dq_core.specs.declared.outcomes.Turn.{Turn}
+use Rattle.dq_core.specs.Slots.{Aside}
 use Rattle.dq_words.specs.Seats.{Sat}
 use Rattle.dq_words.specs.declared.keeper.WordsError.{WordsError}
 use Rattle.dq_words.specs.declared.keeper.WordsError.TheVariants.{BadConfig, NoMemory, TooManyHandles}
@@ -40,12 +41,17 @@ module _ {T : Type 0} where
       with_keeper s
       (record { table = s.core.words.table; view = record (keeper_of s) { issued = n } })
 
-  -- the shard is what the newest entry left, but for callers that were issued since; with no entry
-  -- yet it is as it was named
+  -- the shard, which has those values set aside
+  abbrev pub with_set_aside : ShardView T → Aside T → ShardView T
+  with_set_aside s a = record s { core = record s.core { aside = a } }
+
+  -- the shard is what the newest entry left, but for callers that were issued since and values that
+  -- were set aside and are taken out; with no entry yet it is as it was named
   abbrev pub Follows : List (Entry (ShardView T)) → ShardView T → Type 0
   Follows [] s = Unit {0}
   Follows (e ∷ es) s =
-      (m : ShardView T) × (e.left ≡ Some m) × (s ≡ with_issued m (keeper_of s).issued)
+      (m : ShardView T) × (e.left ≡ Some m)
+      × (s ≡ with_set_aside (with_issued m (keeper_of s).issued) s.core.aside)
 
   -- one call took the shard from one state to another
   abbrev pub IsCall : ShardView T → ShardView T → Type 0

@@ -9,6 +9,7 @@ ghost use Rattle.dq_shards.specs.Changes.{ShardInserts, ShardResets, ShardRemove
 ghost use Rattle.dq_shards.specs.Named.{OnceAt, IsSameCaller, IsHistory, IsRefusedAfter};
 ghost use Rattle.dq_shards.specs.Shard.{keeper_of};
 
+mod beside;
 mod queue;
 mod quiet;
 

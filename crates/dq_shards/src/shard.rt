@@ -1,6 +1,7 @@
 //! What a queue's row and a stream ask of a shard behind its lock, and of the poller that waits for it, one at a time; and
 //! what a stream asks of the queue.
 ghost use Rattle.std.specs.Prelude.{◌≡◌, true, Some, option_map};
+ghost use Rattle.dq_core.specs.Asides.{waiting_in};
 ghost use Rattle.dq_parking.specs.Parking.{poller};
 ghost use Rattle.dq_shards.specs.declared.errors.QueueError.TheVariants.{Unknown};
 ghost use Rattle.dq_shards.specs.Shard.{IsParked, IsShard};
@@ -20,7 +21,9 @@ impl<T, A: Allocator> ShardState<T, A> {
     /// How many values are set aside: those of entries that were reaped or cleared, and that aren't dropped yet.
     /// Constant time.
     #[inline(always)]
-    pub fn aside(&self) -> usize {
+    pub fn aside(&self) -> usize
+        ensures { result ≡ waiting_in self.now.core.aside }
+    {
         self.attended.core.aside()
     }
 
@@ -82,6 +85,8 @@ impl<T, A: Allocator> Shard for ShardState<T, A> {
     ghost keeps = { λ s. IsShard s };
 
     ghost stands = { λ s place places. s.core.shard ≡ place };
+
+    ghost same = { λ s t. t ≡ record s { core = record s.core { aside = t.core.aside } } };
 
     #[tactic(auto, using(crate::proofs::Parking::told))]
     fn law(&self) {

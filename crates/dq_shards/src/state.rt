@@ -8,6 +8,7 @@ ghost use Rattle.dq_core.specs.Machine.{NoneLiveBefore, NoneLinked, table_at};
 ghost use Rattle.dq_core.specs.Calls.{base_for, noting, IsMissing, IsLiveEntry, IsCancelledEntry};
 ghost use Rattle.dq_core.specs.Pieces.{IfAnswer, steps_left};
 ghost use Rattle.dq_core.specs.Sweeps.{NoneCancelled, NotCancelled};
+ghost use Rattle.dq_core.specs.Asides.{answered_at, out_at, with_aside, SetsAside};
 ghost use Rattle.dq_core.specs.AtTheCall.{IfOut, IfRests, linked_in, IsLinkedAs, HoldsValue, OthersStay, KeepsSlots};
 ghost use Rattle.dq_words.specs.AtTheCall.{KnowsNothing, NoCallerAfter};
 ghost use Rattle.dq_shards.specs.Shard.{IsShard, KeepsOrWakes, keeper_of};
@@ -41,7 +42,7 @@ pub struct ShardState<T, A: Allocator = Global> {
     // Shards stand in one row. Each is, behind its lock, a whole number of cache lines, and no line has what two of
     // them write. A test tells: where a field is added, some room has to be.
     pub(crate) attended: Attended<T, u64, A>,
-    _room: [u64; 5],
+    _room: [u64; 4],
 }
 
 impl<T, A: Allocator> Model for ShardState<T, A> {
@@ -65,7 +66,7 @@ impl<T, A: Allocator> From<DelayCore<T, Keeper<A>, A>> for ShardState<T, A> {
         ShardState {
             _apart: [0; 7],
             attended: Attended::new(core),
-            _room: [0; 5],
+            _room: [0; 4],
         }
     }
 }
@@ -93,6 +94,10 @@ impl<T: Drop, A: Allocator> ShardState<T, A> {
 
         // The poller is woken where it waits for a tick after the next wake.
         ensures poller { KeepsOrWakes self.new.core self.old.parked self.new.parked }
+
+        // No value is dropped but one that waited in the slot that the entry takes.
+        ensures aside { IfOk result (λ k. self.new.core.aside
+            ≡ with_aside self.old.core.aside k.entry.index None) }
 
         // All that it does.
         ensures inserts { ShardInserts self.old value when result self.new }
@@ -137,6 +142,9 @@ impl<T, A: Allocator> ShardState<T, A> {
         // The poller is woken where it waits for a tick after the next wake.
         ensures poller { KeepsOrWakes self.new.core self.old.parked self.new.parked }
 
+        // Nothing is set aside or taken out.
+        ensures aside { self.new.core.aside ≡ self.old.core.aside }
+
         // All that it does.
         ensures resets { ShardResets self.old entry.now when result self.new }
     {
@@ -168,6 +176,9 @@ impl<T, A: Allocator> ShardState<T, A> {
         // The poller is woken where it waits for a tick after the next wake.
         ensures poller { KeepsOrWakes self.new.core self.old.parked self.new.parked }
 
+        // Nothing is set aside or taken out.
+        ensures aside { self.new.core.aside ≡ self.old.core.aside }
+
         // All that it does.
         ensures removes { ShardRemoves self.old entry.now result self.new }
     {
@@ -194,6 +205,9 @@ impl<T, A: Allocator> ShardState<T, A> {
         // No entry leaves or moves, and the poller stays.
         ensures kept { KeepsSlots self.old.core self.new.core }
         ensures poller { self.new.parked ≡ self.old.parked }
+
+        // Nothing is set aside or taken out.
+        ensures aside { self.new.core.aside ≡ self.old.core.aside }
 
         // All that it does.
         ensures tells { ShardDeadline self.old entry.now result self.new }
@@ -234,6 +248,10 @@ impl<T, A: Allocator> ShardState<T, A> {
 
         // The poller is woken where it waits for a tick after the next wake.
         ensures poller { KeepsOrWakes self.new.core self.old.parked self.new.parked }
+
+        // The value of each entry that left is set aside, but of what came out.
+        ensures aside { IfOk result
+            (λ turn. SetsAside self.old.core (out_at turn) self.new.core) }
 
         // All that it does.
         ensures polls { ShardPolls self.old tick result self.new }
@@ -282,6 +300,10 @@ impl<T, A: Allocator> ShardState<T, A> {
 
         // The poller is woken where it waits for a tick after the next wake.
         ensures poller { KeepsOrWakes self.new.core self.old.parked self.new.parked }
+
+        // The value of each entry that left is set aside, but of what came out.
+        ensures aside { IfOk result
+            (λ piece. SetsAside self.old.core (answered_at piece) self.new.core) }
 
         // All that it does.
         ensures polls { ShardPollsSome self.old tick most result self.new }
@@ -334,6 +356,9 @@ impl<T, A: Allocator> ShardState<T, A> {
         // The poller is woken where it waits for a tick after the next wake.
         ensures poller { KeepsOrWakes self.new.core self.old.parked self.new.parked }
 
+        // The value of each entry that left is set aside.
+        ensures aside { SetsAside self.old.core None self.new.core }
+
         // All that it does.
         ensures sweeps { ShardSweeps self.old result self.new }
     {
@@ -360,6 +385,9 @@ impl<T, A: Allocator> ShardState<T, A> {
 
         // The poller is woken where it waits for a tick after the next wake.
         ensures poller { KeepsOrWakes self.new.core self.old.parked self.new.parked }
+
+        // The value of each entry that left is set aside.
+        ensures aside { SetsAside self.old.core None self.new.core }
 
         // All that it does.
         ensures sweeps { ShardSweepsSome self.old from count result self.new }
@@ -390,6 +418,9 @@ impl<T, A: Allocator> ShardState<T, A> {
         // The poller is woken where it waits for a tick after the next wake.
         ensures poller { KeepsOrWakes self.new.core self.old.parked self.new.parked }
 
+        // The value of each entry that left is set aside.
+        ensures aside { SetsAside self.old.core None self.new.core }
+
         // All that it does.
         ensures reaps { ShardReaps self.old entry.now result self.new }
     {
@@ -406,6 +437,9 @@ impl<T, A: Allocator> ShardState<T, A> {
         ensures empty { NoneLinked (machine self.new.core) }
         ensures at_most { result ≤ linked_in self.old.core }
         ensures poller { self.new.parked ≡ None }
+
+        // The value of each entry that left is set aside.
+        ensures aside { SetsAside self.old.core None self.new.core }
 
         // All that it does.
         ensures clears { ShardClears self.old result self.new }

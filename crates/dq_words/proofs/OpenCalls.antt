@@ -1,5 +1,5 @@
 -- A seat that nobody issued, for one call.
-use Rattle.std.proofs.Common.{◌≡◌, ◌≢◌, ℕ, zero, suc, ◌+◌, ◌%◌, ◌<◌, ◌≤◌, max, false, true≢false, List, [], ◌∷◌, ◌++◌, length, get_or, set, sym, refl, ap, ◌∙◌, subst, inl, inr, ⊎_elim, length-append, length-set, get_or-set_same, arith}
+use Rattle.std.proofs.Common.{◌≡◌, ◌≢◌, ℕ, zero, suc, ◌+◌, ◌%◌, ◌<◌, ◌≤◌, max, false, true≢false, List, [], ◌∷◌, ◌++◌, length, get_or, set, sym, refl, ap, ◌∙◌, subst, inl, inr, ⊎_elim, Some, Err, length-append, length-set, get_or-set_same, arith}
 use Rattle.std.proofs.lemmas.List.{length-replicate}
 use mathlib.Core.Option.{some, none}
 use lib.ListN.{get_elem?}
@@ -11,24 +11,26 @@ use Rattle.dq_core.specs.declared.words.Look.{Look}
 use Rattle.dq_core.specs.declared.words.CallError.{CallError}
 use Rattle.dq_core.specs.declared.words.CallError.TheVariants.{TooFar, Unknown, Stale, Ended}
 use Rattle.dq_words.specs.declared.views.Call.{Call}
-use Rattle.dq_words.specs.declared.views.Call.TheVariants.{Extend}
 use Rattle.dq_words.specs.declared.views.Place.{Place}
 use Rattle.dq_words.specs.declared.views.View.{View}
+use Rattle.dq_words.specs.declared.views.StepKind.{StepKind}
 use Rattle.dq_words.specs.declared.views.StepKind.TheVariants.{CallerLoad}
-use Rattle.dq_words.specs.CallerCalls.{Refuses, ExtendAccepted, look_of}
+use Rattle.dq_words.specs.AtTheCall.{word_seen}
+use Rattle.dq_words.specs.CallerCalls.{Refuses, ExtendAccepted, CancelAccepted, CallerExtends, IsForged, IsRefused, WordRefuses, look_of}
 use Rattle.dq_words.specs.Counts.{begins_in, expiries_in, removals_in, total, goes, gone_cancels, made_cancels, issued_in, returns_in, given_in, InOrder, passes_of, reaped_in, cancels_in, most_begins}
-use Rattle.dq_words.specs.Files.{File, file, keeper_writes, bases_at, ends_at, extends_at, cancels_at, IsIn}
-use Rattle.dq_words.specs.OpenCalls.{SawPresent, PasserLoads, passer_loaded, passer_extended, HasSlot, ExtendStood, RefusalStood, LookStood, OpenExtendRefused, passer_cancelled}
+use Rattle.dq_words.specs.Files.{File, file, keeper_writes, bases_at, ends_at, extends_at, cancels_at}
+use Rattle.dq_words.specs.OpenCalls.{Open, HasSlot, SawPresent, IsReceipt, ShowsExtend, ShowsCancel, ShowsLook, RefusedBy, OpenRefused, OpenExtendRefused, PasserLoads, passer_loaded, passer_extended, passer_cancelled}
 use Rattle.dq_words.specs.Places.{views_in, seats_of, AreShown, Placed, PlaceMe, InPlace, placed}
 use Rattle.dq_words.specs.Plays.{WordMe, CallerLoads, ExtendStep, LiveFor, MissedStep, Knowing, extend_made, stepping, extending, CancelStep, cancel_made, cancelling}
+use Rattle.dq_words.specs.Seats.{Sat}
 use Rattle.dq_words.specs.Rule.{Law, HadAt, Had, Sees, Kept, Tallied, Ruled, passer, first_keeper}
 use Rattle.dq_words.proofs.Advances.{after, by_order}
-use Rattle.dq_words.proofs.Callings.{extend_accepted, missed_by}
+use Rattle.dq_words.proofs.Callings.{extend_accepted, extend_refused, cancel_accepted, cancel_refused}
 use Rattle.dq_words.proofs.Cancels.{cancels}
 use Rattle.dq_words.proofs.Extends.{extends}
 use Rattle.dq_words.proofs.Gathers.{writes_new, gathered_new, file_of, set_at}
 use Rattle.dq_words.proofs.Knowing.{goes_on}
-use Rattle.dq_words.proofs.Places.{lifts, seat_new, shown_new, shown_same, word_again, has_same, has_more}
+use Rattle.dq_words.proofs.Places.{apart_new, lifts, seat_new, shown_new, shown_same, word_again, has_same, has_more}
 use Rattle.dq_words.proofs.Starts.{zero_at}
 use Rattle.dq_words.proofs.Steps.{stays, fair}
 use Rattle.dq_words.proofs.Tallies.{total_new}
@@ -204,6 +206,7 @@ passes_at rows slots i inside s r sized wide =
         told = λ j u there. ⊎_elim (λ was. still u.told (r.told j u was))
             (λ (same : q ≡ u). let R : Place → Type 0 = λ z. AreShown (views_in (s.views ++ q ∷ [])) z.told in subst R same (λ c h. absurd h))
             (at_snoc s.views q u j there);
+        apart = apart_new s.views q r.apart (λ c h. absurd h);
       },
       (refl, subst Q (sym (length-replicate rows 0)) (loads rows (seats_of s) r.ruled i inside)),
     )
@@ -261,66 +264,75 @@ pub saw_loaded : (rows : ℕ) (u : View) (i m : ℕ) → i < rows → CallerLoad
 saw_loaded rows u i m inside seen_by = let size : length (passer rows).seen ≡ rows = length-replicate rows 0 in
     ap (λ (x : View). get_or x.seen i 0) seen_by.0 ∙ get_or-set_same (passer rows).seen i m 0 (omega arith)
 
--- the word that a step that was refused saw
-pub saw_refused : (u w : View) (i k n asked : ℕ) (e : CallError) → i < length u.seen → stamp_of k ≡ asked → ExtendStep u w i k n → Refuses n asked e → get_or w.seen i 0 ≡ n
-saw_refused u w i k n asked e inside at s refuses = ⊎_elim
-    (λ (hit : LiveFor k n × (w ≡ extending u i k (max n k))). absurd (missed_by n asked e refuses (hit.0.0 ∙ at) hit.0.1))
-    (λ (miss : MissedStep u w i k n). ap (λ (x : View). get_or x.seen i 0) miss.1 ∙ get_or-set_same u.seen i n 0 inside)
-    s.2
+-- a seat of these words, and what it saw in the key's slot
+is_receipt : (o : Open) (r : Sat) (k : KeyName) (i : ℕ) → i ≡ k.entry.index → r.table ≡ o.table → length r.view.seen ≡ o.rows → SawPresent r.view i → IsReceipt o k r
+is_receipt o r k i at table row now = let P : ℕ → Type 0 = λ j. SawPresent r.view j in (table, row, subst P at now)
 
--- what the word was at the moment that a seat knows
-word_then : (w : View) (k : KeyName) (i n : ℕ) → i ≡ k.entry.index → (now : SawPresent w i) → get_or w.seen i 0 ≡ n → get_or now.0.words k.entry.index 0 ≡ n
-word_then w k i n at now saw = ap (λ j. get_or now.0.words j 0) (sym at) ∙ now.4 ∙ saw
+refused_so : (o : Open) (k : KeyName) (made : List StepKind) (e : CallError) (r : Sat) → HasSlot o.rows k → IsReceipt o k r → IsRefused (passer o.rows) k e made r.view → RefusedBy o k made e (Some r)
+refused_so o k made e r named is refused = (
+  named,
+  ⊎_elim
+      (λ (forged : IsForged (passer o.rows) k × (e ≡ Unknown) × (r.view ≡ passer o.rows)). let size : length (passer o.rows).seen ≡ o.rows = length-replicate o.rows 0 in let low = named.0 in let pos = named.1 in absurd (⊎_elim (λ (far : length (passer o.rows).seen ≤ k.entry.index). omega arith) (λ (none : k.stamp ≡ 0). omega arith) forged.0))
+      (λ (by : WordRefuses (passer o.rows) k e made r.view). (is, by.shows, by.steps, by.calls))
+      refused,
+)
 
-rule_then : (rows : ℕ) (w : View) (i : ℕ) → length w.seen ≡ rows → (now : SawPresent w i) → Ruled rows now.0
-rule_then rows w i row now = let P : ℕ → Type 0 = λ r. Ruled r now.0 in subst P row now.2
+-- a call that made a step of the key's own stamp
+module _ (o : Open) (u : View) (r : Sat) (k : KeyName) (i asked m n shown : ℕ) (slot : (i ≡ k.entry.index) × HasSlot o.rows k) (stamped : asked ≡ k.stamp) (loads : CallerLoads (passer o.rows) u i m) (is_shown : shown ≡ stamp_of m) (given : asked ≤ shown) (table : r.table ≡ o.table) (row : length r.view.seen ≡ o.rows) (now : SawPresent r.view i) where
+  in_slot : (i ≡ k.entry.index) × (i < length (passer o.rows).seen) × (0 < k.stamp)
+  in_slot = let size : length (passer o.rows).seen ≡ o.rows = length-replicate o.rows 0 in let at = slot.0 in let h = slot.1 in (slot.0, omega arith, slot.1.1)
 
-pub stood_refused : (rows : ℕ) (w : View) (k : KeyName) (i asked n : ℕ) (e : CallError) → i ≡ k.entry.index → asked ≡ k.stamp → length w.seen ≡ rows → SawPresent w i → get_or w.seen i 0 ≡ n → Refuses n asked e → RefusalStood rows k e
-stood_refused rows w k i asked n e at stamped row now saw refuses =
-    let P : ℕ × ℕ → Type 0 = λ x. Refuses x.0 x.1 e in
-    (now.0, rule_then rows w i row now, subst P (λ q. (sym (word_then w k i n at now saw) q, stamped q)) refuses)
+  is : IsReceipt o k r
+  is = is_receipt o r k i slot.0 table row now
 
-pub pass_refused : (rows : ℕ) (k : KeyName) (when n s : ℕ) (e : CallError) → when ≤ 4398046511103 → HasSlot rows k → Refuses n s e → RefusalStood rows k e → OpenExtendRefused rows k when e
-pass_refused rows k when n s (TooFar limit) small named h stood = absurd h
-pass_refused rows k when n s Unknown small named h stood = (small, inr (named, stood))
-pass_refused rows k when n s (Stale seen) small named h stood = (small, inr (named, stood))
-pass_refused rows k when n s (Ended how) small named h stood = (small, inr (named, stood))
+  module _ (when new : ℕ) (small : when ≤ 4398046511103) (as_live : new ≡ word asked 0 when) (made : ExtendStep u r.view i new n) where
+    module _ (before d : ℕ) (live : (stamp_of n ≡ asked) × (mark_of n ≡ 0) × (before ≡ field_of n)) (best : d ≡ max before when) where
+      extended : ExtendAccepted (passer o.rows) k when d r.view
+      extended = extend_accepted (passer o.rows) (passer o.rows) u r.view k i asked m n shown refl in_slot stamped loads is_shown given when new before d small as_live made live best
 
--- an extend that was accepted
-module _ (rows : ℕ) (u w : View) (k : KeyName) (i asked m n shown : ℕ) (slot : (i ≡ k.entry.index) × HasSlot rows k) (stamped : asked ≡ k.stamp) (loads : CallerLoads (passer rows) u i m) (is_shown : shown ≡ stamp_of m) (given : asked ≤ shown)
-    (when new before d : ℕ) (small : when ≤ 4398046511103) (is : new ≡ word asked 0 when) (made : ExtendStep u w i new n) (live : (stamp_of n ≡ asked) × (mark_of n ≡ 0) × (before ≡ field_of n)) (best : d ≡ max before when) where
-  accepted : ExtendAccepted (passer rows) k when d w
-  accepted = let size : length (passer rows).seen ≡ rows = length-replicate rows 0 in let at = slot.0 in let h = slot.1.0 in
-      extend_accepted (passer rows) (passer rows) u w k i asked m n shown refl (slot.0, omega arith, slot.1.1) stamped loads is_shown given when new before d small is made live best
+      pub extend_answered : (when ≤ d) × (d ≤ 4398046511103)
+      extend_answered = let a = extended in (a.asked, a.small)
 
-  pub answered : (when ≤ d) × (d ≤ 4398046511103)
-  answered = let a = accepted in (a.asked, a.small)
+      pub extend_shown : ShowsExtend o k when d r
+      extend_shown = let a = extended in (is, (a.small, a.now), a.steps, a.calls)
 
-  pub stood_extended : length w.seen ≡ rows → SawPresent w i → ExtendStood rows k when d
-  stood_extended row now =
-      let a = accepted in
-      let P : List Call → Type 0 = λ cs. IsIn cs (Extend k.entry.index k.stamp when) in
-      (now.0, rule_then rows w i row now, (now.1, w, now.3, subst P (sym a.calls) (inl refl)), word_then w k i (word k.stamp 0 d) slot.0 now (ap (λ j. get_or w.seen j 0) slot.0 ∙ a.now))
+    pub extend_not_made : (e : CallError) → Refuses n asked e → OpenExtendRefused o k when e (Some r)
+    extend_not_made e refuses = by e (extend_refused (passer o.rows) (passer o.rows) u r.view k i asked m n shown refl in_slot stamped loads is_shown given when new e small as_live made refuses) where
+      by : (e : CallError) → CallerExtends (passer o.rows) k when (Err e) r.view → OpenExtendRefused o k when e (Some r)
+      by (TooFar limit) h = absurd (omega arith)
+      by Unknown h = (h.0, refused_so o k _ Unknown r slot.1 is h.1)
+      by (Stale seen) h = (h.0, refused_so o k _ (Stale seen) r slot.1 is h.1)
+      by (Ended how) h = (h.0, refused_so o k _ (Ended how) r slot.1 is h.1)
 
--- an extend that the word refused
-pub extend_refused_by : (rows : ℕ) (u w : View) (k : KeyName) (i asked n when new : ℕ) (e : CallError) → (i ≡ k.entry.index) × HasSlot rows k → asked ≡ k.stamp → length u.seen ≡ rows → length w.seen ≡ rows → when ≤ 4398046511103 → new ≡ word asked 0 when
-    → ExtendStep u w i new n → SawPresent w i → Refuses n asked e → OpenExtendRefused rows k when e
-extend_refused_by rows u w k i asked n when new e slot stamped row row' small is made now refuses =
-    let at = slot.0 in let h = slot.1.0 in
-    pass_refused rows k when n asked e small slot.1 refuses (stood_refused rows w k i asked n e slot.0 stamped row' now (saw_refused u w i new n asked e (omega arith) (omega arith) made refuses) refuses)
+  module _ (new : ℕ) (as_cancelled : new ≡ word asked 1 0) (made : CancelStep u r.view i new n) where
+    module _ (d : ℕ) (live : (stamp_of n ≡ asked) × (mark_of n ≡ 0) × (d ≡ field_of n)) where
+      cancelled : CancelAccepted (passer o.rows) k d r.view
+      cancelled = cancel_accepted (passer o.rows) (passer o.rows) u r.view k i asked m n shown refl in_slot stamped loads is_shown given new d as_cancelled made live
 
--- the word that a load saw refuses
-pub load_refused : (rows : ℕ) (u : View) (k : KeyName) (i asked m : ℕ) (e : CallError) → (i ≡ k.entry.index) × HasSlot rows k → asked ≡ k.stamp → length u.seen ≡ rows → CallerLoads (passer rows) u i m → SawPresent u i → Refuses m asked e → RefusalStood rows k e
-load_refused rows u k i asked m e slot stamped row loads now refuses =
-    let at = slot.0 in let h = slot.1.0 in
-    stood_refused rows u k i asked m e slot.0 stamped row now (saw_loaded rows u i m (omega arith) loads) refuses
+      pub cancel_answered : d ≤ 4398046511103
+      cancel_answered = cancelled.small
 
--- or is shown
-pub load_shown : (rows : ℕ) (u : View) (k : KeyName) (i asked m : ℕ) (how : Look) → (i ≡ k.entry.index) × HasSlot rows k → asked ≡ k.stamp → length u.seen ≡ rows → CallerLoads (passer rows) u i m → SawPresent u i → stamp_of m ≡ asked → how ≡ look_of m → LookStood rows k how
-load_shown rows u k i asked m how slot stamped row loads now same shows =
-    let at = slot.0 in let h = slot.1.0 in
-    let saw = word_then u k i m slot.0 now (saw_loaded rows u i m (omega arith) loads) in
-    (now.0, rule_then rows u i row now, ap stamp_of saw ∙ same ∙ stamped, shows ∙ ap look_of (sym saw))
+      pub cancel_shown : ShowsCancel o k d r
+      cancel_shown = let a = cancelled in (is, a.now, a.steps, a.calls)
+
+    pub cancel_not_made : (e : CallError) → Refuses n asked e → OpenRefused o k e (Some r)
+    cancel_not_made e refuses = refused_so o k _ e r slot.1 is (cancel_refused (passer o.rows) (passer o.rows) u r.view k i asked m n shown refl in_slot stamped loads is_shown given new e as_cancelled made refuses)
+
+-- a call that made its load alone
+module _ (o : Open) (r : Sat) (k : KeyName) (i asked m : ℕ) (slot : (i ≡ k.entry.index) × HasSlot o.rows k) (stamped : asked ≡ k.stamp) (loads : CallerLoads (passer o.rows) r.view i m) (table : r.table ≡ o.table) (row : length r.view.seen ≡ o.rows) (now : SawPresent r.view i) where
+  saw : word_seen r k ≡ m
+  saw = let at = slot.0 in let h = slot.1.0 in ap (λ j. get_or r.view.seen j 0) (sym slot.0) ∙ saw_loaded o.rows r.view i m (omega arith) loads
+
+  loaded : IsReceipt o k r
+  loaded = is_receipt o r k i slot.0 table row now
+
+  pub load_refused : (e : CallError) → Refuses m asked e → RefusedBy o k (CallerLoad ∷ []) e (Some r)
+  load_refused e refuses =
+      let P : ℕ × ℕ → Type 0 = λ x. Refuses x.0 x.1 e in
+      (slot.1, (loaded, subst P (λ q. (sym saw q, stamped q)) refuses, ap (λ (x : View). x.steps) loads.0, ap (λ (x : View). x.calls) loads.0))
+
+  pub load_shown : (how : Look) → stamp_of m ≡ asked → how ≡ look_of m → ShowsLook o k how r
+  load_shown how same shows = (loaded, (ap stamp_of saw ∙ same ∙ stamped, shows ∙ ap look_of (sym saw)), ap (λ (x : View). x.steps) loads.0, ap (λ (x : View). x.calls) loads.0)
 
 -- the same of a cancel
 saw_cancelled : (v w : View) (i k n : ℕ) → i < length v.seen → k ≡ word (stamp_of k) 1 0 → stamp_of k ≤ stamp_of (get_or v.seen i 0) → CancelStep v w i k n → get_or w.seen i 0 ≡ max n k

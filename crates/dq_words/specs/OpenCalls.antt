@@ -1,6 +1,7 @@
--- What a call by open words tells. Each tells of a moment, between two steps of the keeper and all others, at which the
--- rule of the words held.
-use Rattle.std.specs.Prelude.{◌≡◌, ◌⊎◌, ℕ, ◌<◌, ◌≤◌, [], ◌∷◌, slice_index, length}
+-- What a call by open words tells. Its receipt is the seat that its load made, and has no bytes: whoever has it knows
+-- what the word of these words was, between two steps of the keeper and all others.
+use Rattle.std.specs.Prelude.{◌≡◌, ℕ, ◌<◌, ◌≤◌, List, [], ◌∷◌, slice_index, length}
+use Rattle.std.specs.Prelude.{Option, Some, None}
 use mathlib.Core.Option.{some}
 use lib.ListN.{get_elem?}
 use Rattle.atomic_table.specs.Seated.{TableId}
@@ -10,11 +11,13 @@ use Rattle.dq_core.specs.declared.words.CallError.{CallError}
 use Rattle.dq_core.specs.declared.words.CallError.TheVariants.{TooFar, Unknown, Ended}
 use Rattle.dq_ticks.specs.declared.TheConstants.{LAST_TICK}
 use Rattle.dq_ticks.specs.Keys.{KeyName}
-use Rattle.dq_ticks.specs.Word.{word, stamp_of}
 use Rattle.dq_words.specs.declared.views.View.{View}
 use Rattle.dq_words.specs.declared.views.Call.TheVariants.{Extend, Cancel}
-use Rattle.dq_words.specs.CallerCalls.{Refuses, look_of}
-use Rattle.dq_words.specs.Places.{IsShown, PlaceMe, placed}
+use Rattle.dq_words.specs.declared.views.StepKind.{StepKind}
+use Rattle.dq_words.specs.declared.views.StepKind.TheVariants.{CallerLoad, ExtendMax, CancelMax}
+use Rattle.dq_words.specs.AtTheCall.{SeesCancelled, SeesEntry, SeesLive, word_seen}
+use Rattle.dq_words.specs.CallerCalls.{Refuses, tried}
+use Rattle.dq_words.specs.Places.{PlaceMe, placed}
 use Rattle.dq_words.specs.Plays.{CallerLoads, Knowing, SeatGoesOn, Told, cancel_made, extend_made}
 use Rattle.dq_words.specs.Rule.{Ruled, passer}
 use Rattle.dq_words.specs.Seats.{Sat}
@@ -28,61 +31,61 @@ pub record Open : Type 0 where
 abbrev pub HasSlot : ℕ → KeyName → Type 0
 HasSlot rows k = (k.entry.index < rows) × (0 < k.stamp)
 
--- There was a moment at which the rule held, this extend was an accepted call of a seat, and its slot's word was live at
--- the key's stamp, with the deadline d.
-abbrev pub ExtendStood : ℕ → KeyName → ℕ → ℕ → Type 0
-ExtendStood rows k when d =
-    (t : State ℕ View) × Ruled rows t × IsShown t.views (Extend k.entry.index k.stamp when)
-    × (slice_index t.words k.entry.index ≡ word k.stamp 0 d)
-
--- There was a moment at which the rule held, this cancel was an accepted call of a seat, which gave up the deadline d,
--- and its slot's word was cancelled at the key's stamp.
-abbrev pub CancelStood : ℕ → KeyName → ℕ → Type 0
-CancelStood rows k d =
-    (t : State ℕ View) × Ruled rows t × IsShown t.views (Cancel k.entry.index k.stamp d)
-    × (slice_index t.words k.entry.index ≡ word k.stamp 1 0)
-
--- There was a moment at which the rule held, and the slot's word had the key's stamp and showed this.
-abbrev pub LookStood : ℕ → KeyName → Look → Type 0
-LookStood rows k how =
-    (t : State ℕ View) × Ruled rows t × (stamp_of (slice_index t.words k.entry.index) ≡ k.stamp)
-    × (how ≡ look_of (slice_index t.words k.entry.index))
-
--- There was a moment at which the rule held, and the slot's word refused the key so.
-abbrev pub RefusalStood : ℕ → KeyName → CallError → Type 0
-RefusalStood rows k e =
-    (t : State ℕ View) × Ruled rows t × Refuses (slice_index t.words k.entry.index) k.stamp e
-
--- no slot has the key, or else the slot's word refused it
-abbrev pub OpenRefused : ℕ → KeyName → CallError → Type 0
-OpenRefused rows k e = (¬ HasSlot rows k × (e ≡ Unknown)) ⊎ (HasSlot rows k × RefusalStood rows k e)
-
--- an extend is refused first by its deadline, which lies beyond the last tick, and then by the key
-abbrev pub OpenExtendRefused : ℕ → KeyName → ℕ → CallError → Type 0
-OpenExtendRefused rows k when (TooFar limit) = (limit ≡ LAST_TICK) × (LAST_TICK < when)
-OpenExtendRefused rows k when e = (when ≤ LAST_TICK) × OpenRefused rows k e
-
--- a look is not refused by a word that has ended, which it shows
-abbrev pub OpenLookRefused : ℕ → KeyName → CallError → Type 0
-OpenLookRefused rows k (Ended how) = ⊥
-OpenLookRefused rows k e = OpenRefused rows k e
-
--- the receipt of an accepted extend: its seat is one of these words, and has this one call
-abbrev pub ShowsExtend : Open → KeyName → ℕ → Sat → Type 0
-ShowsExtend o k when r =
-    (r.table ≡ o.table) × (r.view.calls ≡ Extend k.entry.index k.stamp when ∷ [])
-
--- the receipt of an accepted cancel, which gave up the deadline d
-abbrev pub ShowsCancel : Open → KeyName → ℕ → Sat → Type 0
-ShowsCancel o k d r =
-    (r.table ≡ o.table) × (r.view.calls ≡ Cancel k.entry.index k.stamp d ∷ [])
-
 -- There was a moment at which the rule held, a seat knew exactly this, and the slot i had the word that the seat then
 -- sees.
 abbrev pub SawPresent : View → ℕ → Type 0
 SawPresent v i =
     (t : State ℕ View) × (j : ℕ) × Ruled (length v.seen) t × (get_elem? t.views j ≡ some v)
     × (slice_index t.words i ≡ slice_index v.seen i)
+
+-- The receipt is a seat of these words. Behind its last step there was a moment at which the rule held, the seat knew
+-- exactly this, and the key's slot had the word that it saw.
+abbrev pub IsReceipt : Open → KeyName → Sat → Type 0
+IsReceipt o k r =
+    (r.table ≡ o.table) × (length r.view.seen ≡ o.rows) × SawPresent r.view k.entry.index
+
+-- An extend was accepted: it is the receipt's one call, by one load and one step, and the word was then live at the
+-- deadline d.
+abbrev pub ShowsExtend : Open → KeyName → ℕ → ℕ → Sat → Type 0
+ShowsExtend o k when d r =
+    IsReceipt o k r × SeesLive r k d × (r.view.steps ≡ ExtendMax ∷ CallerLoad ∷ [])
+    × (r.view.calls ≡ Extend k.entry.index k.stamp when ∷ [])
+
+-- A cancel was accepted, which gave up the deadline d: the same, and the word was then cancelled.
+abbrev pub ShowsCancel : Open → KeyName → ℕ → Sat → Type 0
+ShowsCancel o k d r =
+    IsReceipt o k r × SeesCancelled r k × (r.view.steps ≡ CancelMax ∷ CallerLoad ∷ [])
+    × (r.view.calls ≡ Cancel k.entry.index k.stamp d ∷ [])
+
+-- A look's load saw the key's entry, and shows this of it.
+abbrev pub ShowsLook : Open → KeyName → Look → Sat → Type 0
+ShowsLook o k how r =
+    IsReceipt o k r × SeesEntry r k how × (r.view.steps ≡ CallerLoad ∷ []) × (r.view.calls ≡ [])
+
+-- The word that the receipt saw refuses the key so. By these steps the seat changed nothing.
+abbrev pub ShowsRefusal : Open → KeyName → List StepKind → CallError → Sat → Type 0
+ShowsRefusal o k made e r =
+    IsReceipt o k r × Refuses (word_seen r k) k.stamp e × (r.view.steps ≡ made) × (r.view.calls ≡ [])
+
+-- a key is refused with no step where no slot has it, and else by the word that the receipt saw
+abbrev pub RefusedBy : Open → KeyName → List StepKind → CallError → Option Sat → Type 0
+RefusedBy o k made e None = ¬ HasSlot o.rows k × (e ≡ Unknown)
+RefusedBy o k made e (Some r) = HasSlot o.rows k × ShowsRefusal o k made e r
+
+-- a cancel is refused by the key
+abbrev pub OpenRefused : Open → KeyName → CallError → Option Sat → Type 0
+OpenRefused o k e r = RefusedBy o k (tried e []) e r
+
+-- an extend is refused first by its deadline, which lies beyond the last tick, and then by the key
+abbrev pub OpenExtendRefused : Open → KeyName → ℕ → CallError → Option Sat → Type 0
+OpenExtendRefused o k when (TooFar limit) r =
+    (limit ≡ LAST_TICK) × (LAST_TICK < when) × (r ≡ None)
+OpenExtendRefused o k when e r = (when ≤ LAST_TICK) × OpenRefused o k e r
+
+-- a look is refused by the key, and not by a word that has ended, which it shows
+abbrev pub OpenLookRefused : Open → KeyName → CallError → Option Sat → Type 0
+OpenLookRefused o k (Ended how) r = ⊥
+OpenLookRefused o k e r = RefusedBy o k (CallerLoad ∷ []) e r
 
 -- the load that made a passer's seat at words of so many slots, and found n in the slot i
 abbrev pub PasserLoads : ℕ → View → ℕ → ℕ → Type 0

@@ -1,7 +1,7 @@
--- What the keeper and a caller of one table know together.
+-- What two seats of one table know together.
 use Rattle.std.specs.Prelude.{ℕ}
 use Rattle.dq_words.specs.declared.views.View.{View}
-use Rattle.dq_words.specs.Files.{IsIn, ends_at}
+use Rattle.dq_words.specs.Files.{IsIn, ends_at, cancels_at}
 use Rattle.dq_words.specs.Places.{StoodWith}
 use Rattle.dq_words.specs.Plays.{Covers}
 use Rattle.dq_words.specs.Seats.{Sat}
@@ -15,3 +15,9 @@ EndsCover v u =
 -- both at one moment of the rule
 abbrev pub IsBeside : Sat → Sat → Type 0
 IsBeside k c = EndsCover k.view c.view × StoodWith k.view c.view.calls
+
+-- What an accepted cancel of v gave up covers the calls of u at that stamp: no accepted extend of u
+-- asked there for a later deadline, and u cancelled nothing there.
+abbrev pub CancelsCover : View → View → Type 0
+CancelsCover v u =
+    (i s d : ℕ) → IsIn (cancels_at i s v.calls) d → Covers u.calls i s d

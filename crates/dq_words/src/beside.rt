@@ -1,18 +1,14 @@
 //! What a keeper knows together with others: with one of its callers, with the receipt of a call by open words, and by
 //! the rule of the words, with whoever cancelled.
-ghost use Rattle.std.specs.Prelude.{◌≡◌, ◌≤◌, IfErr, IfOk};
-ghost use Rattle.dq_ticks.specs.declared.TheConstants.{LAST_TICK};
+ghost use Rattle.std.specs.Prelude.{◌≡◌};
 ghost use Rattle.dq_words.specs.KeeperCalls.{AccountsAnyhow, CountsCancels};
-ghost use Rattle.dq_words.specs.OpenCalls.{CancelStood, ExtendStood, OpenExtendRefused};
-ghost use Rattle.dq_words.specs.OpenCalls.{OpenRefused, ShowsCancel, ShowsExtend};
-ghost use Rattle.dq_words.specs.Places.{StoodWith};
-ghost use Rattle.dq_words.specs.Together.{EndsCover, IsBeside};
+ghost use Rattle.dq_words.specs.Places.{StoodApart, StoodWith};
+ghost use Rattle.dq_words.specs.Together.{CancelsCover, EndsCover, IsBeside};
 
 use crate::caller::Caller;
 use crate::keeper::Keeper;
 use crate::seated::{OpenWords, Receipt};
-use dq_core::{BesideWords, CallError};
-use dq_ticks::Key;
+use dq_core::BesideWords;
 use std::alloc::Allocator;
 
 impl<A: Allocator> Keeper<A> {
@@ -56,45 +52,39 @@ impl<A: Allocator> Keeper<A> {
 }
 
 impl<A: Allocator> OpenWords<A> {
-    /// [`extend`](OpenWords::extend), which also hands out the receipt of the call.
-    ///
-    /// # Errors
-    /// Those of `extend`, in its order.
-    pub fn extend_shown(&self, key: &Key, when: u64) -> Result<(u64, Receipt), CallError>
-        // Accepted: as an extend, and the receipt shows it.
-        ensures accepted { IfOk result (λ r. (when ≤ r.0) × (r.0 ≤ LAST_TICK)) }
-        ensures stood { IfOk result (λ r. ExtendStood self.now.rows key.now when r.0) }
-        ensures shows { IfOk result (λ r. ShowsExtend self.now key.now when r.1) }
+    /// What the receipts of two calls by these words tell together, of whatever threads. One of them is used up, so that
+    /// they aren't the same one.
+    pub fn compare(&self, one: &mut Receipt, other: Receipt)
+        requires one { one.old.table ≡ self.now.table }
+        requires other { other.table ≡ self.now.table }
+        // Where one of them cancelled, the other was promised no later deadline, and didn't cancel too.
+        ensures cancelled { CancelsCover one.old.view other.view
+            × CancelsCover other.view one.old.view }
 
-        // Refused: as an extend.
-        ensures refused { IfErr result (λ e. OpenExtendRefused self.now.rows key.now when e) }
+        // At one moment of the rule the one's seat knew exactly this, and the other's call was that of another seat.
+        ensures stood { StoodApart one.old.view other.view.calls }
+        ensures same { one.new ≡ one.old }
     {
-        self.raise(key, when)
-    }
-
-    /// [`cancel`](OpenWords::cancel), which also hands out the receipt of the call.
-    ///
-    /// # Errors
-    /// Those of `cancel`, in its order.
-    pub fn cancel_shown(&self, key: &Key) -> Result<(u64, Receipt), CallError>
-        // Accepted: as a cancel, and the receipt shows it.
-        ensures accepted { IfOk result (λ r. r.0 ≤ LAST_TICK) }
-        ensures stood { IfOk result (λ r. CancelStood self.now.rows key.now r.0) }
-        ensures shows { IfOk result (λ r. ShowsCancel self.now key.now r.0 r.1) }
-
-        // Refused: as a cancel.
-        ensures refused { IfErr result (λ e. OpenRefused self.now.rows key.now e) }
-    {
-        self.withdraw(key)
+        self.tell(one, other);
     }
 }
 
-impl<A: Allocator> BesideWords for Keeper<A> {
+impl<A: Allocator> BesideWords<Caller<A>> for Keeper<A> {
     ghost sits = { λ k c. k.table ≡ c.table };
 
     ghost together = { IsBeside };
 
     fn beside(&mut self, caller: &mut Caller<A>) {
         Keeper::beside(self, caller);
+    }
+}
+
+impl<A: Allocator> BesideWords<Receipt> for Keeper<A> {
+    ghost sits = { λ k r. k.table ≡ r.table };
+
+    ghost together = { IsBeside };
+
+    fn beside(&mut self, receipt: &mut Receipt) {
+        self.beside_receipt(receipt);
     }
 }

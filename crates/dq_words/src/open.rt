@@ -1,8 +1,7 @@
 //! Extends, cancels and looks by `&self`, from any thread, which need no caller.
 ghost use Rattle.std.specs.Prelude.{◌≡◌, ◌≤◌, length, IfErr, IfOk, MatchOption};
 ghost use Rattle.dq_ticks.specs.declared.TheConstants.{LAST_TICK};
-ghost use Rattle.dq_words.specs.OpenCalls.{HasSlot, CancelStood, ExtendStood, LookStood};
-ghost use Rattle.dq_words.specs.OpenCalls.{ShowsCancel, ShowsExtend};
+ghost use Rattle.dq_words.specs.OpenCalls.{HasSlot, ShowsCancel, ShowsExtend, ShowsLook};
 ghost use Rattle.dq_words.specs.OpenCalls.{OpenExtendRefused, OpenLookRefused, OpenRefused};
 
 use crate::caller::deadline_at;
@@ -54,39 +53,34 @@ impl<A: Allocator> OpenWords<A> {
     /// - `Unknown` if no slot has the key.
     /// - `Stale` if the slot has a later stamp: the entry was reset, or the slot has another entry.
     /// - `Ended` if the entry came out, was removed or was cancelled. It tells which.
-    pub fn extend(&self, key: &Key, when: u64) -> Result<u64, CallError>
-        // Accepted: at some moment the rule of the words held, this was an accepted call of a seat, and the word was
-        // live at the answer.
-        ensures accepted { IfOk result (λ d. (when ≤ d) × (d ≤ LAST_TICK)) }
-        ensures stood { IfOk result (λ d. ExtendStood self.now.rows key.now when d) }
-
-        // Refused: exactly by the deadline, by the key, or by the word at such a moment.
-        ensures refused { IfErr result (λ e. OpenExtendRefused self.now.rows key.now when e) }
-    {
-        Ok(self.raise(key, when)?.0)
-    }
-
-    // An extend with its receipt.
-    pub(crate) fn raise(&self, key: &Key, when: u64) -> Result<(u64, Receipt), CallError>
+    pub fn extend(
+        &self,
+        key: &Key,
+        when: u64,
+    ) -> Result<(u64, Receipt), (CallError, Option<Receipt>)>
+        // Accepted: the receipt shows it, with the word live at the answer.
         ensures accepted { IfOk result (λ r. (when ≤ r.0) × (r.0 ≤ LAST_TICK)) }
-        ensures stood { IfOk result (λ r. ExtendStood self.now.rows key.now when r.0) }
-        ensures shows { IfOk result (λ r. ShowsExtend self.now key.now when r.1) }
-        ensures refused { IfErr result (λ e. OpenExtendRefused self.now.rows key.now when e) }
+        ensures shows { IfOk result (λ r. ShowsExtend self.now key.now when r.0 r.1) }
+
+        // Refused: exactly by the deadline, by the key, or by the word that the receipt shows.
+        ensures refused { IfErr result (λ e. OpenExtendRefused self.now key.now when e.0 e.1) }
     {
         if when > LAST_TICK {
-            return Err(CallError::TooFar { limit: LAST_TICK });
+            return Err((CallError::TooFar { limit: LAST_TICK }, None));
         }
         let Some(index) = self.slot(key) else {
-            return Err(CallError::Unknown);
+            return Err((CallError::Unknown, None));
         };
         let asked = key.stamp();
         let (seen, mut passer) = self.pass(index);
         if stamp(seen) < asked {
-            return Err(CallError::Unknown);
+            return Err((CallError::Unknown, Some(passer)));
         }
         let found = self.pass_extend(&mut passer, index, live_word(asked, when));
-        let before = deadline_at(found, asked)?;
-        Ok((before.max(when), passer))
+        match deadline_at(found, asked) {
+            Ok(before) => Ok((before.max(when), passer)),
+            Err(e) => Err((e, Some(passer))),
+        }
     }
 
     /// Cancels a live entry, so that it won't come out, and returns the deadline that it gave up, a tick of one
@@ -99,36 +93,27 @@ impl<A: Allocator> OpenWords<A> {
     /// - `Unknown` if no slot has the key.
     /// - `Stale` if the slot has a later stamp: the entry was reset, or the slot has another entry.
     /// - `Ended` if the entry came out, was removed or was cancelled. It tells which.
-    pub fn cancel(&self, key: &Key) -> Result<u64, CallError>
-        // Accepted: at some moment the rule of the words held, this was an accepted call of a seat, and the word was
-        // cancelled.
-        ensures accepted { IfOk result (λ d. d ≤ LAST_TICK) }
-        ensures stood { IfOk result (λ d. CancelStood self.now.rows key.now d) }
-
-        // Refused: exactly by the key, or by the word at such a moment.
-        ensures refused { IfErr result (λ e. OpenRefused self.now.rows key.now e) }
-    {
-        Ok(self.withdraw(key)?.0)
-    }
-
-    // A cancel with its receipt.
-    pub(crate) fn withdraw(&self, key: &Key) -> Result<(u64, Receipt), CallError>
+    pub fn cancel(&self, key: &Key) -> Result<(u64, Receipt), (CallError, Option<Receipt>)>
+        // Accepted: the receipt shows it, with the word cancelled.
         ensures accepted { IfOk result (λ r. r.0 ≤ LAST_TICK) }
-        ensures stood { IfOk result (λ r. CancelStood self.now.rows key.now r.0) }
         ensures shows { IfOk result (λ r. ShowsCancel self.now key.now r.0 r.1) }
-        ensures refused { IfErr result (λ e. OpenRefused self.now.rows key.now e) }
+
+        // Refused: exactly by the key, or by the word that the receipt shows.
+        ensures refused { IfErr result (λ e. OpenRefused self.now key.now e.0 e.1) }
     {
         let Some(index) = self.slot(key) else {
-            return Err(CallError::Unknown);
+            return Err((CallError::Unknown, None));
         };
         let asked = key.stamp();
         let (seen, mut passer) = self.pass(index);
         if stamp(seen) < asked {
-            return Err(CallError::Unknown);
+            return Err((CallError::Unknown, Some(passer)));
         }
         let found = self.pass_cancel(&mut passer, index, cancelled_word(asked));
-        let given_up = deadline_at(found, asked)?;
-        Ok((given_up, passer))
+        match deadline_at(found, asked) {
+            Ok(given_up) => Ok((given_up, passer)),
+            Err(e) => Err((e, Some(passer))),
+        }
     }
 
     /// Returns what the entry of `key` is: live, with its deadline, or how it ended. It makes one load. It takes no
@@ -138,25 +123,25 @@ impl<A: Allocator> OpenWords<A> {
     /// In this order:
     /// - `Unknown` if no slot has the key.
     /// - `Stale` if the slot has a later stamp: the entry was reset, or the slot has another entry.
-    pub fn look(&self, key: &Key) -> Result<Look, CallError>
-        // Shown: at some moment the rule of the words held, and the word showed this.
-        ensures stood { IfOk result (λ how. LookStood self.now.rows key.now how) }
+    pub fn look(&self, key: &Key) -> Result<(Look, Receipt), (CallError, Option<Receipt>)>
+        // Shown: the receipt's load saw it.
+        ensures shows { IfOk result (λ r. ShowsLook self.now key.now r.0 r.1) }
 
-        // Refused: exactly by the key, or by the word at such a moment, and not where it has ended.
-        ensures refused { IfErr result (λ e. OpenLookRefused self.now.rows key.now e) }
+        // Refused: exactly by the key, or by the word that the receipt shows, and not where it has ended.
+        ensures refused { IfErr result (λ e. OpenLookRefused self.now key.now e.0 e.1) }
     {
         let Some(index) = self.slot(key) else {
-            return Err(CallError::Unknown);
+            return Err((CallError::Unknown, None));
         };
         let asked = key.stamp();
-        let (found, _passer) = self.pass(index);
+        let (found, passer) = self.pass(index);
         let seen = unpack(found);
         if seen.stamp < asked {
-            return Err(CallError::Unknown);
+            return Err((CallError::Unknown, Some(passer)));
         }
         if asked < seen.stamp {
-            return Err(CallError::Stale { seen: seen.stamp });
+            return Err((CallError::Stale { seen: seen.stamp }, Some(passer)));
         }
-        Ok(shown(seen.mark, seen.field))
+        Ok((shown(seen.mark, seen.field), passer))
     }
 }

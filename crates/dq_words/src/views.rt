@@ -70,4 +70,8 @@ pub struct Place {
     pub carries: bool,
     /// Accepted calls of another seat, as far as the seat was told of them.
     pub told: LinkedList<Call>,
+    /// Its seat was given up, so that its calls are another's for good.
+    pub spent: bool,
+    /// Accepted calls of seats that were given up.
+    pub apart: LinkedList<Call>,
 }

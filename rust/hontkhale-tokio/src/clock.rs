@@ -1,6 +1,6 @@
 //! Moments of tokio's clock as ticks of one millisecond.
 
-use hontkhale::owner::LAST_TICK;
+use hontkhale::parts::owner::LAST_TICK;
 use std::time::Duration;
 use tokio::time::Instant;
 
@@ -51,6 +51,9 @@ impl Clock {
 }
 
 /// Whole milliseconds, rounded up; beyond the last tick they may be fewer, and beyond it still.
+///
+/// `div_ceil` looks at the remainder too, which takes a few instructions more.
+#[allow(clippy::manual_div_ceil)]
 #[inline]
 fn millis_up(since: Duration) -> u64 {
     let millis = (since.subsec_nanos() + NANOS_PER_MILLI - 1) / NANOS_PER_MILLI;

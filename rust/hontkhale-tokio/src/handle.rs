@@ -1,7 +1,7 @@
 use crate::key::Key;
 use crate::shared::Shared;
 use crate::shared_state::{Refusal, Step};
-use hontkhale::owner::LAST_TICK;
+use hontkhale::parts::owner::LAST_TICK;
 use std::error::Error;
 use std::fmt;
 use std::sync::Arc;

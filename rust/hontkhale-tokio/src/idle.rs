@@ -1,7 +1,7 @@
 //! Connections that time out while no byte moves, with one queue and one task for all of them.
 
 use crate::shared_queue::{QueueStream, SharedQueue};
-use hontkhale::delay_queue::{InsertErrorKind, Key};
+use hontkhale::{InsertErrorKind, Key};
 use std::io::{self, ErrorKind, IoSlice};
 use std::mem;
 use std::panic::{catch_unwind, AssertUnwindSafe};
@@ -41,7 +41,7 @@ pub struct IdleTimeouts {
     shared: Arc<Timeouts>,
 }
 
-/// What the owner, its clones and the connections share, but not the task.
+/// What the owner, its clones and the connections share, but not the task, which ends with the queue.
 #[derive(Debug, Default)]
 struct Timeouts {
     queue: SharedQueue<Arc<Waits>>,
@@ -93,13 +93,6 @@ impl Timeouts {
             let runs = Runs(Arc::clone(&self.has_task));
             tokio::spawn(end_idle_ones(self.queue.stream(), runs));
         }
-    }
-}
-
-impl Drop for Timeouts {
-    fn drop(&mut self) {
-        // The task ends: it has a clone of the queue.
-        self.queue.close();
     }
 }
 
@@ -319,12 +312,14 @@ impl<IO: AsyncWrite + Unpin> AsyncWrite for IdleTimeout<IO> {
 
 #[cfg(test)]
 mod tests {
-    use super::{IdleTimeouts, WakerCell};
+    use super::{IdleTimeouts, Waits, WakerCell};
+    use std::io::ErrorKind;
     use std::sync::atomic::{AtomicUsize, Ordering::SeqCst};
-    use std::sync::Arc;
-    use std::task::Wake;
+    use std::sync::{mpsc, Arc};
+    use std::task::{Context, Poll, Wake, Waker};
+    use std::thread;
     use std::time::Duration;
-    use tokio::io::duplex;
+    use tokio::io::{duplex, AsyncWriteExt};
     use tokio::task::yield_now;
     use tokio::time::sleep;
 
@@ -388,5 +383,66 @@ mod tests {
         assert_eq!(was_free.load(SeqCst), 1, "the first is dropped");
         cell.wake();
         assert_eq!(was_free.load(SeqCst), 3, "the second is called and dropped");
+    }
+
+    /// The holder of the lock waits until the byte has moved, but not for ever.
+    #[tokio::test(start_paused = true)]
+    async fn a_byte_extends_while_the_lock_of_its_shard_is_held() {
+        let timeouts = IdleTimeouts::new();
+        let (_client, server) = duplex(8);
+        let mut server = timeouts.wrap(server, Duration::from_secs(30));
+        sleep(Duration::from_millis(2)).await;
+        server.write_u8(1).await.expect("a thread's first extend takes the lock");
+        sleep(Duration::from_millis(2)).await;
+        let (key, before) = server.entry.place.expect("it has a timeout");
+        let queue = timeouts.shared.queue.clone();
+        let ((holds, is_held), (moved, has_moved)) = (mpsc::channel(), mpsc::channel());
+        let holder = thread::spawn(move || {
+            let holding = |_: &Arc<Waits>| {
+                holds.send(()).expect("a test that goes on");
+                has_moved.recv_timeout(Duration::from_secs(20))
+            };
+            queue.get_ref().get(&key, holding)
+        });
+        is_held.recv().expect("a holder");
+        server.write_u8(2).await.expect("it isn't idle");
+        moved.send(()).expect("a holder");
+        assert_eq!(holder.join().expect("no panic"), Ok(Ok(())));
+        assert!(before < server.entry.place.expect("it has a timeout").1);
+    }
+
+    #[test]
+    fn a_call_amid_which_time_ends_errs() {
+        let waits = Waits::default();
+        let pending = |_: &mut Context<'_>| {
+            waits.end();
+            Poll::<std::io::Result<()>>::Pending
+        };
+        let waker = Waker::from(Arc::new(Sees::default()));
+        let answer = waits.poll(&waits.reader, &mut Context::from_waker(&waker), pending);
+        assert!(matches!(answer, Poll::Ready(Err(refused)) if refused.kind() == ErrorKind::TimedOut));
+    }
+
+    /// A waker that asks, as it is called, whether time is over.
+    #[derive(Default)]
+    struct Sees {
+        waits: Arc<Waits>,
+        over: AtomicUsize,
+    }
+
+    impl Wake for Sees {
+        fn wake(self: Arc<Self>) {
+            self.over.fetch_add(self.waits.check().is_err().into(), SeqCst);
+        }
+    }
+
+    #[test]
+    fn time_is_over_for_whom_it_wakes() {
+        let sees = Arc::new(Sees::default());
+        let waker = Waker::from(sees.clone());
+        sees.waits.reader.listen(&waker);
+        sees.waits.writer.listen(&waker);
+        sees.waits.end();
+        assert_eq!(sees.over.load(SeqCst), 2);
     }
 }

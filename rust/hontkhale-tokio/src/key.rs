@@ -1,5 +1,5 @@
 use crate::clock::Clock;
-use hontkhale::owner::EntryId;
+use hontkhale::parts::owner::EntryId;
 use std::fmt;
 use tokio::time::Instant;
 
@@ -61,8 +61,8 @@ impl Key {
 
     /// The key of a stamp under which callers of the segment's queue have the entry.
     #[inline]
-    pub(crate) fn stamped(&self, stamp: u32) -> hontkhale::owner::Key {
-        hontkhale::owner::Key::new(self.entry(), stamp)
+    pub(crate) fn stamped(&self, stamp: u32) -> hontkhale::parts::owner::Key {
+        hontkhale::parts::owner::Key::new(self.entry(), stamp)
     }
 }
 

@@ -1,7 +1,7 @@
 use crate::shared_queue::SharedQueue;
 use crate::timer::TaskTimer;
 use futures_core::ready;
-use hontkhale::delay_queue::{Key, KeyError};
+use hontkhale::{Key, KeyError};
 use std::fmt;
 use std::future::Future;
 use std::pin::Pin;
@@ -26,7 +26,7 @@ use tokio::time::Instant;
 /// ```
 /// # #[tokio::main(flavor = "current_thread", start_paused = true)]
 /// # async fn main() -> Result<(), Box<dyn std::error::Error>> {
-/// use hontkhale::delay_queue::KeyError;
+/// use hontkhale::KeyError;
 /// use hontkhale_tokio::SharedQueue;
 /// use tokio::time::{Duration, Instant};
 ///

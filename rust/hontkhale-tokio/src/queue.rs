@@ -6,7 +6,7 @@ use crate::segments::{Found, Segments, TooFar, NEVER};
 use crate::shared::Shared;
 use crate::timer::Timer;
 use futures_core::{ready, Stream};
-use hontkhale::owner::{CoreError, LAST_STAMP, LAST_TICK};
+use hontkhale::parts::owner::{CoreError, LAST_STAMP, LAST_TICK};
 use std::fmt;
 use std::pin::Pin;
 use std::sync::Arc;

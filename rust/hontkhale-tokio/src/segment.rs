@@ -9,7 +9,9 @@ use crate::key::{Expired, Key};
 use crate::shared::Shared;
 use crate::shared_state::SharedState;
 use crate::unique_ids::UniqueIds;
-use hontkhale::owner::{CallError, Caller, CoreConfig, CoreError, DelayCore, EntryId, Keeper, Look, Piece, Turn};
+use hontkhale::parts::owner::{
+    CallError, Caller, CoreConfig, CoreError, DelayCore, EntryId, Keeper, Look, Piece, Turn,
+};
 use std::mem;
 use std::sync::{Arc, Mutex, PoisonError};
 
@@ -65,7 +67,7 @@ impl<T> Segment<T> {
     pub fn new(slots: usize, last_stamp: u32, clock: Clock, tick: u64) -> Segment<T> {
         let number = SEGMENTS.draw();
         let config = CoreConfig { shard: 0, capacity: slots, last_stamp };
-        let mut queue = hontkhale::owner::numbered_queue(config).expect("memory for more entries");
+        let mut queue = hontkhale::parts::owner::numbered_queue(config).expect("memory for more entries");
         let reader = Mutex::new(queue.issue().expect("a queue's first caller"));
         let mut segment = Segment {
             queue,
@@ -235,7 +237,7 @@ impl<T> Segment<T> {
 
     /// The user's key of what came out.
     #[inline]
-    pub fn key(&self, key: hontkhale::owner::Key) -> Key {
+    pub fn key(&self, key: hontkhale::parts::owner::Key) -> Key {
         let entry = key.entry();
         Key::of(self.number, self.index, entry.index(), entry.born())
     }
@@ -376,7 +378,7 @@ mod tests {
     use super::{Segment, Step};
     use crate::budget::Limit;
     use crate::clock::Clock;
-    use hontkhale::owner::Caller;
+    use hontkhale::parts::owner::Caller;
     use std::cell::Cell;
 
     /// A value that counts its drops, and panics where it is told to.

@@ -9,7 +9,7 @@
 use crate::key::{Expired, Key};
 use crate::segment::Segment;
 use crate::shared::Shared;
-use hontkhale::owner::{CoreError, LAST_TICK};
+use hontkhale::parts::owner::{CoreError, LAST_TICK};
 use std::mem;
 use std::ops::Deref;
 use std::sync::atomic::AtomicU64;

@@ -2,8 +2,7 @@
 
 pub use crate::key_sleep::KeySleep;
 pub use crate::stream::QueueStream;
-use hontkhale::delay_queue::{Builder, InsertError, Key, KeyError};
-use hontkhale::DelayQueue;
+use hontkhale::{Builder, DelayQueue, InsertError, InsertErrorKind, Key, KeyError};
 use std::fmt;
 use std::time::Duration;
 use tokio::time::Instant;
@@ -81,6 +80,39 @@ impl<T> SharedQueue<T> {
     /// Those of [`DelayQueue::insert_at`].
     pub fn insert_at(&self, value: T, when: Instant) -> Result<Key, InsertError<T>> {
         self.queue.insert_at(value, when.into_std())
+    }
+
+    /// Puts in the value that `make` makes of its key, to come out after `after`, and returns the key.
+    ///
+    /// # Errors
+    /// Those of [`DelayQueue::insert_with`].
+    ///
+    /// # Panics
+    /// As [`DelayQueue::insert_with`].
+    pub fn insert_with(&self, make: impl FnOnce(Key) -> T, after: Duration) -> Result<Key, InsertErrorKind> {
+        self.queue.insert_with(make, after)
+    }
+
+    /// Returns what `read` makes of an entry's value, where the value is: the entry stays.
+    ///
+    /// # Errors
+    /// Those of [`DelayQueue::get`].
+    ///
+    /// # Panics
+    /// As [`DelayQueue::get`].
+    pub fn get<R>(&self, key: &Key, read: impl FnOnce(&T) -> R) -> Result<R, KeyError> {
+        self.queue.get(key, read)
+    }
+
+    /// Returns what `change` makes of an entry's value, which it may change where it is: the entry stays.
+    ///
+    /// # Errors
+    /// Those of [`DelayQueue::get_mut`].
+    ///
+    /// # Panics
+    /// As [`DelayQueue::get_mut`].
+    pub fn get_mut<R>(&self, key: &Key, change: impl FnOnce(&mut T) -> R) -> Result<R, KeyError> {
+        self.queue.get_mut(key, change)
     }
 
     /// Gives an entry the deadline `after` from now, sooner or later than the one that it has, and returns its key.
@@ -172,6 +204,14 @@ impl<T> SharedQueue<T> {
         self.queue.close();
     }
 
+    /// Closes the queue for inserts: its streams get what waits as it comes due, and then none.
+    ///
+    /// # Panics
+    /// As [`DelayQueue::close_when_empty`].
+    pub fn close_when_empty(&self) {
+        self.queue.close_when_empty();
+    }
+
     /// Whether the queue is closed.
     pub fn is_closed(&self) -> bool {
         self.queue.is_closed()
@@ -203,8 +243,8 @@ impl<T> From<DelayQueue<T>> for SharedQueue<T> {
     }
 }
 
-impl<T> From<hontkhale::delay_queue::Expired<T>> for Expired<T> {
-    fn from(out: hontkhale::delay_queue::Expired<T>) -> Expired<T> {
+impl<T> From<hontkhale::Expired<T>> for Expired<T> {
+    fn from(out: hontkhale::Expired<T>) -> Expired<T> {
         Expired { key: out.key, deadline: Instant::from_std(out.deadline), value: out.value }
     }
 }
@@ -228,17 +268,17 @@ impl<T> fmt::Debug for SharedQueue<T> {
 }
 
 /// Extends and cancels entries of a [`SharedQueue`], and tells their deadlines, without its type: a
-/// [`hontkhale::delay_queue::Handle`] with tokio's moments. It doesn't keep its queue.
+/// [`hontkhale::Handle`] with tokio's moments. It doesn't keep its queue.
 #[derive(Clone, Debug)]
 pub struct Handle {
-    handle: hontkhale::delay_queue::Handle,
+    handle: hontkhale::Handle,
 }
 
 impl Handle {
     /// Raises the deadline of an entry to `after` from now, without a lock, and returns the deadline that is then in force.
     ///
     /// # Errors
-    /// Those of [`hontkhale::delay_queue::Handle::extend`].
+    /// Those of [`hontkhale::Handle::extend`].
     pub fn extend(&self, key: &Key, after: Duration) -> Result<Instant, KeyError> {
         self.handle.extend(key, after).map(Instant::from_std)
     }
@@ -246,7 +286,7 @@ impl Handle {
     /// Raises the deadline of an entry to `when`, without a lock, and returns the deadline that is then in force.
     ///
     /// # Errors
-    /// Those of [`hontkhale::delay_queue::Handle::extend_at`].
+    /// Those of [`hontkhale::Handle::extend_at`].
     pub fn extend_at(&self, key: &Key, when: Instant) -> Result<Instant, KeyError> {
         self.handle.extend_at(key, when.into_std()).map(Instant::from_std)
     }
@@ -254,7 +294,7 @@ impl Handle {
     /// Cancels an entry, so that it won't come out, and returns the deadline that it gave up.
     ///
     /// # Errors
-    /// Those of [`hontkhale::delay_queue::Handle::cancel`].
+    /// Those of [`hontkhale::Handle::cancel`].
     pub fn cancel(&self, key: &Key) -> Result<Instant, KeyError> {
         self.handle.cancel(key).map(Instant::from_std)
     }
@@ -262,7 +302,7 @@ impl Handle {
     /// The deadline of an entry.
     ///
     /// # Errors
-    /// Those of [`hontkhale::delay_queue::Handle::deadline`].
+    /// Those of [`hontkhale::Handle::deadline`].
     pub fn deadline(&self, key: &Key) -> Result<Instant, KeyError> {
         self.handle.deadline(key).map(Instant::from_std)
     }

@@ -1,7 +1,7 @@
 //! What handles need of one segment of a queue: the stamps of its entries, callers, and where they note what they cancelled.
 
 use crate::key::Key;
-use hontkhale::owner::{CallError, Caller};
+use hontkhale::parts::owner::{CallError, Caller};
 use std::sync::atomic::{AtomicBool, AtomicU64, AtomicUsize, Ordering};
 use std::sync::{Mutex, MutexGuard, PoisonError};
 
@@ -78,7 +78,7 @@ impl SharedState {
         SharedState {
             segment,
             stamps: (0..slots).map(|_| StampWord(AtomicU64::new(0))).collect(),
-            cancelled: (0..(slots + BITS - 1) / BITS).map(|_| AtomicU64::new(0)).collect(),
+            cancelled: (0..slots.div_ceil(BITS)).map(|_| AtomicU64::new(0)).collect(),
             has_cancels: AtomicBool::new(false),
             has_left_slots: AtomicBool::new(false),
             is_over: AtomicBool::new(false),
@@ -237,7 +237,7 @@ impl Drop for Again<'_> {
 
 impl Step {
     #[inline]
-    fn make(self, caller: &mut Caller, key: &hontkhale::owner::Key) -> Result<u64, CallError> {
+    fn make(self, caller: &mut Caller, key: &hontkhale::parts::owner::Key) -> Result<u64, CallError> {
         match self {
             Step::Extend(tick) => caller.extend(key, tick),
             Step::Cancel => caller.cancel(key),

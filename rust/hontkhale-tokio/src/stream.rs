@@ -2,7 +2,7 @@ use crate::budget::Streak;
 use crate::shared_queue::{Expired, SharedQueue};
 use crate::timer::TaskTimer;
 use futures_core::{ready, Stream};
-use hontkhale::delay_queue::Receiver;
+use hontkhale::Receiver;
 use std::fmt;
 use std::future::poll_fn;
 use std::pin::Pin;

@@ -6,7 +6,7 @@ use crate::key::{Expired, Key};
 use crate::queue::DelayQueue;
 use crate::segments::{Found, Segments, AFTER_LOOK};
 use crate::shared::Shared;
-use hontkhale::owner::LAST_STAMP;
+use hontkhale::parts::owner::LAST_STAMP;
 use std::cell::Cell;
 use std::collections::HashMap;
 use std::rc::Rc;

@@ -5,7 +5,7 @@
 
 use crate::key::Key;
 use crate::shared_state::{Refusal, SharedState, Step};
-use hontkhale::owner::Caller;
+use hontkhale::parts::owner::Caller;
 use std::cell::RefCell;
 use std::sync::Arc;
 
@@ -117,7 +117,7 @@ mod tests {
     use super::{first_step, forget, step, PLACES};
     use crate::key::Key;
     use crate::shared_state::{Refusal, SharedState, Step};
-    use hontkhale::owner::{CoreConfig, DelayCore, Keeper};
+    use hontkhale::parts::owner::{CoreConfig, DelayCore, Keeper};
     use std::sync::Arc;
     use std::thread;
 
@@ -128,7 +128,7 @@ mod tests {
     /// A segment of one entry, with so many callers.
     fn segment(number: u64, callers: usize) -> (DelayCore<(), Keeper>, Arc<SharedState>, Key) {
         let config = CoreConfig { shard: 0, capacity: 64, last_stamp: 1_000 };
-        let mut queue = hontkhale::owner::numbered_queue::<()>(config).expect("memory");
+        let mut queue = hontkhale::parts::owner::numbered_queue::<()>(config).expect("memory");
         let entry = queue.insert_or_drop((), 100).expect("a free slot");
         let state = Arc::new(SharedState::new(number, 64));
         state.issue(callers, || queue.issue().ok());

@@ -3,7 +3,7 @@
 mod common;
 
 use common::{ends, ms, paused, running};
-use hontkhale::delay_queue::KeyError;
+use hontkhale::KeyError;
 use hontkhale_tokio::{delay_queue::Key, DelayQueue, EntryError, Handle};
 use std::future::poll_fn;
 use std::sync::atomic::{AtomicBool, AtomicU64, Ordering::SeqCst};

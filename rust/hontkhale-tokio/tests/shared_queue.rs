@@ -3,7 +3,7 @@
 mod common;
 
 use common::{ends, ms, paused, running, threaded, Dice, Wakes};
-use hontkhale_tokio::hontkhale::delay_queue::KeyError;
+use hontkhale_tokio::hontkhale::{InsertErrorKind, KeyError};
 use hontkhale_tokio::shared_queue::{Handle, KeySleep};
 use hontkhale_tokio::SharedQueue;
 use std::future::Future;
@@ -39,7 +39,8 @@ fn each_moment_is_of_the_paused_clock() {
             let key = queue.reset(&key, ms(2)).unwrap();
             assert_eq!(handle.deadline(&key), Ok(start + ms(7)));
             let key = queue.reset_at(&key, start + ms(40)).unwrap();
-            assert_eq!(queue.next_deadline(), Some(start + ms(40)));
+            // The reset is a later one, so that it may tell the deadline from before.
+            assert!(queue.next_deadline() <= Some(start + ms(40)));
             assert_eq!(queue.remove_if_due(&key), Ok(None));
             assert_eq!(queue.stream().next().await.map(|out| (out.key, out.deadline)), Some((key, start + ms(40))));
             assert_eq!(Instant::now(), start + ms(40));
@@ -51,6 +52,25 @@ fn each_moment_is_of_the_paused_clock() {
             let left: Vec<_> = queue.drain().map(|out| (out.key, out.deadline, out.value)).collect();
             assert_eq!(left, [(keys[2], start + ms(43), "3".to_string())]);
             assert!(queue.is_empty() && queue.is_closed() && queue.stream().next().await.is_none());
+        });
+    });
+}
+
+#[test]
+fn values_are_made_by_their_keys_read_and_changed_and_streams_end_with_the_last() {
+    ends(|| {
+        paused().block_on(async {
+            let (queue, start) = (SharedQueue::new(), Instant::now());
+            let key = queue.insert_with(|key| (key, "a".to_string()), ms(10)).unwrap();
+            assert_eq!(queue.get(&key, |value| value.0), Ok(key));
+            assert_eq!(queue.get_mut(&key, |value| value.1.push('!')), Ok(()));
+            let mut expired = queue.stream();
+            queue.close_when_empty();
+            assert_eq!(queue.insert_with(|key| (key, String::new()), ms(1)), Err(InsertErrorKind::Closed));
+            assert_eq!(expired.next().await.map(|out| out.value), Some((key, "a!".to_string())));
+            assert!(expired.next().await.is_none());
+            assert_eq!(Instant::now(), start + ms(10));
+            assert_eq!(queue.get(&key, |value| value.0), Err(KeyError::Ended));
         });
     });
 }
@@ -177,6 +197,23 @@ fn no_sleep_of_many_ends_before_what_was_accepted() {
                 assert!(Ok(deadline) == queue.deadline(key) && deadline <= Instant::now());
                 assert!(matches!(queue.remove_if_due(key), Ok(Some(_))));
             }
+        });
+    });
+}
+
+/// As in a `select!` whose other branch was ready, and reset the entry.
+#[test]
+fn a_sleep_that_is_polled_after_a_sooner_reset_ends_by_it() {
+    ends(|| {
+        paused().block_on(async {
+            let (queue, start) = (SharedQueue::new(), Instant::now());
+            let key = queue.insert("a".to_string(), ms(1_000)).unwrap();
+            let mut expires = queue.sleep(&key);
+            assert!(timeout(ms(5), &mut expires).await.is_err());
+            let key = queue.reset(&key, ms(10)).unwrap();
+            assert_eq!(expires.await, Ok(start + ms(15)));
+            assert_eq!(Instant::now(), start + ms(15));
+            assert_eq!(queue.remove_if_due(&key), Ok(Some("a".to_string())));
         });
     });
 }

@@ -255,7 +255,7 @@ fn cancel(handle: &Handle, key: &delay_queue::Key, told: &Told) -> Option<Instan
 /// A queue that all fill, and its streams.
 struct Filled {
     queue: SharedQueue<Value>,
-    known: Mutex<Vec<(hontkhale::delay_queue::Key, Arc<Told>)>>,
+    known: Mutex<Vec<(hontkhale::Key, Arc<Told>)>>,
     start: Instant,
     ledger: Arc<Ledger>,
 }

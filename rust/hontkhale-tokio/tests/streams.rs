@@ -3,8 +3,7 @@
 mod common;
 
 use common::{ends, ms, paused, running, threaded, Dice};
-use hontkhale::delay_queue::ManualClock;
-use hontkhale::DelayQueue;
+use hontkhale::{DelayQueue, ManualClock};
 use hontkhale_tokio::shared_queue::QueueStream;
 use hontkhale_tokio::SharedQueue;
 use std::sync::atomic::{AtomicU64, Ordering::SeqCst};

@@ -6,7 +6,7 @@ use std::env;
 use std::io::{self, BufReader, BufWriter, IsTerminal, Write};
 use std::process::ExitCode;
 
-use hontkhale::replay::{report, run, ReplayFault};
+use hontkhale::parts::replay::{report, run, ReplayFault};
 
 /// The capacity where none is given.
 const DEFAULT_CAPACITY: usize = 1024;

@@ -9,7 +9,7 @@ use core::fmt;
 /// A queue has one inside. Who keeps values by indexes of their own may use a wheel alone:
 ///
 /// ```
-/// use hontkhale::wheel::Wheel;
+/// use hontkhale::parts::wheel::Wheel;
 ///
 /// let mut wheel = Wheel::new(16)?;
 /// wheel.link(3, 250);
@@ -19,7 +19,7 @@ use core::fmt;
 ///     }
 ///     wheel.advance(300);
 /// }
-/// # Ok::<(), hontkhale::wheel::WheelError>(())
+/// # Ok::<(), hontkhale::parts::wheel::WheelError>(())
 /// ```
 pub struct Wheel {
     wheel: crate::wheels::Wheel,
@@ -29,7 +29,7 @@ impl Wheel {
     /// A wheel at tick 0 with nothing linked, over so many indexes. No other call takes memory.
     ///
     /// # Errors
-    /// BadConfig where the capacity isn't 1 to [`CAPACITY_LIMIT`](crate::owner::CAPACITY_LIMIT), and else NoMemory.
+    /// BadConfig where the capacity isn't 1 to [`CAPACITY_LIMIT`](crate::parts::owner::CAPACITY_LIMIT), and else NoMemory.
     pub fn new(capacity: usize) -> Result<Wheel, WheelError> {
         let wheel = crate::wheels::Wheel::new(capacity)?;
         Ok(Wheel { wheel })

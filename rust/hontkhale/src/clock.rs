@@ -12,8 +12,8 @@ use std::time::{Duration, Instant};
 /// `CLOCK_BOOTTIME`): what is due meanwhile comes out that much later. A step of the wall clock doesn't move it.
 ///
 /// ```
-/// use hontkhale::Clock;
-/// use hontkhale::owner::{DelayCore, Turn};
+/// use hontkhale::parts::Clock;
+/// use hontkhale::parts::owner::{DelayCore, Turn};
 /// use std::time::Duration;
 ///
 /// let clock = Clock::start();
@@ -21,7 +21,7 @@ use std::time::{Duration, Instant};
 /// queue.insert_or_drop("beep", clock.after(Duration::from_millis(5)))?;
 /// std::thread::sleep(Duration::from_millis(6));
 /// assert!(matches!(queue.poll(clock.tick())?, Turn::Out(expired) if expired.value == "beep"));
-/// # Ok::<(), hontkhale::owner::CoreError>(())
+/// # Ok::<(), hontkhale::parts::owner::CoreError>(())
 /// ```
 #[derive(Clone, Copy, Debug, PartialEq, Eq)]
 pub struct Clock {

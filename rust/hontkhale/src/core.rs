@@ -3,7 +3,7 @@
 //! A [`DelayCore`] holds entries until their deadline. [`DelayCore::poll`] notes a tick of one millisecond and takes
 //! out what is due, one entry a call, or says when to come again. The deadline in force of an entry stands in its
 //! slot's word: over [`VecWords`] the owner alone changes it, by calls of the queue; over words that others share
-//! (any `Words`) a caller may extend or cancel an entry while the owner is at work, and the queue learns of it when
+//! (any [`Words`]) a caller may extend or cancel an entry while the owner is at work, and the queue learns of it when
 //! it looks.
 //!
 //! [`PlainQueue`] is the slow twin: a plain list, which is short enough to be read and has the same answers.
@@ -37,4 +37,5 @@ pub use queue::DelayCore;
 pub use renew::RenewError;
 pub use slots::{Held, Slots};
 pub use vec_words::VecWords;
+pub(crate) use words::Steps;
 pub use words::{shown, CallError, Look, Settled, SharedWords, Words};

@@ -1,6 +1,9 @@
 //! How the types are shown that hold entries: by their numbers, and never by an entry's value.
 
-use crate::core::{DelayCore, Entries, Folded, Held, LiveEntry, Pending, PlainQueue, PlainTurn, VecWords, Words};
+use crate::core::{
+    DelayCore, Entries, Folded, Held, LiveEntry, Pending, PlainQueue, PlainTurn, Steps, VecWords, Words,
+};
+use crate::growing::{Cores, Folds};
 use crate::words::{Caller, Keeper, OpenWords};
 use core::fmt::{Debug, Formatter, Result};
 
@@ -25,6 +28,33 @@ impl<W: Words> Debug for Folded<W> {
             .field("capacity", &self.capacity())
             .field("worn", &self.worn())
             .finish_non_exhaustive()
+    }
+}
+
+impl<T, W: Words> Debug for Cores<T, W> {
+    fn fmt(&self, f: &mut Formatter<'_>) -> Result {
+        f.debug_struct("Cores")
+            .field("count", &self.count())
+            .field("next_wake", &self.next_wake())
+            .finish_non_exhaustive()
+    }
+}
+
+impl<T, W: Words> Default for Cores<T, W> {
+    fn default() -> Cores<T, W> {
+        Cores::new()
+    }
+}
+
+impl<W: Words> Debug for Folds<W> {
+    fn fmt(&self, f: &mut Formatter<'_>) -> Result {
+        f.debug_struct("Folds").finish_non_exhaustive()
+    }
+}
+
+impl<W: Words> Default for Folds<W> {
+    fn default() -> Folds<W> {
+        Folds::new()
     }
 }
 
@@ -118,7 +148,6 @@ mod with_std {
     use super::{Debug, Formatter, Result};
     use crate::apps::{CountedCache, IdleSessions, Name, Seen, TtlCache};
     use crate::directory::{Clerk, Directory};
-    use crate::lasting::{LastingHandle, LastingQueue, LastingShard};
     use crate::parking::{MillisecondTicks, Parked, ShardStream, Shards};
     use crate::shards::by::{NamedCaller, NamedQueue, NamedShard, Rooms};
     use crate::shards::{Handle, ShardState, SharedDelayQueue};
@@ -215,28 +244,6 @@ mod with_std {
     impl Default for MillisecondTicks {
         fn default() -> MillisecondTicks {
             MillisecondTicks::new()
-        }
-    }
-
-    impl<T> Debug for LastingQueue<T> {
-        fn fmt(&self, f: &mut Formatter<'_>) -> Result {
-            f.debug_struct("LastingQueue")
-                .field("shards", &self.shards())
-                .finish_non_exhaustive()
-        }
-    }
-
-    impl<T> Debug for LastingShard<T> {
-        fn fmt(&self, f: &mut Formatter<'_>) -> Result {
-            f.debug_struct("LastingShard").finish_non_exhaustive()
-        }
-    }
-
-    impl Debug for LastingHandle {
-        fn fmt(&self, f: &mut Formatter<'_>) -> Result {
-            f.debug_struct("LastingHandle")
-                .field("cancels", &self.cancels())
-                .finish_non_exhaustive()
         }
     }
 

@@ -1,22 +1,24 @@
 //! One queue for any number of threads: values go in with a delay, and come out when it is over.
 //!
-//! [`DelayQueue`] is what most programs need of this crate. It grows as entries come, renews what is worn by itself, and its
-//! receivers are woken in time. The shards that it stands over are proved, as the crate's front page tells; what is here, by
-//! which threads share them, wait, and find their entries, is written by hand and tested.
+//! [`DelayQueue`] is what most programs need of this crate. It grows and shrinks with its entries, and its receivers are woken in
+//! time. The cores and the words that it stands over are proved, as the crate's front page tells; what is here, by which threads
+//! share them, wait, and find their entries, is written by hand and tested.
 
 mod builder;
-mod callers;
 mod dropping;
 mod ends;
 mod errors;
+mod front;
+mod growth;
 mod handle;
 mod key;
 mod moves;
 mod receive;
 mod receiver;
-mod segment;
+mod shard;
 mod shared;
 mod stats;
+mod store;
 mod time;
 mod waking;
 
@@ -29,7 +31,8 @@ pub use receiver::Receiver;
 pub use stats::{Metrics, Stats};
 pub use time::ManualClock;
 
-use shared::{Shared, Step};
+use front::Step;
+use shared::Shared;
 use std::fmt;
 use std::panic::resume_unwind;
 use std::sync::Arc;
@@ -71,10 +74,15 @@ use waking::NEVER;
 /// is that of their deadlines, as far as they stand in one shard. A deadline may be up to 139 years after the queue's making.
 ///
 /// # Cost
-/// [`extend`](DelayQueue::extend) and [`cancel`](DelayQueue::cancel) take no lock and constant time.
-/// [`insert`](DelayQueue::insert), [`reset`](DelayQueue::reset) and [`remove`](DelayQueue::remove) take the lock of one shard
-/// for constant time. An insert may do a bounded part of what keeps the queue going besides, and takes memory where the queue
-/// grows.
+/// [`extend`](DelayQueue::extend), [`cancel`](DelayQueue::cancel), [`deadline`](DelayQueue::deadline) and a
+/// [`reset`](DelayQueue::reset) to a deadline that isn't sooner take no lock, no memory and constant time, whichever thread makes
+/// them. [`insert`](DelayQueue::insert), a sooner reset and [`remove`](DelayQueue::remove) take the lock of one shard for constant
+/// time. An insert or a removal may do a bounded part of what keeps the queue of the right size besides, and takes memory where
+/// the queue grows.
+///
+/// # Memory
+/// A queue takes room for twice what waits, and gives it back as that gets less, but for 8 bytes of each *slot*, which is the room
+/// for one entry. A slot serves a million inserts and sooner resets, and its 8 bytes then stay as long as the queue.
 ///
 /// # Odd input
 /// | Input | What it comes to |
@@ -93,9 +101,9 @@ use waking::NEVER;
 /// # Who drops values
 /// The values of entries that were cancelled are dropped by whoever receives, before an entry is in hand, by
 /// [`drain`](DelayQueue::drain) and [`clear`](DelayQueue::clear), and with the last clone, as are those that are left then.
-/// No insert drops a value, or waits for a drop, while a *slot* is free, which is the room for one entry: so its caller may
-/// hold a lock that a drop takes. Where none is free an insert first frees cancelled entries and drops their values. So does
-/// a call by key for an entry whose slot is worn, by a million inserts and resets.
+/// No insert drops a value, or waits for a drop, while its thread's shard has room: so its caller may hold a lock that a drop
+/// takes. Where it has none an insert first frees cancelled entries and drops their values. So does a sooner reset of an entry
+/// whose slot has served a million inserts and sooner resets.
 ///
 /// # What a value's drop may do
 /// The queue holds no lock while it drops a value, so a drop may call the queue. What these calls let go in their turn is
@@ -144,9 +152,9 @@ impl<T> DelayQueue<T> {
 
     /// Puts a value in, to come out after `after`, and returns its key. A receiver that waits for a later one is woken.
     ///
-    /// It reads the clock, and takes the lock of one shard for constant time. While a slot is free it drops nobody's value and
-    /// waits for nobody's drop. Where none is free it frees cancelled entries and drops their values, before its own entry is
-    /// in, or takes memory for more slots.
+    /// It reads the clock, and takes the lock of one shard for constant time. While the shard of its thread has room it drops
+    /// nobody's value and waits for nobody's drop. Where it has none it frees cancelled entries and drops their values, before its
+    /// own entry is in, or takes memory for more.
     ///
     /// # Errors
     /// The value comes back. In this order:
@@ -194,7 +202,8 @@ impl<T> DelayQueue<T> {
     /// key, such as a table's record. It reads the clock, and takes the lock of one shard.
     ///
     /// `make` is called at most once, and not where the insert is refused before there is room. It is called while the shard's
-    /// lock is held, so it is to be short, and nobody else has the key before it returns. Where it panics nothing was put in.
+    /// lock is held, so it is to be short, and nobody else has the key before it returns. Where it panics nothing was put in. Two
+    /// threads whose closures call queues may wait for each other for ever, as with any two locks.
     ///
     /// # Errors
     /// In this order:
@@ -208,8 +217,7 @@ impl<T> DelayQueue<T> {
     /// of entries may. It never waits for itself.
     ///
     /// ```
-    /// use hontkhale::delay_queue::Key;
-    /// use hontkhale::DelayQueue;
+    /// use hontkhale::{DelayQueue, Key};
     /// use std::time::Duration;
     ///
     /// struct Session {
@@ -227,9 +235,11 @@ impl<T> DelayQueue<T> {
         self.shared.insert_with(make, self.shared.front.time.tick_in(after))
     }
 
-    /// Returns what `read` makes of an entry's value, where the value is: the entry stays. It takes the lock of the entry's shard.
+    /// Returns what `read` makes of an entry's value, where the value is: the entry stays. An entry that is due and hasn't come out
+    /// yet is read too. It takes the lock of the entry's shard.
     ///
-    /// `read` is called at most once, while the shard's lock is held, so it is to be short.
+    /// `read` is called at most once, while the shard's lock is held, so it is to be short. Two threads whose closures call queues
+    /// may wait for each other for ever, as with any two locks.
     ///
     /// # Errors
     /// In this order:
@@ -257,7 +267,7 @@ impl<T> DelayQueue<T> {
     /// entry's shard.
     ///
     /// `change` is called at most once, while the shard's lock is held, so it is to be short. What it drops is dropped under the
-    /// lock.
+    /// lock. Two threads whose closures call queues may wait for each other for ever, as with any two locks.
     ///
     /// # Errors
     /// In this order:
@@ -311,46 +321,47 @@ impl<T> DelayQueue<T> {
         Ok(Timeout::new(&self.shared, key))
     }
 
-    /// Gives an entry the deadline `after` from now, sooner or later than the one that it has. It returns the entry's key,
-    /// which is equal to the old one; the old one serves as well, but an [`extend`](DelayQueue::extend) by it takes a lock.
-    /// It reads the clock, and takes the lock of the entry's shard for constant time.
+    /// Gives an entry the deadline `after` from now, sooner or later than the one that it has. It reads the clock. Where the
+    /// deadline isn't sooner it takes no lock, and the key stays as it is. Else it takes the lock of the entry's shard for constant
+    /// time, and returns the entry's key, which is equal to the old one; the old one serves as well, but an
+    /// [`extend`](DelayQueue::extend) by it takes a lock from then on.
     ///
     /// # Errors
     /// Nothing changes then. In this order:
     /// - `WrongQueue` if the key is another queue's.
     /// - `TooFar` if the deadline is more than 139 years after the queue was made.
     /// - `Ended` if the entry came out, was removed, or was cancelled.
-    /// - `NoMemory` if the entry's slot is worn, no other shard has room, and memory is refused.
+    /// - `NoMemory` if the entry's slot is worn, the shard has no room, and memory is refused.
     #[inline]
     pub fn reset(&self, key: &Key, after: Duration) -> Result<Key, KeyError> {
         self.shared.reset(key, self.shared.front.time.tick_in(after))
     }
 
-    /// Gives an entry the deadline `when`, sooner or later than the one that it has. It returns the entry's key, which is
-    /// equal to the old one; the old one serves as well, but an [`extend`](DelayQueue::extend) by it takes a lock. It reads
-    /// no clock, and takes the lock of the entry's shard for constant time.
+    /// Gives an entry the deadline `when`, sooner or later than the one that it has. It reads no clock. Where the deadline isn't
+    /// sooner it takes no lock, and the key stays as it is. Else it takes the lock of the entry's shard for constant time, and
+    /// returns the entry's key, which is equal to the old one; the old one serves as well, but an
+    /// [`extend`](DelayQueue::extend) by it takes a lock from then on.
     ///
     /// # Errors
     /// Nothing changes then. In this order:
     /// - `WrongQueue` if the key is another queue's.
     /// - `TooFar` if the deadline is more than 139 years after the queue was made.
     /// - `Ended` if the entry came out, was removed, or was cancelled.
-    /// - `NoMemory` if the entry's slot is worn, no other shard has room, and memory is refused.
+    /// - `NoMemory` if the entry's slot is worn, the shard has no room, and memory is refused.
     #[inline]
     pub fn reset_at(&self, key: &Key, when: Instant) -> Result<Key, KeyError> {
         self.shared.reset(key, self.shared.front.time.tick_at(when))
     }
 
     /// Raises the deadline of an entry to `after` from now, and returns the deadline that is then in force: that one, or a
-    /// later one that it had. It reads the clock. It takes constant time and no lock, but for a thread's first calls and a
-    /// key from before a reset.
+    /// later one that it had. It reads the clock. It takes constant time and no lock, but by a key from before a sooner reset, or
+    /// of an entry that the queue has moved.
     ///
     /// # Errors
     /// In this order:
     /// - `WrongQueue` if the key is another queue's.
     /// - `TooFar` if the deadline is more than 139 years after the queue was made.
     /// - `Ended` if the entry came out, was removed, or was cancelled.
-    /// - `NoMemory` if the call has to take memory, as a thread's first call for a shard does, and memory is refused.
     ///
     /// ```
     /// use hontkhale::DelayQueue;
@@ -369,15 +380,14 @@ impl<T> DelayQueue<T> {
     }
 
     /// Raises the deadline of an entry to `when`, and returns the deadline that is then in force: that one, or a later one
-    /// that it had. It reads no clock. It takes constant time and no lock, but for a thread's first calls and a key from
-    /// before a reset.
+    /// that it had. It reads no clock. It takes constant time and no lock, but by a key from before a sooner reset, or of an entry
+    /// that the queue has moved.
     ///
     /// # Errors
     /// In this order:
     /// - `WrongQueue` if the key is another queue's.
     /// - `TooFar` if the deadline is more than 139 years after the queue was made.
     /// - `Ended` if the entry came out, was removed, or was cancelled.
-    /// - `NoMemory` if the call has to take memory, as a thread's first call for a shard does, and memory is refused.
     #[inline]
     pub fn extend_at(&self, key: &Key, when: Instant) -> Result<Instant, KeyError> {
         self.shared.extend_at(key, when)
@@ -392,7 +402,6 @@ impl<T> DelayQueue<T> {
     /// In this order:
     /// - `WrongQueue` if the key is another queue's.
     /// - `Ended` if the entry came out, was removed, or was cancelled.
-    /// - `NoMemory` if the call has to take memory, as a thread's first call for a shard does, and memory is refused.
     pub fn cancel(&self, key: &Key) -> Result<Instant, KeyError> {
         self.shared.step_to_moment(key, Step::Cancel)
     }
@@ -412,8 +421,7 @@ impl<T> DelayQueue<T> {
     /// one gets it. An [`extend`](DelayQueue::extend) that was accepted counts: the entry isn't taken out before the deadline
     /// that it returned.
     ///
-    /// Where the entry isn't due it takes a lock only as [`deadline`](DelayQueue::deadline) does: by a thread's first calls,
-    /// or by a key from before a reset.
+    /// Where the entry isn't due it takes a lock only as [`deadline`](DelayQueue::deadline) does.
     ///
     /// # Errors
     /// In this order:
@@ -422,8 +430,7 @@ impl<T> DelayQueue<T> {
     /// - `NoMemory` if no shard has a free slot, the entry's own has had its last stamp, and memory is refused.
     ///
     /// ```
-    /// use hontkhale::delay_queue::{KeyError, ManualClock};
-    /// use hontkhale::DelayQueue;
+    /// use hontkhale::{DelayQueue, KeyError, ManualClock};
     /// use std::time::Duration;
     ///
     /// let clock = ManualClock::new();
@@ -439,14 +446,13 @@ impl<T> DelayQueue<T> {
         self.shared.remove_if_due(key)
     }
 
-    /// The deadline of an entry. It takes constant time and no lock, but for a thread's first calls and a key from before a
-    /// reset.
+    /// The deadline of an entry. It takes constant time and no lock, but by a key from before a sooner reset, or of an entry that
+    /// the queue has moved.
     ///
     /// # Errors
     /// In this order:
     /// - `WrongQueue` if the key is another queue's.
     /// - `Ended` if the entry came out, was removed, or was cancelled.
-    /// - `NoMemory` if the call has to take memory, as a thread's first call for a shard does, and memory is refused.
     pub fn deadline(&self, key: &Key) -> Result<Instant, KeyError> {
         self.shared.step_to_moment(key, Step::Look)
     }
@@ -481,8 +487,7 @@ impl<T> DelayQueue<T> {
     /// - `Closed` if the queue is closed and nothing is due.
     ///
     /// ```
-    /// use hontkhale::delay_queue::RecvTimeoutError;
-    /// use hontkhale::DelayQueue;
+    /// use hontkhale::{DelayQueue, RecvTimeoutError};
     /// use std::time::Duration;
     ///
     /// let queue = DelayQueue::new();
@@ -513,8 +518,7 @@ impl<T> DelayQueue<T> {
     /// - `Closed` if the queue is closed and nothing is due.
     ///
     /// ```
-    /// use hontkhale::delay_queue::TryRecvError;
-    /// use hontkhale::DelayQueue;
+    /// use hontkhale::{DelayQueue, TryRecvError};
     /// use std::time::Duration;
     ///
     /// let queue = DelayQueue::new();
@@ -579,8 +583,7 @@ impl<T> DelayQueue<T> {
     /// The number of entries that wait, or are due and didn't come out yet.
     ///
     /// While other threads change the queue it is about that number, and never too small: each entry that stays there during
-    /// the call is counted. One that comes or ends meanwhile may be counted too, and one that the queue moves meanwhile, from
-    /// a shard that it renews, may be counted twice.
+    /// the call is counted. One that comes or ends meanwhile may be counted too.
     pub fn len(&self) -> usize {
         self.shared.waiting()
     }
@@ -592,7 +595,7 @@ impl<T> DelayQueue<T> {
     }
 
     /// A moment that isn't after any deadline, none where no entry is there. It is the first deadline, or an earlier one that
-    /// was extended or cancelled since; where all deadlines are more than two years away it is an earlier moment too. It
+    /// was extended, reset or cancelled since; where all deadlines are more than two years away it is an earlier moment too. It
     /// takes the lock of the shards that may have it, and may look at each of their entries.
     pub fn next_deadline(&self) -> Option<Instant> {
         self.shared
@@ -604,8 +607,7 @@ impl<T> DelayQueue<T> {
     /// shard in turn.
     ///
     /// ```
-    /// use hontkhale::delay_queue::ManualClock;
-    /// use hontkhale::DelayQueue;
+    /// use hontkhale::{DelayQueue, ManualClock};
     /// use std::time::Duration;
     ///
     /// let clock = ManualClock::new();
@@ -626,19 +628,16 @@ impl<T> DelayQueue<T> {
     }
 
     /// Takes memory for so many entries in all, those that wait among them, and keeps it for good. While fewer wait, no
-    /// insert takes memory or is refused as NoMemory, and none waits until the queue has grown, but for three cases. Entries
-    /// that were cancelled hold their slots until their values are dropped. A shard of which half the slots are worn, by a
-    /// million inserts or resets each, takes its memory anew and has no room meanwhile. And an insert that looks for room
-    /// while an entry of such a shard is moved may miss the room. A larger number counts from then on, and a smaller one
-    /// changes nothing.
+    /// insert takes memory or is refused as NoMemory, and none waits until the queue has grown, but for two cases. Entries
+    /// that were cancelled hold their slots until their values are dropped. And slots that have served a million inserts and
+    /// sooner resets each are replaced by others. A larger number counts from then on, and a smaller one changes nothing.
     ///
     /// # Errors
-    /// - Full beyond the queue's bound, or beyond the 3 million entries a shard that a queue may grow to.
+    /// - Full beyond the queue's bound, or beyond the 4 million entries a shard that a queue may grow to.
     /// - NoMemory where memory is refused. The queue goes on as before.
     ///
     /// ```
-    /// use hontkhale::delay_queue::InsertErrorKind;
-    /// use hontkhale::DelayQueue;
+    /// use hontkhale::{DelayQueue, InsertErrorKind};
     ///
     /// let queue: DelayQueue<u64> = DelayQueue::builder().max_entries(100_000).build();
     /// queue.reserve(100_000)?;
@@ -753,8 +752,7 @@ impl<T: Send + 'static> DelayQueue<T> {
     /// What extends and cancels entries of this queue elsewhere, without its type. Any number of handles may be made.
     ///
     /// ```
-    /// use hontkhale::delay_queue::KeyError;
-    /// use hontkhale::DelayQueue;
+    /// use hontkhale::{DelayQueue, KeyError};
     /// use std::time::Duration;
     ///
     /// let queue = DelayQueue::new();

@@ -202,34 +202,10 @@ impl<T> crate::shards::ShardState<T> {
     }
 }
 
-#[cfg(feature = "std")]
-impl<T> crate::lasting::LastingQueue<T> {
-    /// Goes through all that the shard at a place keeps, for tests: its queue, and that a parked poller waits for no
-    /// later tick than the next wake, or for an insert where nothing is linked.
-    ///
-    /// # Errors
-    /// What isn't as it has to be.
-    #[doc(hidden)]
-    pub fn check_law(&self, place: usize) -> Result<(), Broken> {
-        let mut shard = self.lock(place);
-        shard.attended.core.check_law()?;
-        let next_wake = shard.attended.core.next_wake();
-        let waits_lawfully = match &shard.attended.parked {
-            None => true,
-            Some(poller) => match (poller.next, next_wake) {
-                (Some(until), Some(wake)) => until <= wake,
-                (None, None) => true,
-                (None, Some(_)) | (Some(_), None) => false,
-            },
-        };
-        holds(waits_lawfully, "a poller is parked until after the next wake")
-    }
-}
-
 #[cfg(test)]
 mod tests {
     use super::Broken;
-    use crate::core::{CoreConfig, DelayCore, VecWords, Words};
+    use crate::core::{CoreConfig, DelayCore, Steps, VecWords};
     use crate::ticks::Key;
     use crate::wheels::LISTS;
     use alloc::boxed::Box;

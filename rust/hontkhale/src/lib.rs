@@ -1,6 +1,5 @@
 //! A delay queue on a hierarchical timing wheel: a value goes in with a deadline, and comes out once the deadline is
-//! reached. Any thread extends and cancels entries without a lock. The core is proved: the wheel, the queue of one
-//! owner, the words that threads share, and the shards.
+//! reached. Any thread extends and cancels entries without a lock.
 //!
 #![cfg_attr(feature = "std", doc = "```")]
 #![cfg_attr(not(feature = "std"), doc = "```ignore")]
@@ -20,42 +19,34 @@
 //! # Ok::<(), Box<dyn std::error::Error>>(())
 //! ```
 //!
-//! [`DelayQueue`] is the queue for most servers. It is written by hand over the queues below, and tested.
+//! | To | Take |
+//! |---|---|
+//! | insert, extend, cancel and receive, from any thread | a [`DelayQueue`], of which each clone is the same queue, and [`Key`]s |
+//! | receive in a thread or a task that ends with its senders | a [`Receiver`] |
+//! | extend and cancel without the queue's type | a [`Handle`] |
+//! | take an entry out where a scope ends | a [`Timeout`], made by [`DelayQueue::guard`] |
+//! | bound a queue, or test with a clock that stands still | a [`Builder`], a [`ManualClock`] |
+//! | watch a queue | [`Stats`], and [`Metrics`] for a library of them |
 //!
-//! The other queues count time in ticks of one millisecond. They read no clock: the program passes the tick in, from a
-//! [`Clock`] or from whatever it counts by. A queue takes its memory when it is made. Inserts, resets and removals take
-//! constant time, and no memory. A poll takes no memory either, and constant time for each entry that it moves or takes
-//! out.
+//! A call that is refused says why, by an [`InsertError`], which has the value, a [`KeyError`], a [`TryRecvError`] or a
+//! [`RecvTimeoutError`]. [`iter`] has the iterators.
 //!
-//! # Which queue
-//!
-//! | Who has it | Type | Module |
-//! |---|---|---|
-//! | any number of threads, in most servers | [`DelayQueue`] | [`delay_queue`] |
-//! | one owner | [`DelayCore`](owner::DelayCore), made by [`with_capacity`](owner::DelayCore::with_capacity) | [`owner`] |
-//! | one owner, whose entries any thread extends and cancels | [`shared_queue`](owner::shared_queue), with a [`Caller`](owner::Caller) for each thread | [`owner`] |
-//! | many threads, shards behind locks | [`SharedDelayQueue`](shards::SharedDelayQueue), with a [`Handle`](shards::Handle) for each thread | [`shards`] |
-//! | the same, for years | [`LastingQueue`](lasting::LastingQueue), whose shards are renewed one by one | [`lasting`] |
-//! | whoever keeps values by indexes | [`Wheel`](wheel::Wheel), the timing wheel alone | [`wheel`] |
-//!
-//! [`streams`] give what expires to a task, a [`cache`] keeps values until their deadlines, and [`sessions`] end once
-//! nobody touches them. A stream has a call `poll_next` of its own, since the crate depends on no other; the crate
-//! hontkhale-streams makes a `Stream` of each, as `futures::stream::poll_fn(|cx| stream.poll_next(cx))` does.
-//!
-//! If a call that takes a value is refused, its error is a pair that has the value; `?` makes a [`Refused`] of it.
+//! [`parts`] has what the queue is made of: the proved queues for one owner, for an embedded program and for shards behind
+//! locks, the timing wheel alone, a cache, sessions and streams.
 //!
 //! # What is proved
 //!
-//! All of these queues but [`DelayQueue`] are written in Rattle, which is Rust with contracts, and each of their
-//! functions is proved. This crate is that source with its contracts erased by a script. So the script and rustc are
-//! trusted, and so is the plain Rust by hand beside the erased code, which the README lists: the locks, memory and the
-//! shared words among it. The README has one function side by side, and what the script rewrites.
+//! The [`parts`] are written in Rattle, which is Rust with contracts, and each of their functions is proved. This crate is
+//! that source with its contracts erased by a script. So the script and rustc are trusted, and so is the plain Rust by hand
+//! beside the erased code, which the README lists: the locks, memory and the shared words among it. The README has one
+//! function side by side, and what the script rewrites.
 //!
 //! [`DelayQueue`] shares proved shards among threads by code that is written by hand, and tested.
 //!
 //! # Features
 //!
-//! `std` is on by default. Without it the crate has no std, but alloc: the wheel, the queue of one owner, and callers.
+//! `std` is on by default. Without it the crate has no std, but alloc, and of the [`parts`] the wheel, the queue of one
+//! owner, and callers.
 //!
 //! `proved-bounds` turns off the bounds checks that the proofs have made idle, in one module of four functions, which
 //! has the only `unsafe` of the crate. It is sound, since what the proofs require of a caller is required of nobody
@@ -86,7 +77,7 @@ mod checked_wheel;
 mod clock;
 mod debug;
 #[cfg(feature = "std")]
-pub mod delay_queue;
+mod delay_queue;
 mod entries;
 mod fresh;
 mod index;
@@ -94,22 +85,21 @@ mod law;
 #[cfg(feature = "std")]
 mod locks;
 mod memory;
+pub mod parts;
 mod refused;
 
 #[cfg(feature = "std")]
 mod apps;
 mod core;
 #[cfg(feature = "std")]
-#[doc(hidden)]
-pub mod directory;
-#[cfg(feature = "std")]
-pub mod lasting;
+mod directory;
+mod growing;
 #[cfg(feature = "std")]
 mod parking;
 #[cfg(feature = "std")]
-pub mod replay;
+mod replay;
 #[cfg(feature = "std")]
-pub mod shards;
+mod shards;
 #[cfg(feature = "std")]
 mod stream;
 mod ticks;
@@ -117,58 +107,16 @@ mod wheels;
 mod words;
 
 #[cfg(feature = "std")]
-pub use crate::clock::Clock;
-#[cfg(feature = "std")]
-pub use crate::delay_queue::DelayQueue;
-pub use crate::memory::AllocError;
-pub use crate::refused::Refused;
-
-pub mod wheel {
-    //! The timing wheel alone, for whoever keeps values by indexes.
-
-    pub use crate::checked_wheel::Wheel;
-    pub use crate::ticks::REACH;
-    pub use crate::wheels::{Place, WheelError};
-}
-
-pub mod owner {
-    //! The queue of one owner, alone or with callers that extend and cancel its entries from other threads; or over
-    //! [`OpenWords`], by which any thread does so with no caller.
-    //!
-    //! Its keys, entries and errors are those of [`shards`](crate::shards) and [`lasting`](crate::lasting) too.
-
-    pub use crate::core::{
-        BadNumber, CallError, CoreConfig, CoreError, DelayCore, Entries, Expired, Folded, LiveEntry, Look, Pending,
-        Piece, PlainQueue, PlainTurn, ReapError, Removed, RenewError, Swept, Tally, Turn, VecWords,
-    };
-    pub use crate::ticks::{is_same_entry, is_same_key, EntryId, Key, CAPACITY_LIMIT, LAST_STAMP, LAST_TICK};
-    #[cfg(feature = "std")]
-    pub use crate::words::ManyTurn;
-    pub use crate::words::{numbered_queue, shared_queue, Caller, Keeper, OpenWords, WordsError, HANDLE_LIMIT};
-}
+pub use crate::delay_queue::{
+    Builder, DelayQueue, Expired, Handle, InsertError, InsertErrorKind, Key, KeyError, ManualClock, Metrics, Receiver,
+    RecvTimeoutError, Stats, Timeout, TryRecvError,
+};
 
 #[cfg(feature = "std")]
-pub mod streams {
-    //! Streams of the entries that expire in a shard, for a task. A lasting queue has
-    //! [streams](crate::lasting::LastingStream) too.
+pub mod iter {
+    //! The iterators of a [`DelayQueue`](crate::DelayQueue).
 
-    pub use crate::stream::{
-        ExpiredStream, MillisecondTicks, PacedStream, ShardStream, StreamFault, TickSource, Whole,
-    };
-}
-
-#[cfg(feature = "std")]
-pub mod cache {
-    //! Values that are kept under a key until their deadline.
-
-    pub use crate::apps::{CountedCache, MemoAnswer, PutAnswer, Seen, TtlCache};
-}
-
-#[cfg(feature = "std")]
-pub mod sessions {
-    //! Sessions that end once nobody has touched them for a time.
-
-    pub use crate::apps::{IdleSessions, Name};
+    pub use crate::delay_queue::{Drain, Iter, TryIter};
 }
 
 // Tests of the proved parts, which keep the shape of the tests in Rattle from which they were erased once

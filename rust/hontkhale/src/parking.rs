@@ -1,4 +1,4 @@
-//! What waits for a shard, of either queue: where a stream's ticks come from, why it gives no entry, the poller that is
+//! What waits for a shard: where a stream's ticks come from, why it gives no entry, the poller that is
 //! parked in a shard, the shard's queue with it, and its registration with the context of its task; and how many
 //! threads wait for the shard's lock.
 
@@ -10,10 +10,10 @@ mod source;
 mod streaming;
 
 pub use attended::{keep_or_leave, Attended};
-pub use parked::{let_sleep, ring, take, Leaver, Parked};
+pub use parked::{let_sleep, ring, Leaver, Parked};
 pub use row::{unlock, Row, Shard};
 #[cfg(test)]
 pub use sleeping::park_with;
-pub use sleeping::{Polled, Sleeps, StreamFault};
+pub use sleeping::{Sleeps, StreamFault};
 pub use source::{MillisecondTicks, TickSource};
-pub use streaming::{poll_place, ShardStream, Shards, Whole};
+pub use streaming::{Pace, ShardStream, Shards, Whole};

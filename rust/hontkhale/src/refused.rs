@@ -12,9 +12,9 @@ use core::fmt;
 ///
 #[cfg_attr(feature = "std", doc = "```")]
 #[cfg_attr(not(feature = "std"), doc = "```ignore")]
-/// use hontkhale::Refused;
-/// use hontkhale::owner::Key;
-/// use hontkhale::shards::{QueueConfig, QueueError, SharedDelayQueue};
+/// use hontkhale::parts::Refused;
+/// use hontkhale::parts::owner::Key;
+/// use hontkhale::parts::shards::{QueueConfig, QueueError, SharedDelayQueue};
 ///
 /// type Jobs = SharedDelayQueue<String>;
 ///

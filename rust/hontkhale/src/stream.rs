@@ -22,8 +22,8 @@ pub use crate::parking::{MillisecondTicks, ShardStream, StreamFault, TickSource,
 /// After a tick that is refused the stream has ended: its polls take no lock, and don't ask the source.
 ///
 /// ```
-/// use hontkhale::shards::{QueueConfig, SharedDelayQueue};
-/// use hontkhale::streams::{ExpiredStream, MillisecondTicks};
+/// use hontkhale::parts::shards::{QueueConfig, SharedDelayQueue};
+/// use hontkhale::parts::streams::{ExpiredStream, MillisecondTicks};
 /// use std::future::poll_fn;
 ///
 /// async fn first(queue: &SharedDelayQueue<String>) -> Option<String> {
@@ -37,8 +37,8 @@ pub type ExpiredStream<'q, T, S> = ShardStream<'q, SharedDelayQueue<T>, S>;
 /// An [`ExpiredStream`] whose polls make at most so many steps of their shard while they hold its lock.
 ///
 /// ```
-/// use hontkhale::shards::{QueueConfig, SharedDelayQueue};
-/// use hontkhale::streams::{ExpiredStream, MillisecondTicks};
+/// use hontkhale::parts::shards::{QueueConfig, SharedDelayQueue};
+/// use hontkhale::parts::streams::{ExpiredStream, MillisecondTicks};
 /// use std::future::poll_fn;
 /// use std::num::NonZeroU32;
 ///

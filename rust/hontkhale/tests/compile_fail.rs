@@ -25,19 +25,21 @@ const NO_SUCH_ITEM: &str = "E0432";
 const PRIVATE: &str = "E0603";
 const PRIVATE_METHOD: &str = "E0624";
 const NO_SUCH_METHOD: &str = "E0599";
-const NOT_SENT: &str = "E0277";
+const NO_SUCH_BOUND: &str = "E0277";
 
 const CORE: &str =
-    "use hontkhale::owner::*; fn f(mut queue: DelayCore<char, VecWords>, mut words: VecWords, mut keeper: Keeper) {";
+    "use hontkhale::parts::owner::*; fn f(mut queue: DelayCore<char, VecWords>, mut words: VecWords, mut keeper: Keeper) {";
+const ANY_WORDS: &str = "use hontkhale::parts::owner::*;
+    fn f<T, W: Words>(queue: &mut DelayCore<T, W>, mut words: W) { queue.poll(5);";
 const SHARED: &str =
-    "use hontkhale::shards::*; fn f(queue: &'static SharedDelayQueue<u64>) { let shard = queue.enter(0).unwrap();";
+    "use hontkhale::parts::shards::*; fn f(queue: &'static SharedDelayQueue<u64>) { let shard = queue.enter(0).unwrap();";
 
 const PROGRAMS: &[Program] = &[
     // Two that once read memory of others: the value of a slot, and a word, far behind the last.
     Program {
         name: "slots",
         front: "",
-        last: "use hontkhale::owner::Slots;",
+        last: "use hontkhale::parts::owner::Slots;",
         reason: NO_SUCH_ITEM,
     },
     Program {
@@ -76,16 +78,23 @@ const PROGRAMS: &[Program] = &[
         last: "words.finish(0, 1);",
         reason: NO_SUCH_METHOD,
     },
+    // A program names the bound of the words, and calls a queue over any words, but none of their steps.
     Program {
-        name: "words",
-        front: "",
-        last: "use hontkhale::owner::Words;",
-        reason: NO_SUCH_ITEM,
+        name: "a_step_by_the_bound",
+        front: ANY_WORDS,
+        last: "words.begin(1_000_000_000, 1, 5);",
+        reason: PRIVATE_METHOD,
     },
     Program {
-        name: "shared_words",
+        name: "words_of_its_own",
+        front: "mod own { pub struct Mine;",
+        last: "impl hontkhale::parts::owner::Words for Mine {}",
+        reason: NO_SUCH_BOUND,
+    },
+    Program {
+        name: "steps",
         front: "",
-        last: "use hontkhale::owner::SharedWords;",
+        last: "use hontkhale::parts::owner::Steps;",
         reason: NO_SUCH_ITEM,
     },
     Program {
@@ -121,20 +130,8 @@ const PROGRAMS: &[Program] = &[
     Program {
         name: "locked_shards",
         front: "",
-        last: "use hontkhale::owner::locked_shards;",
+        last: "use hontkhale::parts::owner::locked_shards;",
         reason: NO_SUCH_ITEM,
-    },
-    Program {
-        name: "lasting_shard",
-        front: "",
-        last: "use hontkhale::lasting::LastingShard;",
-        reason: PRIVATE,
-    },
-    Program {
-        name: "lasting_module",
-        front: "",
-        last: "use hontkhale::lasting::queue::LastingQueue;",
-        reason: PRIVATE,
     },
     Program {
         name: "rows",
@@ -165,21 +162,21 @@ const PROGRAMS: &[Program] = &[
         name: "a_locked_shard",
         front: SHARED,
         last: "std::thread::spawn(move || shard.len());",
-        reason: NOT_SENT,
+        reason: NO_SUCH_BOUND,
     },
     Program {
         name: "a_counted_value",
-        front: "use hontkhale::shards::*; fn f(queue: &'static SharedDelayQueue<std::rc::Rc<u64>>) {",
+        front: "use hontkhale::parts::shards::*; fn f(queue: &'static SharedDelayQueue<std::rc::Rc<u64>>) {",
         last: "std::thread::spawn(move || queue.shards());",
-        reason: NOT_SENT,
+        reason: NO_SUCH_BOUND,
     },
     Program {
         name: "a_source_that_stays",
-        front: "use hontkhale::streams::*; struct At(std::rc::Rc<u64>);
+        front: "use hontkhale::parts::streams::*; struct At(std::rc::Rc<u64>);
             impl TickSource for At { fn now(&mut self) -> u64 { *self.0 } }
             fn sent<T: Send>(_: T) {} fn f(stream: ExpiredStream<'static, u64, At>) {",
         last: "sent(stream);",
-        reason: NOT_SENT,
+        reason: NO_SUCH_BOUND,
     },
 ];
 

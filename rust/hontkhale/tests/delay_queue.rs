@@ -18,6 +18,8 @@ mod due;
 mod ends;
 #[path = "delay_queue/growth.rs"]
 mod growth;
+#[path = "delay_queue/hostile.rs"]
+mod hostile;
 #[path = "delay_queue/inputs.rs"]
 mod inputs;
 #[path = "delay_queue/keys.rs"]

@@ -1,8 +1,7 @@
 //! What a `DelayQueue` takes of memory, and gives back: counted by the allocator of this program, in which one test runs at a
 //! time.
 
-use hontkhale::delay_queue::{InsertErrorKind, Key, KeyError, ManualClock};
-use hontkhale::DelayQueue;
+use hontkhale::{DelayQueue, InsertErrorKind, Key, KeyError, ManualClock};
 use std::alloc::{GlobalAlloc, Layout, System};
 use std::cell::Cell;
 use std::sync::atomic::{AtomicIsize, Ordering::SeqCst};
@@ -89,7 +88,7 @@ fn taken_and_left(ends: impl FnOnce(&DelayQueue<u64>, &ManualClock, &[Key])) -> 
     (taken, left)
 }
 
-fn at_most_a_tenth_is_left(name: &str, ends: impl FnOnce(&DelayQueue<u64>, &ManualClock, &[Key])) {
+fn at_most_the_words_are_left(name: &str, ends: impl FnOnce(&DelayQueue<u64>, &ManualClock, &[Key])) {
     let _alone = alone();
     let (taken, left) = taken_and_left(ends);
     println!(
@@ -98,19 +97,19 @@ fn at_most_a_tenth_is_left(name: &str, ends: impl FnOnce(&DelayQueue<u64>, &Manu
         8
     );
     assert!(taken <= (64 + 8) * MILLION as isize, "{taken}");
-    assert!(left <= taken / 10, "{left} of {taken}");
+    assert!(100 * left <= 28 * taken, "{left} of {taken}");
 }
 
 #[test]
-fn after_a_million_entries_were_removed_at_most_a_tenth_stays() {
-    at_most_a_tenth_is_left("removed", |queue, _, keys| {
+fn after_a_million_entries_were_removed_the_words_stay() {
+    at_most_the_words_are_left("removed", |queue, _, keys| {
         keys.iter().for_each(|key| assert!(queue.remove(key).is_ok()));
     });
 }
 
 #[test]
-fn after_a_million_entries_came_out_at_most_a_tenth_stays() {
-    at_most_a_tenth_is_left("came out", |queue, clock, _| {
+fn after_a_million_entries_came_out_the_words_stay() {
+    at_most_the_words_are_left("came out", |queue, clock, _| {
         clock.advance(FAR);
         let mut row = Vec::with_capacity(64);
         while !queue.is_empty() {
@@ -121,13 +120,13 @@ fn after_a_million_entries_came_out_at_most_a_tenth_stays() {
 }
 
 #[test]
-fn after_a_million_entries_were_drained_at_most_a_tenth_stays() {
-    at_most_a_tenth_is_left("cleared", |queue, _, _| assert_eq!(queue.clear(), MILLION));
+fn after_a_million_entries_were_drained_the_words_stay() {
+    at_most_the_words_are_left("cleared", |queue, _, _| assert_eq!(queue.clear(), MILLION));
 }
 
 #[test]
-fn after_a_million_entries_were_cancelled_at_most_a_tenth_stays() {
-    at_most_a_tenth_is_left("cancelled", |queue, _, keys| {
+fn after_a_million_entries_were_cancelled_the_words_stay() {
+    at_most_the_words_are_left("cancelled", |queue, _, keys| {
         keys.iter().for_each(|key| assert!(queue.cancel(key).is_ok()));
         while queue.stats().cancelled > 0 {
             assert!(queue.try_recv().is_err());
@@ -135,9 +134,29 @@ fn after_a_million_entries_were_cancelled_at_most_a_tenth_stays() {
     });
 }
 
+/// Wherever it stands, it is moved to a smaller place once a receiver has time.
+#[test]
+fn of_one_entry_that_is_left_of_a_million_the_words_stay() {
+    let _alone = alone();
+    for left in [0, MILLION / 2, MILLION - 1] {
+        let mut keys: Vec<Key> = Vec::with_capacity(MILLION);
+        let before = used();
+        let queue = DelayQueue::builder().shards(4).build();
+        keys.extend((0..MILLION as u64).map(|number| queue.insert(number, FAR).expect("room")));
+        let taken = used() - before;
+        let ends = (0..MILLION).filter(|number| *number != left);
+        ends.for_each(|number| assert!(queue.remove(&keys[number]).is_ok()));
+        (0..100).for_each(|_| assert!(queue.try_recv().is_err()));
+        let stays = used() - before;
+        assert!(100 * stays <= 28 * taken, "{stays} of {taken}");
+        assert!(queue.extend(&keys[left], 2 * FAR).is_ok());
+        assert_eq!((queue.remove(&keys[left]), queue.len()), (Ok(left as u64), 0));
+    }
+}
+
 /// An entry that stays good while the memory around it goes and comes again.
 #[test]
-fn keys_stay_good_and_stale_ones_are_refused_as_segments_go_and_come() {
+fn keys_stay_good_and_stale_ones_are_refused_as_cores_go_and_come() {
     let _alone = alone();
     let queue = DelayQueue::builder().shards(2).build();
     let stays = queue.insert(0, FAR).expect("room");
@@ -158,7 +177,7 @@ fn keys_stay_good_and_stale_ones_are_refused_as_segments_go_and_come() {
 
 /// No entry is lost, and none is taken for another, where threads fill the queue and empty it all the time.
 #[test]
-fn segments_go_and_come_under_eight_threads() {
+fn cores_go_and_come_under_eight_threads() {
     let _alone = alone();
     let queue = DelayQueue::builder().shards(4).build();
     let barrier = Barrier::new(8);
@@ -185,24 +204,21 @@ fn segments_go_and_come_under_eight_threads() {
     assert!(queue.is_empty() && queue.stats().memory < 300_000, "{}", queue.stats());
 }
 
-/// A thread that goes on with another queue lets the words of one that was dropped go.
+/// A handle reaches the words without a lock, so it keeps them.
 #[test]
-fn words_of_a_dropped_queue_go_with_a_threads_next_call() {
+fn words_of_a_dropped_queue_go_with_its_last_handle() {
     let _alone = alone();
-    let (queue, other) = (DelayQueue::builder().shards(2).build(), DelayQueue::new());
-    let keys: Vec<Key> = (0..100_000_u64)
-        .map(|number| queue.insert(number, FAR).expect("room"))
-        .collect();
-    let others = other.insert(1, FAR).expect("room");
+    let mut keys: Vec<Key> = Vec::with_capacity(100_000);
+    let queue = DelayQueue::builder().shards(2).build();
+    keys.extend((0..100_000_u64).map(|number| queue.insert(number, FAR).expect("room")));
     let (asks, asked) = channel::<()>();
     let (tells, told) = channel::<()>();
-    let (handle, other_handle) = (queue.handle(), other.handle());
+    let handle = queue.handle();
     let thread = thread::spawn(move || {
         keys.iter().for_each(|key| assert!(handle.extend(key, FAR).is_ok()));
-        other_handle.extend(&others, FAR).expect("it waits");
         tells.send(()).unwrap();
         asked.recv().unwrap();
-        other_handle.extend(&others, FAR).expect("it waits");
+        drop(handle);
         tells.send(()).unwrap();
         asked.recv().unwrap();
     });
@@ -218,30 +234,31 @@ fn words_of_a_dropped_queue_go_with_a_threads_next_call() {
     assert!(freed >= 8 * 100_000, "{freed} bytes");
 }
 
-/// A thread that ends without a further call lets the words of segments go that were closed since its last.
+/// Neither words nor anything else, whatever it was that it extended.
 #[test]
-fn words_of_closed_segments_go_with_a_thread_that_ends() {
+fn a_thread_that_extended_and_idles_keeps_nothing() {
     let _alone = alone();
-    let queue = DelayQueue::builder().shards(2).build();
-    let keys: Vec<Key> = (0..100_000_u64)
-        .map(|number| queue.insert(number, FAR).expect("room"))
-        .collect();
     let barrier = Barrier::new(2);
-    let freed = thread::scope(|scope| {
-        let extends = scope.spawn(|| {
+    let before = used();
+    let queue = Mutex::new(Some(DelayQueue::builder().shards(2).build()));
+    thread::scope(|scope| {
+        scope.spawn(|| {
+            let queue = queue.lock().unwrap().as_ref().cloned().expect("a queue");
+            let keys: Vec<Key> = (0..100_000_u64)
+                .map(|number| queue.insert(number, FAR).expect("room"))
+                .collect();
             assert!(keys.iter().all(|key| queue.extend(key, FAR).is_ok()));
+            drop((queue, keys));
             barrier.wait();
             barrier.wait();
         });
         barrier.wait();
-        assert!(keys.iter().all(|key| queue.remove(key).is_ok()));
-        let kept = used();
+        drop(queue.lock().unwrap().take());
+        let kept = used() - before;
         barrier.wait();
-        extends.join().expect("its extends are accepted");
-        kept - used()
+        // A word is of eight bytes, and the harness takes a little meanwhile.
+        assert!(kept < 100_000, "{kept} bytes");
     });
-    // A word is of eight bytes.
-    assert!(freed >= 8 * 90_000, "{freed} bytes");
 }
 
 /// Each allocation of an insert is refused in turn, until none is left to refuse.
@@ -275,7 +292,7 @@ fn a_refused_insert_gives_its_value_back_and_changes_nothing() {
             }
         }
     }
-    assert!(refusals > 20, "{refusals}");
+    assert!(refusals > 5, "{refusals}");
 }
 
 /// With every allocation refused: as many entries go in as were told, again and again, and the memory stays.

@@ -1,6 +1,6 @@
 //! The directory of what is made later: what one thread adds, others find under its number, and nothing else.
 
-use hontkhale::directory::{AddError, Clerk, Directory, MOST};
+use hontkhale::parts::directory::{AddError, Clerk, Directory, MOST};
 use std::sync::atomic::{AtomicBool, AtomicU32, Ordering};
 use std::sync::Arc;
 use std::thread;

@@ -2,14 +2,8 @@
 
 #![allow(clippy::incompatible_msrv)]
 
-#[path = "generations/lasting.rs"]
-mod lasting;
-#[path = "generations/pieces.rs"]
-mod pieces;
 #[path = "generations/renewals.rs"]
 mod renewals;
-#[path = "generations/work.rs"]
-mod work;
 
 /// Why a test fails.
 type Fail = Box<dyn std::error::Error + Send + Sync>;

@@ -3,7 +3,7 @@
 // The tests ask for a newer Rust than the crate, and an error is shown without the value that came back.
 #![allow(clippy::incompatible_msrv, clippy::ok_expect)]
 
-use hontkhale::owner::{
+use hontkhale::parts::owner::{
     numbered_queue, shared_queue, CallError, Caller, CoreConfig, CoreError, DelayCore, Keeper, Key, Look, RenewError,
     Turn, WordsError, HANDLE_LIMIT, LAST_STAMP,
 };

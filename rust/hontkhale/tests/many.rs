@@ -8,11 +8,9 @@
 mod draw;
 
 use draw::{calls, Draw};
-use hontkhale::lasting::{LastingConfig, LastingError, LastingHandle, LastingQueue};
-use hontkhale::owner::{CallError, CoreError, EntryId, Expired, Key, ManyTurn, Tally, Turn, LAST_TICK};
-use hontkhale::shards::{Handle, QueueConfig, QueueError, SharedDelayQueue};
-use hontkhale::streams::{ExpiredStream, TickSource};
-use std::fmt::Debug;
+use hontkhale::parts::owner::{CoreError, Expired, Key, ManyTurn, Tally, Turn, LAST_TICK};
+use hontkhale::parts::shards::{Handle, QueueConfig, QueueError, SharedDelayQueue};
+use hontkhale::parts::streams::{ExpiredStream, TickSource};
 use std::sync::{mpsc, Arc};
 use std::task::{Context, Wake, Waker};
 use std::thread;
@@ -21,82 +19,23 @@ use std::time::Duration;
 const SHARDS: usize = 3;
 const CAPACITY: usize = 40;
 
-/// The calls by name of a queue of shards.
-trait Named {
-    type Error: Debug + PartialEq;
-    type Hand;
+const TOO_LARGE: QueueError = QueueError::Core(CoreError::TickTooLarge { limit: LAST_TICK });
 
-    const UNKNOWN: Self::Error;
-    const TOO_LARGE: Self::Error;
+type Queue = SharedDelayQueue<u64>;
 
-    fn made() -> (Self, Self::Hand)
-    where
-        Self: Sized;
-    fn insert(&self, route: u64, value: u64, when: u64) -> Option<Key>;
-    fn reset(&self, entry: &EntryId, when: u64) -> bool;
-    fn poll(&self, shard: usize, tick: u64) -> Result<Turn<u64>, Self::Error>;
-    fn poll_many(&self, shard: usize, tick: u64, row: &mut Vec<Expired<u64>>) -> Result<ManyTurn, Self::Error>;
-    fn told(&self, shard: usize) -> (Option<u64>, Tally);
-    fn extend(hand: &mut Self::Hand, key: &Key, when: u64) -> Result<u64, CallError>;
-    fn cancel(hand: &mut Self::Hand, key: &Key) -> Result<u64, CallError>;
+fn made() -> (Queue, Handle) {
+    let queue = Queue::new(QueueConfig::of(SHARDS, CAPACITY)).expect("a queue");
+    let hand = queue.handle().expect("a handle");
+    (queue, hand)
 }
 
-// The calls of a queue of that name, with that handle, by the bodies that are alike.
-macro_rules! named {
-    ($queue:ty, $hand:ty, $error:ident, $config:ident, $tally:expr) => {
-        impl Named for $queue {
-            type Error = $error;
-            type Hand = $hand;
-
-            const UNKNOWN: $error = $error::Unknown;
-            const TOO_LARGE: $error = $error::Core(CoreError::TickTooLarge { limit: LAST_TICK });
-
-            fn made() -> (Self, $hand) {
-                let queue = <$queue>::new($config::of(SHARDS, CAPACITY)).expect("a queue");
-                let hand = queue.handle().expect("a handle");
-                (queue, hand)
-            }
-
-            fn insert(&self, route: u64, value: u64, when: u64) -> Option<Key> {
-                <$queue>::insert(self, route, value, when).ok()
-            }
-
-            fn reset(&self, entry: &EntryId, when: u64) -> bool {
-                <$queue>::reset(self, entry, when).is_ok()
-            }
-
-            fn poll(&self, shard: usize, tick: u64) -> Result<Turn<u64>, $error> {
-                <$queue>::poll(self, shard, tick)
-            }
-
-            fn poll_many(&self, shard: usize, tick: u64, row: &mut Vec<Expired<u64>>) -> Result<ManyTurn, $error> {
-                <$queue>::poll_many(self, shard, tick, row)
-            }
-
-            fn told(&self, shard: usize) -> (Option<u64>, Tally) {
-                let tally = <$queue>::tally(self, shard).expect("a shard");
-                (self.next_wake(shard).expect("a shard"), $tally(tally))
-            }
-
-            fn extend(hand: &mut $hand, key: &Key, when: u64) -> Result<u64, CallError> {
-                hand.extend(key, when)
-            }
-
-            fn cancel(hand: &mut $hand, key: &Key) -> Result<u64, CallError> {
-                hand.cancel(key)
-            }
-        }
-    };
+/// The next wake and the tally of a shard.
+fn told_of(queue: &Queue, shard: usize) -> (Option<u64>, Tally) {
+    (
+        queue.next_wake(shard).expect("a shard"),
+        queue.tally(shard).expect("a shard"),
+    )
 }
-
-named!(SharedDelayQueue<u64>, Handle, QueueError, QueueConfig, |tally| tally);
-named!(
-    LastingQueue<u64>,
-    LastingHandle,
-    LastingError,
-    LastingConfig,
-    |tally: hontkhale::lasting::LastingTally| tally.present
-);
 
 /// What an entry that came out is told by.
 fn told(expired: &Expired<u64>) -> (Key, u64, u64, u64) {
@@ -104,18 +43,18 @@ fn told(expired: &Expired<u64>) -> (Key, u64, u64, u64) {
 }
 
 /// Polls one at a time, at most so often, until nothing comes out.
-fn one_at_a_time<Q: Named>(
-    queue: &Q,
+fn one_at_a_time(
+    queue: &Queue,
     shard: usize,
     tick: u64,
     most: usize,
     row: &mut Vec<Expired<u64>>,
-) -> Result<ManyTurn, Q::Error> {
+) -> Result<ManyTurn, QueueError> {
     if shard < SHARDS && tick > LAST_TICK {
-        return Err(Q::TOO_LARGE);
+        return Err(TOO_LARGE);
     }
     if shard >= SHARDS {
-        return Err(Q::UNKNOWN);
+        return Err(QueueError::Unknown);
     }
     for _ in 0..most {
         match queue.poll(shard, tick)? {
@@ -128,34 +67,31 @@ fn one_at_a_time<Q: Named>(
 }
 
 /// Two queues that are given the same calls, but for their polls.
-struct Twins<Q: Named> {
-    many: (Q, Q::Hand),
-    single: (Q, Q::Hand),
+struct Twins {
+    many: (Queue, Handle),
+    single: (Queue, Handle),
     keys: Vec<Key>,
     tick: u64,
     outs: u64,
     stand: Vec<Expired<u64>>,
 }
 
-impl<Q: Named> Twins<Q> {
+impl Twins {
     fn call(&mut self, draw: &mut Draw, value: u64) {
         let when = self.tick + draw.of_bits(13);
         let drawn = draw.below(self.keys.len() as u64) as usize;
         let key = self.keys.get(drawn).copied();
         match (draw.below(8), key) {
-            (6, Some(key)) => assert_eq!(
-                Q::extend(&mut self.many.1, &key, when),
-                Q::extend(&mut self.single.1, &key, when)
-            ),
-            (5, Some(key)) => assert_eq!(Q::cancel(&mut self.many.1, &key), Q::cancel(&mut self.single.1, &key)),
+            (6, Some(key)) => assert_eq!(self.many.1.extend(&key, when), self.single.1.extend(&key, when)),
+            (5, Some(key)) => assert_eq!(self.many.1.cancel(&key), self.single.1.cancel(&key)),
             (4, Some(key)) => assert_eq!(
-                self.many.0.reset(&key.entry(), when),
-                self.single.0.reset(&key.entry(), when)
+                self.many.0.reset(&key.entry(), when).is_ok(),
+                self.single.0.reset(&key.entry(), when).is_ok()
             ),
             (0, _) => self.poll(draw),
             _ => {
                 let route = draw.below(SHARDS as u64);
-                let answers = [&self.many.0, &self.single.0].map(|queue| queue.insert(route, value, when));
+                let answers = [&self.many.0, &self.single.0].map(|queue| queue.insert(route, value, when).ok());
                 assert_eq!(answers[0], answers[1], "insert");
                 self.keys.extend(answers[0]);
             }
@@ -184,40 +120,40 @@ impl<Q: Named> Twins<Q> {
         self.outs += singles.len() as u64;
         self.stand = singles;
         for shard in 0..SHARDS {
-            assert_eq!(self.many.0.told(shard), self.single.0.told(shard), "after a poll");
+            assert_eq!(
+                told_of(&self.many.0, shard),
+                told_of(&self.single.0, shard),
+                "after a poll"
+            );
         }
     }
 }
 
-fn plays<Q: Named>(seed: u64) {
-    let mut twins = Twins::<Q> {
-        many: Q::made(),
-        single: Q::made(),
+#[test]
+fn many_outs_are_polls_one_after_another() {
+    let mut twins = Twins {
+        many: made(),
+        single: made(),
         keys: Vec::new(),
         tick: 0,
         outs: 0,
         stand: Vec::new(),
     };
-    let (mut draw, calls) = (Draw::new(seed), calls() / 2);
+    let (mut draw, calls) = (Draw::new(1), calls() / 2);
     (0..calls).for_each(|value| twins.call(&mut draw, value));
     assert!(twins.outs > calls / 20, "only {} entries came out", twins.outs);
 }
 
 #[test]
-fn many_outs_are_polls_one_after_another() {
-    plays::<SharedDelayQueue<u64>>(1);
-    plays::<LastingQueue<u64>>(2);
-}
-
-fn refuses<Q: Named>() {
-    let (queue, _hand) = Q::made();
+fn many_outs_are_refused_in_order() {
+    let (queue, _hand) = made();
     queue.insert(1, 7, 10).expect("room");
     let (mut full, mut free) = (Vec::new(), Vec::with_capacity(4));
     for row in [&mut full, &mut free] {
-        assert_eq!(queue.poll_many(SHARDS, LAST_TICK + 1, row), Err(Q::UNKNOWN));
-        assert_eq!(queue.poll_many(usize::MAX, 10, row), Err(Q::UNKNOWN));
-        assert_eq!(queue.poll_many(1, LAST_TICK + 1, row), Err(Q::TOO_LARGE));
-        assert_eq!(queue.poll_many(1, u64::MAX, row), Err(Q::TOO_LARGE));
+        assert_eq!(queue.poll_many(SHARDS, LAST_TICK + 1, row), Err(QueueError::Unknown));
+        assert_eq!(queue.poll_many(usize::MAX, 10, row), Err(QueueError::Unknown));
+        assert_eq!(queue.poll_many(1, LAST_TICK + 1, row), Err(TOO_LARGE));
+        assert_eq!(queue.poll_many(1, u64::MAX, row), Err(TOO_LARGE));
         assert!(row.is_empty());
     }
     // A row without room takes nothing out and notes no tick: the entry is still not due at the tick before its own.
@@ -226,12 +162,6 @@ fn refuses<Q: Named>() {
     assert_eq!((full.capacity(), free.capacity()), (0, 4));
     assert_eq!(queue.poll_many(1, 10, &mut free), Ok(ManyTurn::Idle));
     assert_eq!(free.iter().map(|expired| expired.value).collect::<Vec<_>>(), [7]);
-}
-
-#[test]
-fn many_outs_are_refused_in_order() {
-    refuses::<SharedDelayQueue<u64>>();
-    refuses::<LastingQueue<u64>>();
 }
 
 struct At(u64);

@@ -9,8 +9,6 @@
 mod draw;
 #[path = "models/ends.rs"]
 mod ends;
-#[path = "models/lasting.rs"]
-mod lasting;
 #[path = "models/one_owner.rs"]
 mod one_owner;
 #[path = "models/shard.rs"]

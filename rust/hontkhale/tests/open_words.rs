@@ -3,7 +3,7 @@
 // The tests ask for a newer Rust than the crate.
 #![allow(clippy::incompatible_msrv)]
 
-use hontkhale::owner::{
+use hontkhale::parts::owner::{
     shared_queue, CallError, CoreConfig, DelayCore, Keeper, Key, Look, OpenWords, Turn, LAST_TICK,
 };
 use std::sync::atomic::{AtomicBool, AtomicU64, Ordering::SeqCst};
@@ -20,7 +20,7 @@ fn open_queue<T>(capacity: usize) -> (Queue<T>, OpenWords) {
 }
 
 /// Takes out what is due.
-fn due<T>(queue: &mut Queue<T>, now: u64) -> impl Iterator<Item = hontkhale::owner::Expired<T>> + '_ {
+fn due<T>(queue: &mut Queue<T>, now: u64) -> impl Iterator<Item = hontkhale::parts::owner::Expired<T>> + '_ {
     std::iter::from_fn(move || match queue.poll(now) {
         Ok(Turn::Out(expired)) => Some(expired),
         _ => None,
@@ -57,7 +57,9 @@ fn extends_near(now: u64, keys: &[Key], words: &OpenWords, promised: &[AtomicU64
                 assert!(when <= deadline);
                 promised[entry].fetch_max(deadline, SeqCst);
             }
-            Err(CallError::Ended { how: Look::LookExpired(at) }) => assert!(at >= entry as u64),
+            Err(CallError::Ended {
+                how: Look::LookExpired(at),
+            }) => assert!(at >= entry as u64),
             Err(refused) => panic!("{refused}"),
         }
     }
@@ -181,8 +183,18 @@ fn each_refusal_of_open_words_comes_in_its_order() {
         ("beyond", beyond, Err(CallError::Unknown), Err(CallError::Unknown)),
         ("ahead", ahead, Err(CallError::Unknown), Err(CallError::Unknown)),
         ("reset", reset, stale, stale.map(Look::StillLive)),
-        ("expired", expired, gone(Look::LookExpired(10)), Ok(Look::LookExpired(10))),
-        ("removed", removed, gone(Look::LookRemoved(20)), Ok(Look::LookRemoved(20))),
+        (
+            "expired",
+            expired,
+            gone(Look::LookExpired(10)),
+            Ok(Look::LookExpired(10)),
+        ),
+        (
+            "removed",
+            removed,
+            gone(Look::LookRemoved(20)),
+            Ok(Look::LookRemoved(20)),
+        ),
     ];
     for (name, key, refused, looks) in cases {
         let far = Err(CallError::TooFar { limit: LAST_TICK });
@@ -199,8 +211,14 @@ fn each_refusal_of_open_words_comes_in_its_order() {
     assert_eq!(words.extend(&live, 50), Ok(LAST_TICK));
     assert_eq!(words.cancel(&live), Ok(LAST_TICK));
     let cancelled = Look::LookCancelled;
-    assert_eq!((words.cancel(&live), words.look(&live)), (gone(cancelled), Ok(cancelled)));
-    assert_eq!(due(&mut queue, LAST_TICK).map(|out| out.deadline).collect::<Vec<_>>(), [31]);
+    assert_eq!(
+        (words.cancel(&live), words.look(&live)),
+        (gone(cancelled), Ok(cancelled))
+    );
+    assert_eq!(
+        due(&mut queue, LAST_TICK).map(|out| out.deadline).collect::<Vec<_>>(),
+        [31]
+    );
     assert_eq!(queue.tally().cancelled, 1);
 }
 
@@ -213,5 +231,10 @@ fn open_words_outlive_their_queue() {
     drop(queue);
     assert_eq!(words.look(&keys[0]), Ok(Look::LookCancelled));
     assert_eq!(words.look(&keys[1]), Ok(Look::LookRemoved(20)));
-    assert_eq!(words.extend(&keys[1], 30), Err(CallError::Ended { how: Look::LookRemoved(20) }));
+    assert_eq!(
+        words.extend(&keys[1], 30),
+        Err(CallError::Ended {
+            how: Look::LookRemoved(20)
+        })
+    );
 }

@@ -9,8 +9,6 @@
 
 #[path = "panics/kit.rs"]
 mod kit;
-#[path = "panics/lasting.rs"]
-mod lasting;
 #[path = "panics/owner.rs"]
 mod owner;
 #[path = "panics/shards.rs"]

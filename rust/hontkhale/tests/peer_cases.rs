@@ -2,7 +2,7 @@
 //! a meaning for a queue of one owner. Where a test sleeps, a tick is polled; where it asks whether its task was woken,
 //! the next wake is compared. The cases of `compact` have none: the room is fixed.
 
-use hontkhale::owner::{DelayCore, Turn, VecWords};
+use hontkhale::parts::owner::{DelayCore, Turn, VecWords};
 
 type DelayQueue<T> = DelayCore<T, VecWords>;
 

@@ -1,8 +1,8 @@
 //! Idle sessions over several shards: a call touches the shard that it names, and does there what it says and no more.
 
-use hontkhale::owner::Turn;
-use hontkhale::sessions::IdleSessions;
-use hontkhale::shards::QueueConfig;
+use hontkhale::parts::owner::Turn;
+use hontkhale::parts::sessions::IdleSessions;
+use hontkhale::parts::shards::QueueConfig;
 
 const SHARDS: usize = 3;
 

@@ -3,10 +3,10 @@
 // The tests ask for a newer Rust than the crate, and an error is shown without the value that came back.
 #![allow(clippy::incompatible_msrv, clippy::ok_expect)]
 
-use hontkhale::owner::{CallError, CoreError, Key, Look, Piece, ReapError, Turn, HANDLE_LIMIT, LAST_TICK};
-use hontkhale::shards::by::{NamedQueue, Rooms};
-use hontkhale::shards::{Handle, HandlesOut, QueueConfig, QueueError, ShardState, SharedDelayQueue};
-use hontkhale::streams::{ExpiredStream, MillisecondTicks};
+use hontkhale::parts::owner::{CallError, CoreError, Key, Look, Piece, ReapError, Turn, HANDLE_LIMIT, LAST_TICK};
+use hontkhale::parts::shards::by::{NamedQueue, Rooms};
+use hontkhale::parts::shards::{Handle, HandlesOut, QueueConfig, QueueError, ShardState, SharedDelayQueue};
+use hontkhale::parts::streams::{ExpiredStream, MillisecondTicks};
 use std::panic::{catch_unwind, AssertUnwindSafe};
 use std::sync::atomic::{AtomicUsize, Ordering::SeqCst};
 use std::sync::{mpsc, Arc};

@@ -3,9 +3,8 @@
 // The tests ask for a newer Rust than the crate, and an error is shown without the value that came back.
 #![allow(clippy::incompatible_msrv, clippy::ok_expect)]
 
-use hontkhale::lasting::{LastingConfig, LastingHandle, LastingQueue};
-use hontkhale::owner::{shared_queue, CallError, Caller, DelayCore, Key, Look, Turn, LAST_TICK};
-use hontkhale::shards::{Handle, QueueConfig, SharedDelayQueue};
+use hontkhale::parts::owner::{shared_queue, CallError, Caller, DelayCore, Key, Look, Turn, LAST_TICK};
+use hontkhale::parts::shards::{Handle, QueueConfig, SharedDelayQueue};
 use std::hint;
 use std::sync::atomic::{AtomicBool, AtomicU64, Ordering::SeqCst};
 use std::sync::{mpsc, Arc, Barrier, Mutex};
@@ -330,19 +329,6 @@ fn a_queue_of_shards_ends_beside_extends() {
             .collect();
         let handles = (0..CALLERS).map(|_| queue.handle().unwrap()).collect();
         ends_beside_extends(queue, &keys, handles, Handle::extend);
-    }
-}
-
-// promise: rust.queue-dropped
-#[test]
-fn a_lasting_queue_ends_beside_extends() {
-    for _round in 0..50 {
-        let queue = LastingQueue::new(LastingConfig::of(4, 16)).unwrap();
-        let keys: Vec<Key> = (0..64)
-            .map(|entry| queue.insert_or_drop(entry, entry, 100).unwrap())
-            .collect();
-        let handles = (0..CALLERS).map(|_| queue.handle().unwrap()).collect();
-        ends_beside_extends(queue, &keys, handles, LastingHandle::extend);
     }
 }
 

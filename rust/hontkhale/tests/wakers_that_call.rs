@@ -8,9 +8,9 @@ use std::task::{Context, Wake, Waker};
 use std::thread;
 use std::time::Duration;
 
-use hontkhale::owner::{Key, Turn};
-use hontkhale::shards::{QueueConfig, SharedDelayQueue};
-use hontkhale::streams::{ExpiredStream, TickSource};
+use hontkhale::parts::owner::{Key, Turn};
+use hontkhale::parts::shards::{QueueConfig, SharedDelayQueue};
+use hontkhale::parts::streams::{ExpiredStream, TickSource};
 
 type Queue = Arc<SharedDelayQueue<Box<u32>>>;
 

@@ -1,6 +1,6 @@
 """Three workers that are killed, stopped and cut off at drawn moments, each behind a link of its own, and the database.
 
-    chaos.py [--quick] [SEED..]
+    chaos.py [SEED..]
 
 Effects are had once. What a holder was told of a lease holds, and one attempt of a job alone is done.
 """
@@ -12,7 +12,7 @@ import sys
 import threading
 import time
 
-from cluster import EFFECT, HANG, cluster, end, exactly_once, free_port
+from cluster import EFFECT, HANG, cluster, end, exactly_once, free_port, kill, say
 from holder import GONE, Connection, Refusal
 from links import Apart, Wire
 
@@ -36,8 +36,7 @@ class Host:
         self.process = self.it.spawn(*self.words, url=self.wire.url(self.it.url), within=within)
 
     def kill(self, _seconds):
-        self.process.kill()
-        self.process.wait()
+        kill(self.process)
         self.start()
 
     def stop(self, seconds):
@@ -137,13 +136,13 @@ class Holding(threading.Thread):
 
 
 def effects(it, hosts, seed):
-    it.jobs("enqueue", "20000", "--spread", str(SECONDS * 1000))
+    it.enqueue(20000, spread=SECONDS)
     happened = trouble(it, hosts, seed)
     over = time.monotonic()
     exactly_once(it, 20000)
     took = time.monotonic() - over
     assert it.number("SELECT count(*) FROM jobs WHERE attempt <> 1") == 0
-    print(f"chaos, seed {seed}: {happened}: 20,000 effects once, all {took:.1f} s after it", flush=True)
+    say(f"seed {seed}: {happened}: 20,000 effects once, all {took:.1f} s after it")
 
 
 def holders(it, hosts, seed):
@@ -156,7 +155,7 @@ def holders(it, hosts, seed):
     )
     # Those that fail again and again are tried again soon.
     it.sql("INSERT INTO jobs_kinds (kind, most_delay) VALUES ('', 2) ON CONFLICT DO NOTHING")
-    it.jobs("enqueue", "1500", "--spread", str(SECONDS * 1000))
+    it.enqueue(1500, spread=SECONDS)
     holding = [Holding([host.address for host in hosts], f"{seed} {number}") for number in range(12)]
     for thread in holding:
         thread.start()
@@ -183,10 +182,9 @@ def holders(it, hosts, seed):
     last = {int(id): int(attempt) for id, attempt in it.sql("SELECT id, attempt FROM jobs")}
     wrong = [attempt for attempt in done if last[attempt[0]] != attempt[1]]
     assert not wrong and len(set(it[0] for it in done)) == len(set(done)), wrong[:5]
-    print(
-        f"chaos, seed {seed}: {happened}: 1,500 jobs by {len(given)} attempts, {len(told)} of them told until when, "
-        f"none replaced sooner, one of each job done; all {took:.1f} s after it",
-        flush=True,
+    say(
+        f"seed {seed}: {happened}: 1,500 jobs by {len(given)} attempts, {len(told)} of them told until when, "
+        f"none replaced sooner, one of each job done; all {took:.1f} s after it"
     )
 
 
@@ -204,5 +202,4 @@ def main(seeds):
 
 
 if __name__ == "__main__":
-    given = [it for it in sys.argv[1:] if it != "--quick"]
-    main(given or range(1, 2 if "--quick" in sys.argv else 6))
+    main(sys.argv[1:] or [1])

@@ -6,6 +6,7 @@ import contextlib
 import glob
 import os
 import pathlib
+import re
 import shutil
 import signal
 import socket
@@ -13,8 +14,10 @@ import subprocess
 import sys
 import tempfile
 import time
+import urllib.request
 
 HERE = pathlib.Path(__file__).resolve().parent.parent
+sys.path.append(str(HERE.parent / "shared"))
 JOBS = str(HERE / "target/release/jobs")
 EFFECT = "INSERT INTO effects (job) SELECT id FROM taken"
 # More seconds than any machine needs for what is waited for: only a hang meets it.
@@ -23,6 +26,11 @@ HANG = 600
 LONG, WAIT = str(1000 * HANG), "60000"
 # A busy machine may let leases end again and again: the jobs stay alive.
 MANY = ["--attempts", "1000"]
+
+
+def say(text):
+    """Tells what was seen, behind the name of the driver."""
+    print(f"{pathlib.Path(sys.argv[0]).stem}: {text}", flush=True)
 
 
 def free_port():
@@ -56,10 +64,25 @@ def end(*workers):
     assert codes == [0] * len(workers), codes
 
 
+def kill(process):
+    process.kill()
+    process.wait()
+
+
 def run(*words, url=None, env=None):
     """What the program says, and how it ends."""
     database = ["--database", url] if url else []
     return subprocess.run([JOBS, *words, *database], capture_output=True, text=True, env=env, timeout=HANG)
+
+
+def metrics(port):
+    with urllib.request.urlopen(f"http://127.0.0.1:{port}/metrics", timeout=HANG) as answer:
+        assert answer.headers["Content-Type"].startswith("text/plain; version=0.0.4"), answer.headers
+        return answer.read().decode()
+
+
+def metric(port, name):
+    return float(re.search(rf"^{name} (\S+)$", metrics(port), re.M)[1])
 
 
 class Cluster:
@@ -74,18 +97,10 @@ class Cluster:
             shutil.chown(self.room, "postgres", "postgres")
         self.data = self.room / "data"
         self.url = f"postgres://jobs@127.0.0.1:{self.port}/postgres"
-        init = [program("initdb"), "-D", self.data, "-U", "jobs", "-A", "trust", "-E", "UTF8", "--locale=C"]
-        self.as_user(init)
-        options = [
-            "listen_addresses=127.0.0.1",
-            f"port={self.port}",
-            f"unix_socket_directories={self.room}",
-            "shared_buffers=256MB",
-            "max_connections=50",
-            "max_wal_size=4GB",
-            *settings,
-        ]
-        self.options = " ".join(f"-c {it}" for it in options)
+        self.as_user([program("initdb"), "-D", self.data, "-U", "jobs", "-A", "trust", "-E", "UTF8", "--locale=C"])
+        paths = [f"unix_socket_directories={self.room}", "listen_addresses=127.0.0.1", f"port={self.port}"]
+        sizes = ["shared_buffers=256MB", "max_connections=50", "max_wal_size=4GB"]
+        self.options = " ".join(f"-c {it}" for it in [*paths, *sizes, *settings])
 
     def as_user(self, command, **more):
         done = subprocess.run([*self.user, *map(str, command)], cwd="/", capture_output=True, text=True, **more)
@@ -94,23 +109,10 @@ class Cluster:
 
     def start(self):
         log = self.room / "log"
+        command = [*self.user, program("pg_ctl"), "-D", self.data, "-w", "-t", "300", "-l", log, "-o", self.options, "start"]
         # The server's own output would keep a pipe of this process open.
-        command = [
-            *self.user,
-            program("pg_ctl"),
-            "-D",
-            str(self.data),
-            "-w",
-            "-t",
-            "300",
-            "-l",
-            str(log),
-            "-o",
-            self.options,
-            "start",
-        ]
         quiet = {"stdout": subprocess.DEVNULL, "stderr": subprocess.DEVNULL}
-        if subprocess.run(command, cwd="/", env=self.env, **quiet).returncode:
+        if subprocess.run(list(map(str, command)), cwd="/", env=self.env, **quiet).returncode:
             raise AssertionError(f"the server doesn't start: {log.read_text()[-2000:] if log.exists() else command}")
 
     def stop(self, how="fast"):
@@ -139,25 +141,59 @@ class Cluster:
         is_so.__doc__ = f"{text} is {number}"
         wait_for(is_so, every=0.2)
 
+    def refuses(self, text, why=""):
+        """The tables refuse a statement."""
+        try:
+            self.sql(text)
+        except AssertionError as error:
+            assert why in str(error), error
+        else:
+            raise AssertionError(f"{text} is accepted")
+
     def jobs(self, *words, env=None, url=None):
         done = run(*words, url=url or self.url, env=env)
         if done.returncode:
             raise AssertionError(f"jobs {words}: {done.stderr}")
         return done.stdout
 
+    def enqueue(self, count, delay=0, spread=0, table="jobs"):
+        """So many jobs that are due after a delay and up to so many seconds later, by statements of a thousand."""
+        due = f"clock_timestamp() + ({delay} + random() * {spread}) * interval '1 second'"
+        pieces = [min(1000, count - done) for done in range(0, count, 1000)]
+        self.sql("".join(f"INSERT INTO {table} (due) SELECT {due} FROM generate_series(1, {it});" for it in pieces))
+
     def setup(self):
         self.jobs("setup")
         self.sql("CREATE TABLE IF NOT EXISTS effects (job bigint, at timestamptz DEFAULT clock_timestamp())")
 
     def spawn(self, *words, env=None, log=None, url=None, within=()):
-        out = open(self.room / (log or "workers"), "ab")
-        # Without one it stands in the environment.
+        # Without an URL it stands in the environment.
         database = [] if url == "" else ["--database", url or self.url]
-        command = [*within, JOBS, *words, *database]
-        process = subprocess.Popen(command, stdout=out, stderr=out, env=env)
-        out.close()
+        with open(self.room / (log or "workers"), "ab") as out:
+            process = subprocess.Popen([*within, JOBS, *words, *database], stdout=out, stderr=out, env=env)
         self.processes.append(process)
         return process
+
+    def effect(self, effect=EFFECT, *words, **more):
+        """A worker that has an effect, and owns partitions."""
+        worker = self.spawn("worker", "--effect", effect, *words, **more)
+        self.wait_for_owners(1)
+        return worker
+
+    def serve(self, *words, **more):
+        """A worker that serves holders and owns partitions, and its address. Its leases are long where it isn't said."""
+        address = f"127.0.0.1:{free_port()}"
+        lease = [] if "--lease" in words else ["--lease", LONG]
+        worker = self.spawn("worker", "--listen", address, *lease, *words, **more)
+        its = f"JOIN jobs_workers w ON w.worker = p.owner AND p.until > now() WHERE w.address = '{address}'"
+
+        def owns_some():
+            """it owns partitions"""
+            assert worker.poll() is None, "it has ended"
+            return self.number(f"SELECT count(*) FROM jobs_partitions p {its}")
+
+        wait_for(owns_some)
+        return worker, address
 
     def logged(self, log="workers"):
         return (self.room / log).read_text()
@@ -179,8 +215,7 @@ class Cluster:
         for process in self.processes:
             if process.poll() is None:
                 # One that was stopped ends, too.
-                process.kill()
-                process.wait()
+                kill(process)
         with contextlib.suppress(AssertionError):
             self.stop("immediate")
         shutil.rmtree(self.room, ignore_errors=True)
@@ -203,12 +238,19 @@ def cluster(settings=(), env=None):
         it.close()
 
 
+def run_cases(cases, settings=()):
+    """Runs cases in one cluster, each with empty tables."""
+    with cluster(settings) as it:
+        for case in cases:
+            empty(it)
+            case(it)
+
+
 @contextlib.contextmanager
 def held(it, *statements):
     """A session in whose open transaction these statements were run."""
-    process = subprocess.Popen(
-        ["psql", "-X", "-q", "-At", it.url], stdin=subprocess.PIPE, stdout=subprocess.PIPE, text=True
-    )
+    command = ["psql", "-X", "-q", "-At", it.url]
+    process = subprocess.Popen(command, stdin=subprocess.PIPE, stdout=subprocess.PIPE, text=True)
     process.stdin.write("BEGIN;\n" + "".join(f"{text};\n" for text in statements) + "\\echo locked\n")
     process.stdin.flush()
     while "locked" not in process.stdout.readline():
@@ -221,26 +263,23 @@ def held(it, *statements):
 
 
 def empty(it):
-    it.sql("TRUNCATE jobs; TRUNCATE effects")
+    it.sql("TRUNCATE jobs, effects, jobs_kinds, jobs_schedules")
 
 
 def exactly_once(it, count):
     it.wait_for_number("SELECT count(*) FROM jobs WHERE state = 'done'", count)
     rows = it.sql(
-        "SELECT count(*), count(DISTINCT job), (SELECT count(*) FROM effects e JOIN jobs j ON j.id = e.job WHERE "
-        "e.at < j.due) "
-        "FROM effects"
+        "SELECT count(*), count(DISTINCT job), "
+        "(SELECT count(*) FROM effects e JOIN jobs j ON j.id = e.job WHERE e.at < j.due) FROM effects"
     )
     assert rows == [[str(count), str(count), "0"]], f"effects, of jobs, early: {rows}"
 
 
 def lateness(it):
     """The 50th and 99th percentile and the worst, in milliseconds."""
-    return it.sql(
-        "SELECT percentile_disc(ARRAY[0.5, 0.99, 1]) WITHIN GROUP (ORDER BY round(1000 * extract(epoch FROM "
-        "started - due), 1)) "
-        "FROM jobs WHERE attempt = 1"
-    )[0][0]
+    late = "round(1000 * extract(epoch FROM started - due), 1)"
+    centiles = f"percentile_disc(ARRAY[0.5, 0.99, 1]) WITHIN GROUP (ORDER BY {late})"
+    return it.sql(f"SELECT array_to_string({centiles}, ' ') FROM jobs WHERE attempt = 1")[0][0]
 
 
 def done(it, where="true"):

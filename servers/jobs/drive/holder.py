@@ -1,53 +1,16 @@
 """A holder of leases: takes jobs from workers, beats, and follows a job to the worker that owns it."""
-import socket
 import time
 
 from cluster import HANG, wait_for
 
-# What a socket says when its worker is gone.
-GONE = (OSError, EOFError)
+from client import GONE, Client, Refusal, packed
 
 
-class Refusal(str):
-    """An error of the protocol."""
+class Connection(Client):
+    """A holder's, to which payloads are texts."""
 
-
-def packed(*words):
-    words = [str(it).encode() for it in words]
-    return b"*%d\r\n" % len(words) + b"".join(b"$%d\r\n%s\r\n" % (len(it), it) for it in words)
-
-
-class Connection:
     def __init__(self, address, timeout=HANG):
-        host, port = address.rsplit(":", 1)
-        self.socket = socket.create_connection((host, int(port)), timeout=timeout)
-        self.socket.setsockopt(socket.IPPROTO_TCP, socket.TCP_NODELAY, 1)
-        self.file = self.socket.makefile("rb", buffering=1 << 20)
-
-    def call(self, *words):
-        return self.calls([words])[0]
-
-    def calls(self, commands):
-        self.socket.sendall(b"".join(packed(*it) for it in commands))
-        return [self.reply() for _ in commands]
-
-    def reply(self):
-        line = self.file.readline()
-        if not line.endswith(b"\r\n"):
-            raise EOFError("the worker closed the connection")
-        kind, rest = line[:1], line[1:-2]
-        if kind == b":":
-            return int(rest)
-        if kind == b"+":
-            return rest.decode()
-        if kind == b"-":
-            return Refusal(rest.decode())
-        if kind == b"*":
-            return [self.reply() for _ in range(int(rest))]
-        return self.file.read(int(rest) + 2)[:-2].decode()
-
-    def close(self):
-        self.socket.close()
+        super().__init__(address, timeout, is_text=True)
 
 
 class Job:
@@ -131,12 +94,11 @@ class Holder:
         else:
             assert reply.startswith("TRYAGAIN "), reply
 
-    def beat_for(self, jobs, seconds, every, also=lambda: None):
+    def beat_for(self, jobs, seconds, every):
         end = time.monotonic() + seconds
         while time.monotonic() < end:
             begun = time.monotonic()
             self.beat(jobs)
-            also()
             time.sleep(max(0, every - (time.monotonic() - begun)))
 
     def end(self):

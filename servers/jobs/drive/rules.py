@@ -2,24 +2,16 @@
 sorts, holders that are silent, and names and numbers as long as they may be."""
 import signal
 import subprocess
+import time
 
-from cluster import EFFECT, HANG, LONG, WAIT, cluster, empty, end, exactly_once, free_port, run, wait_for
+from cluster import EFFECT, HANG, LONG, WAIT, empty, end, exactly_once, free_port, metric, run, run_cases, say, wait_for
 from holder import Connection, Refusal
-from leases import metric
-
-
-def serving(it, *words, **more):
-    """A worker that serves holders, and its address."""
-    address = f"127.0.0.1:{free_port()}"
-    worker = it.spawn("worker", "--listen", address, "--lease", LONG, *words, **more)
-    wait_for(lambda: it.number(f"SELECT count(*) FROM jobs_partitions p JOIN jobs_workers w ON w.worker = p.owner WHERE w.address = '{address}'"))
-    return worker, address
+from links import Wire
 
 
 def sorts(it):
     """A worker that has an effect isn't begun beside one that serves holders, nor the other way round."""
-    empty(it)
-    worker, address = serving(it)
+    worker, address = it.serve()
     other = it.spawn("worker", "--effect", EFFECT, log="refused")
     assert other.wait(HANG) == 1 and f"worker at {address} works at this table" in it.logged("refused")
     end(worker)
@@ -36,7 +28,7 @@ def sorts(it):
     wait_for(lambda: left.poll() == 1)
     it.wait_for_owners(1)
     end(new)
-    print("rules: of two workers of both sorts one was refused, and one that had stood still, once it was awake", flush=True)
+    say("of two workers of both sorts one was refused, and one that had stood still, once it was awake")
 
 
 def follow(address, *words):
@@ -51,8 +43,7 @@ def follow(address, *words):
 
 def many_kinds(it):
     """Three workers and 1,000 kinds: a holder that asks one worker for one of these has it, while the others wait."""
-    empty(it)
-    workers, addresses = zip(*[serving(it) for _ in range(3)])
+    workers, addresses = zip(*[it.serve() for _ in range(3)])
     it.wait_for_owners(3)
     it.sql("INSERT INTO jobs (kind) SELECT 'k' || i FROM generate_series(1, 1000) i")
     kinds, moved = [f"k{number}" for number in range(1, 1000, 25)], 0
@@ -69,30 +60,32 @@ def many_kinds(it):
 
     wait_for(all_given)
     end(*workers)
-    print(f"rules: a holder that asked one of three workers had each of 40 of 1,000 kinds, sent on {moved} times", flush=True)
+    say(f"a holder that asked one of three workers had each of 40 of 1,000 kinds, sent on {moved} times")
 
 
 def silent(it):
     """A silent holder is closed where it is told so, and the system asks whether its host is there."""
-    empty(it)
-    worker, address = serving(it, "--clients", "2", "--timeout", "500")
-    held = [Connection(address) for _ in range(2)]
+    worker, address = it.serve("--clients", "1")
+    held = [Connection(address)]
     port = address.split(":")[1]
     asked = subprocess.run(["ss", "-tno", f"sport = :{port}"], capture_output=True, text=True, check=True).stdout
-    assert asked.count("timer:(keepalive") == 2, asked
-    wait_for(lambda: Connection(address).call("PING") == "PONG")
-    del held
-    # Who waits for a job isn't silent.
-    assert Connection(address).call("JOBS.TAKE", 1, "WAIT", 1500) == []
+    assert asked.count("timer:(keepalive") == 1, asked
+    refused = Connection(address).reply()
+    assert refused == "ERR max number of clients reached", refused
     end(worker)
-    print("rules: two silent holders were closed, and others had their places", flush=True)
+    worker, address = it.serve("--clients", "1", "--timeout", "500")
+    held.append(Connection(address))
+    wait_for(lambda: Connection(address).call("PING") == "PONG")
+    # Who waits for a job isn't silent, once the last one's place is free.
+    wait_for(lambda: Connection(address).call("JOBS.TAKE", 1, "WAIT", 1500) == [])
+    end(worker)
+    say("a silent holder was closed, and another had its place")
 
 
 def ends(it):
     """A holder is told the end of its lease as the table has it, by the database's clock."""
-    empty(it)
-    worker, address = serving(it, "--write-every", "300")
-    it.jobs("enqueue", "1")
+    worker, address = it.serve("--write-every", "300")
+    it.enqueue(1)
     asks = Connection(address)
     ((id, attempt, until, _),) = asks.call("JOBS.TAKE", 1, "WAIT", WAIT)
     table = "SELECT extract(epoch FROM lease_until) * 1000 FROM jobs"
@@ -106,36 +99,34 @@ def ends(it):
     it.sql("DELETE FROM jobs")
     wait_for(lambda: str(asks.call("JOBS.BEAT", id, attempt)).startswith("FENCED"))
     end(worker)
-    print("rules: a holder was told the end of its lease as the table has it, and that its job was deleted", flush=True)
+    say("a holder was told the end of its lease as the table has it, and that its job was deleted")
 
 
 def cancelled(it):
     """A job is cancelled while it waits, runs, or is over."""
-    empty(it)
-    worker, address = serving(it, "--write-every", str(int(LONG) // 2))
+    worker, address = it.serve("--write-every", str(int(LONG) // 2))
     it.sql("INSERT INTO jobs (due) SELECT now() + i * interval '1 hour' FROM generate_series(0, 1) i")
     asks = Connection(address)
     ((id, attempt, *_),) = asks.call("JOBS.TAKE", 1, "WAIT", WAIT)
     assert asks.call("JOBS.BEAT", id, attempt) > 0
-    assert it.jobs("cancel", f"{id},{id + 1},{id + 2}") == "2 jobs are cancelled\n"
+    assert it.sql(f"SELECT jobs_cancel(i) FROM generate_series({id}, {id + 2}) i") == [["t"], ["t"], ["f"]]
     # No lease is written meanwhile: it was told by a notification.
     wait_for(lambda: asks.call("JOBS.BEAT", id, attempt) == f"CANCELLED job {id} was cancelled")
     assert asks.call("JOBS.DONE", id, attempt).startswith("FENCED")
     assert it.sql("SELECT DISTINCT state, error FROM jobs") == [["dead", "cancelled"]]
-    assert it.jobs("cancel", f"{id}") == "0 jobs are cancelled\n"
-    assert it.jobs("retry", "all") == "0 dead jobs wait again\n"
-    assert it.jobs("retry", f"{id}") == "1 dead jobs wait again\n"
+    assert it.sql(f"SELECT jobs_cancel({id})") == [["f"]]
+    assert it.number("SELECT jobs_retry()") == 0
+    assert it.number(f"SELECT jobs_retry(ARRAY[{id}])") == 1
     (((again, *_),),) = [asks.call("JOBS.TAKE", 1, "WAIT", WAIT)]
     assert again == id
     end(worker)
-    print("rules: a job that ran and one that waited were cancelled, and the holder told", flush=True)
+    say("a job that ran and one that waited were cancelled, and the holder told")
 
 
 def changed_kind(it):
     """A job whose kind is changed goes to holders of the new one, whether it is in memory already or not."""
-    empty(it)
     metrics = free_port()
-    worker, address = serving(it, "--metrics", f"127.0.0.1:{metrics}")
+    worker, address = it.serve("--metrics", f"127.0.0.1:{metrics}")
     it.sql("INSERT INTO jobs (kind) SELECT 'old' FROM generate_series(1, 5)")
     wait_for(lambda: metric(metrics, "jobs_indexed") == 5)
     it.sql("UPDATE jobs SET kind = 'new'")
@@ -145,14 +136,14 @@ def changed_kind(it):
     wait_for(lambda: got.extend(asks.call("JOBS.TAKE", 5, "WAIT", 1000, "KIND", "new")) or len(got) == 5)
     assert asks.call("JOBS.TAKE", 5, "KIND", "old") == []
     end(worker)
-    print("rules: five jobs whose kind was changed went to a holder of the new one", flush=True)
+    say("five jobs whose kind was changed went to a holder of the new one")
 
 
 def paused(it):
     """Jobs of a paused kind wait, however many are due before others, and go on after it."""
     for effect in (True, False):
         empty(it)
-        it.sql("DELETE FROM jobs_kinds; INSERT INTO jobs_kinds (kind, paused) VALUES ('slow', true)")
+        it.sql("INSERT INTO jobs_kinds (kind, paused) VALUES ('slow', true)")
         # More than a worker holds in memory.
         it.sql(
             "INSERT INTO jobs (kind, due) SELECT 'slow', now() - interval '1 hour' FROM generate_series(1, 200000); "
@@ -162,7 +153,7 @@ def paused(it):
             worker = it.spawn("worker", "--effect", EFFECT)
             exactly_once(it, 50)
         else:
-            worker, address = serving(it)
+            worker, address = it.serve()
             asks, got = Connection(address), []
             wait_for(lambda: got.extend(asks.call("JOBS.TAKE", 50, "WAIT", 1000)) or len(got) == 50)
         assert it.sql("SELECT DISTINCT state, attempt FROM jobs WHERE kind = 'slow'") == [["waiting", "0"]]
@@ -178,19 +169,17 @@ def paused(it):
         it.wait_for_number("SELECT count(*) FROM jobs WHERE kind = 'quick' AND state <> 'waiting'", 50 if not effect else 51)
         assert it.number("SELECT count(*) FROM jobs WHERE kind = 'slow' AND state = 'waiting'") == 1
         end(worker)
-    it.sql("DELETE FROM jobs_kinds")
-    print("rules: 200,000 jobs of a paused kind kept no other, and went on after it", flush=True)
+    say("200,000 jobs of a paused kind kept no other, and went on after it")
 
 
 def bounded(it):
     """So many jobs of a kind run at a time over all workers, and those that wait keep no other."""
-    empty(it)
     it.sql(
         "INSERT INTO jobs_kinds (kind, at_most) VALUES ('slow', 3); "
         "INSERT INTO jobs (kind, due) SELECT 'slow', now() - interval '1 hour' FROM generate_series(1, 200000); "
         "INSERT INTO jobs (kind) SELECT 'quick' FROM generate_series(1, 50)"
     )
-    workers, addresses = zip(*[serving(it) for _ in range(2)])
+    workers, addresses = zip(*[it.serve() for _ in range(2)])
     it.wait_for_owners(2)
     slow, quick, most = [], [], 0
     over = 0
@@ -216,43 +205,85 @@ def bounded(it):
     wait_for(all_had)
     assert most == 3, most
     end(*workers)
-    # A worker that has an effect has one statement of the kind at a time.
-    empty(it)
-    it.sql("CREATE TABLE at_once (job bigint, statement text, at timestamptz)")
-    effect = (
-        "INSERT INTO at_once SELECT id, pg_current_xact_id(), clock_timestamp() "
-        "FROM taken, LATERAL (SELECT pg_sleep(0.005 + 0 * id)) it"
+    say(f"{most:.0f} of a bounded kind ran at a time, and 50 others beside 200,000 of it")
+
+
+def bounded_effects(it):
+    """Two effects of a bounded kind are never had at once, whatever becomes of the sessions that have them."""
+    it.sql(
+        "CREATE SEQUENCE beside; CREATE FUNCTION alone(job bigint) RETURNS void LANGUAGE plpgsql AS $$ BEGIN "
+        "IF NOT pg_try_advisory_xact_lock(1) THEN PERFORM nextval('beside'); END IF; PERFORM pg_sleep(0.005); "
+        "INSERT INTO effects (job) VALUES (job); END $$; "
+        "INSERT INTO jobs_kinds (kind, at_most, most_delay) VALUES ('slow', 1, 1)"
     )
-    it.sql("INSERT INTO jobs (kind, due) SELECT 'slow', now() + i * interval '2 ms' FROM generate_series(1, 300) i")
-    workers = [it.spawn("worker", "--effect", effect) for _ in range(2)]
-    it.wait_for_number("SELECT count(*) FROM jobs WHERE state = 'done'", 300)
-    # Each statement's effects stand together where none was had beside it.
-    rows = it.sql(
-        "SELECT count(DISTINCT job), count(DISTINCT statement), count(*) FILTER (WHERE statement IS DISTINCT FROM before) "
-        "FROM (SELECT *, lag(statement) OVER (ORDER BY at) AS before FROM at_once) it"
-    )
-    assert rows[0][0] == "300" and rows[0][1] == rows[0][2], rows
+    wire = Wire(it.port)
+    workers = [it.spawn("worker", "--effect", "SELECT alone(id) FROM taken", url=url) for url in (it.url, wire.url(it.url))]
+    its = "FROM pg_stat_activity WHERE application_name LIKE 'jobs-work%' AND state = 'active' AND query LIKE '%alone%'"
+    count = cuts = 0
+    while cuts < 6:
+        if not it.number("SELECT count(*) FROM jobs WHERE state <> 'done'"):
+            count += 500
+            it.sql("INSERT INTO jobs (kind, due) SELECT 'slow', now() + i * interval '2 ms' FROM generate_series(1, 500) i")
+        if not it.number(f"SELECT count(*) {its}"):
+            continue
+        # The sessions are ended, or a worker is cut off from those that go on.
+        if cuts % 2:
+            it.sql(f"SELECT pg_terminate_backend(pid) {its}")
+        else:
+            wire.cut()
+            time.sleep(1)
+            wire.mend()
+        cuts += 1
+    exactly_once(it, count)
+    assert it.sql("SELECT is_called FROM beside") == [["f"]], "two effects of the kind were had at once"
     end(*workers)
-    it.sql("DELETE FROM jobs_kinds")
-    print(f"rules: {most:.0f} of a bounded kind ran at a time, and 50 others beside 200,000 of it", flush=True)
+    say(f"{count} effects of a bounded kind were had one after another, though sessions were ended and cut off {cuts} times")
 
 
 def long_names(it):
-    """A schema whose name is a word of SQL, and jobs whose ids and kinds are as long as they may be."""
-    it.jobs("setup", "--schema", "select")
+    """A schema whose name is a word of SQL, with 200 partitions, and jobs whose ids and kinds are as long as they may be."""
+    schema = ["--schema", "select", "--partitions"]
+    it.jobs("setup", *schema, "200")
+    refused = run("setup", *schema, "64", url=it.url)
+    assert refused.returncode == 1 and "200 partitions" in refused.stderr, refused
     it.sql(
         'ALTER TABLE "select".jobs ALTER COLUMN id RESTART WITH 9000000000000000000; '
-        "INSERT INTO \"select\".jobs (kind) SELECT repeat('k', 40) FROM generate_series(1, 100)"
+        "INSERT INTO \"select\".jobs (kind) SELECT repeat('k', 40) FROM generate_series(1, 400)"
     )
-    worker = it.spawn("worker", "--schema", "select", "--effect", "SELECT FROM taken")
-    it.wait_for_number("SELECT count(*) FROM \"select\".jobs WHERE state = 'done'", 100)
+    workers = [it.spawn("worker", "--schema", "select", "--effect", "SELECT FROM taken") for _ in range(7)]
+    it.wait_for_owners(7, 200, '"select"')
+    it.wait_for_number("SELECT count(*) FROM \"select\".jobs WHERE state = 'done'", 400)
+    end(*workers)
+    say("the schema select had 200 partitions over 7 workers, and jobs whose ids have 19 digits and whose kinds 40 letters")
+
+
+def odd_rows(it):
+    """What the table's types allow and no clock or counter does: it is refused, or done."""
+    for row, why in [
+        ("(attempt) VALUES (-1)", "jobs_attempt_counts"),
+        ("(attempt) VALUES (1000000000)", "jobs_attempt_counts"),
+        ("(due) VALUES ('infinity')", "jobs_due_check"),
+        ("(due) VALUES ('-infinity')", "jobs_due_check"),
+        ("(state) VALUES ('running')", "jobs_lease_ends"),
+        ("(state, lease_until) VALUES ('running', 'infinity')", "jobs_lease_ends"),
+        ("(kind) VALUES ('a b')", "jobs_kind_is_plain"),
+    ]:
+        it.refuses(f"INSERT INTO jobs {row}", why)
+    # Too many for a notification, and before 1970.
+    it.sql(
+        "INSERT INTO jobs (due) SELECT '1960-01-01'::timestamptz + i * interval '1 day' FROM generate_series(1, 150) i; "
+        "INSERT INTO jobs (due) VALUES ('4713-01-01 BC'), ('294276-12-31')"
+    )
+    assert it.sql("SELECT jobs_is_last(1000000000, 2000000000, '', 25)") == [["t"]], "it waits again"
+    it.sql("INSERT INTO jobs (attempt) VALUES (999999999)")
+    worker = it.effect()
+    exactly_once(it, 152)
     end(worker)
-    print("rules: the schema select has jobs whose ids have 19 digits and whose kinds 40 letters", flush=True)
+    say("jobs that were due before 1970 were done, and rows that can't be counted on are refused")
 
 
 def pruned(it):
     """Jobs that are dead for long are pruned, also where nothing is said of it, and done ones only where it is."""
-    empty(it)
     it.sql(
         "INSERT INTO jobs (state, due, ended) SELECT state, now(), now() - days * interval '1 day' "
         "FROM unnest(ARRAY['dead', 'done']) state, unnest(ARRAY[89, 91]) days"
@@ -261,7 +292,7 @@ def pruned(it):
     it.wait_for_number("SELECT count(*) FROM jobs", 3)
     assert it.number("SELECT count(*) FROM jobs WHERE state = 'dead' AND ended < now() - interval '90 days'") == 0
     end(worker)
-    print("rules: a job that was dead for more than 90 days was pruned", flush=True)
+    say("a job that was dead for more than 90 days was pruned")
 
 
 def delays(it):
@@ -271,17 +302,9 @@ def delays(it):
     for kind, first, attempt, seconds in [("a", "0.5", 2, 8), ("b", "'Infinity'", 3, 31536000), ("c", "1e300", 30, 31536000)]:
         it.sql(f"INSERT INTO jobs_kinds (kind, first_delay) VALUES ('{kind}', {first})")
         assert it.number(f"SELECT extract(epoch FROM jobs_delay({attempt}, '{kind}'))") == seconds, kind
-    it.sql("DELETE FROM jobs_kinds")
-    assert "25 where none is given" in run("--help").stdout
-    print("rules: 25 attempts take 20 days, and no kind has a delay that can't be counted", flush=True)
-
-
-def main():
-    with cluster() as it:
-        cases = [sorts, many_kinds, silent, ends, cancelled, changed_kind, paused, bounded, long_names, pruned, delays]
-        for case in cases:
-            case(it)
+    say("25 attempts take 20 days, and no kind has a delay that can't be counted")
 
 
 if __name__ == "__main__":
-    main()
+    cases = [sorts, many_kinds, silent, ends, cancelled, changed_kind, paused, bounded, bounded_effects]
+    run_cases([*cases, long_names, odd_rows, pruned, delays])

@@ -50,7 +50,6 @@ RETURNING id";
 /// Workers that ended without a word.
 const FORGET: &str = "DELETE FROM jobs_workers WHERE until < now() - interval '1 minute'";
 
-/// Does it until the worker ends.
 pub async fn run(worker: Arc<Worker>) {
     let mut pruned: Option<Instant> = None;
     let mut bad = HashMap::new();

@@ -41,7 +41,6 @@ impl Clock {
         self.since_at_most.store(answers.iter().map(|it| it.1).min().unwrap_or(since.1), SeqCst);
     }
 
-    /// How long this process has run.
     pub fn uptime(&self) -> Duration {
         self.begun.elapsed()
     }
@@ -50,7 +49,6 @@ impl Clock {
         self.at(Instant::now())
     }
 
-    /// What this clock shows at a moment.
     pub fn at(&self, moment: Instant) -> i64 {
         self.since.load(SeqCst) + moment.saturating_duration_since(self.begun).as_micros() as i64
     }
@@ -74,20 +72,12 @@ mod tests {
     const NOW: i64 = 1_700_000_000_000_000;
 
     #[test]
-    fn a_slow_answer_does_not_set_the_clock_back() {
+    fn a_slow_answer_does_not_set_the_clock_back_and_one_that_was_set_back_is_followed() {
         let clock = Clock::new();
         clock.note(clock.uptime(), NOW);
         clock.note(clock.uptime(), NOW - 40_000);
         assert!(clock.now() >= NOW);
-    }
-
-    #[test]
-    fn a_clock_that_was_set_back_is_followed_after_some_answers() {
-        let clock = Clock::new();
-        clock.note(clock.uptime(), NOW);
-        for _ in 0..ANSWERS {
-            clock.note(clock.uptime(), NOW - 3_600_000_000);
-        }
+        (0..ANSWERS).for_each(|_| clock.note(clock.uptime(), NOW - 3_600_000_000));
         assert!(clock.now() < NOW - 3_000_000_000);
     }
 

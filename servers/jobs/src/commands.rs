@@ -1,16 +1,15 @@
 //! What holders say: each command, and what is refused of it.
 
-use crate::resp::{integer, Args, Reply};
+use crate::input::Args;
+use servers::resp::{integer, Reply};
 use std::time::Duration;
 
 /// The most jobs of one word of a holder.
 const TAKE_LIMIT: i64 = 100;
 /// The longest that a holder may wait for a job, in milliseconds.
 const WAIT_LIMIT: i64 = 60_000;
-/// The longest reason of a failure.
 const REASON_LIMIT: usize = 1_000;
 
-/// An attempt of a job.
 #[derive(Clone, Copy, Debug, PartialEq, Eq)]
 pub struct Attempt {
     pub id: i64,
@@ -29,7 +28,6 @@ pub enum Command {
     Done(Attempt),
     Fail(Attempt, String),
     Ping,
-    /// The database's clock.
     Time,
     /// What clients ask of a server of the protocol before they begin.
     Commands,
@@ -82,7 +80,7 @@ fn take(args: &[Vec<u8>]) -> Option<Command> {
     let kinds = match args {
         [] => Vec::new(),
         [word, kinds @ ..] if word.eq_ignore_ascii_case(b"KIND") && !kinds.is_empty() => {
-            kinds.iter().map(|it| String::from_utf8_lossy(it).into_owned()).collect()
+            kinds.iter().map(|it| kind(it)).collect::<Option<_>>()?
         }
         _ => return None,
     };
@@ -90,6 +88,12 @@ fn take(args: &[Vec<u8>]) -> Option<Command> {
         return None;
     }
     Some(Command::Take { count: count as usize, wait: Duration::from_millis(wait as u64), kinds })
+}
+
+/// A kind, as the table has them.
+fn kind(name: &[u8]) -> Option<String> {
+    let is_plain = |it: &u8| it.is_ascii_alphanumeric() || b"_.:-".contains(it);
+    (name.len() <= 40 && name.iter().all(is_plain)).then(|| String::from_utf8_lossy(name).into_owned())
 }
 
 fn attempt(args: &[Vec<u8>], most: usize) -> Option<Attempt> {
@@ -111,7 +115,8 @@ pub fn fenced(it: Attempt) -> Reply {
 }
 
 pub fn try_again(why: &str) -> Reply {
-    Reply::Error(format!("TRYAGAIN {why}"))
+    // What the database says may be in any language: of a refusal each character is a byte.
+    Reply::Error(format!("TRYAGAIN {}", why.replace(|it: char| !it.is_ascii(), "?")))
 }
 
 #[cfg(test)]
@@ -150,6 +155,8 @@ mod tests {
             "JOBS.TAKE 5 WAIT",
             "JOBS.TAKE 5 KIND",
             "JOBS.TAKE 5 WAIT 60001",
+            "JOBS.TAKE KIND mail \0",
+            "JOBS.TAKE KIND *",
             "JOBS.BEAT 17",
             "JOBS.BEAT 17 x",
             "JOBS.BEAT 17 99999999999",

@@ -133,9 +133,12 @@ impl Session {
         match timeout(self.limit, answer).await {
             Ok(answer) => answer.map_err(|error| {
                 let error = Error::from(error);
-                // A primary that has become a standby: another host of the URL may be the primary.
                 if error.code() == Some(&SqlState::READ_ONLY_SQL_TRANSACTION) {
+                    // A primary that has become a standby: another host of the URL may be the primary.
                     self.give_up();
+                } else if error.may_be_of_reading() || error.is_limit() {
+                    // An effect may have set the session's path, role or limits. What is under way ends by itself.
+                    self.is_given_up.store(true, SeqCst);
                 }
                 error
             }),
@@ -161,7 +164,11 @@ impl Session {
         let own = |error: Error| (error.whose(Asked::Own), error);
         let statement = self.prepare(sql).await.map_err(own)?;
         let error = match self.limited(self.client.query(&statement, params)).await {
-            Ok(rows) => return Ok(rows),
+            Ok(rows) => {
+                // None of the jobs stands there: an effect may have set a path to other tables.
+                self.is_given_up.fetch_or(rows.is_empty() && matches!(asked, Asked::Jobs(_)), SeqCst);
+                return Ok(rows);
+            }
             Err(error) => error,
         };
         if error.may_be_of_reading() {
@@ -205,11 +212,15 @@ async fn drive(mut connection: Connection<Socket, NoTlsStream>, told: UnboundedS
 }
 
 /// Notifications for a session that listens to none.
-pub fn deaf() -> UnboundedSender<String> {
+fn deaf() -> UnboundedSender<String> {
     unbounded_channel().0
 }
 
-/// What the database notifies a session of.
+/// A session for a program that ends soon.
+pub async fn connect(database: &Database) -> Result<Session, Error> {
+    Session::open(database, &Arc::default(), deaf()).await
+}
+
 pub type Told = UnboundedReceiver<String>;
 
 /// A delay that doubles up to a second.
@@ -227,7 +238,6 @@ impl Delay {
     }
 }
 
-/// Says on the standard error what goes on.
 pub fn tell(text: std::fmt::Arguments<'_>) {
     eprintln!("jobs: {text}");
 }

@@ -14,7 +14,6 @@ use tokio::time::sleep;
 use tokio_postgres::error::SqlState;
 use tokio_postgres::Row;
 
-/// The most jobs of a statement.
 const BATCH: usize = 500;
 /// How long a session rests where the database can't run the effect.
 const UNFIT: Duration = Duration::from_millis(50);
@@ -41,10 +40,7 @@ pub async fn run(worker: Arc<Worker>, statement: Arc<str>, mut jobs: UnboundedRe
     let free = Arc::new(Semaphore::new(sessions));
     let mut left = Vec::new();
     loop {
-        let permit = match free.clone().acquire_owned().await {
-            Ok(permit) => permit,
-            Err(_) => return,
-        };
+        let Ok(permit) = free.clone().acquire_owned().await else { return };
         if left.is_empty() {
             match jobs.recv().await {
                 Some(ids) => left = ids,

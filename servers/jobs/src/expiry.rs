@@ -11,7 +11,6 @@ use std::time::{Duration, SystemTime};
 use tokio::sync::mpsc::UnboundedReceiver;
 use tokio_postgres::Row;
 
-/// The most leases of a statement.
 const BATCH: usize = 2_000;
 /// How long a lease is left alone whose row is locked.
 const LOCKED: Duration = Duration::from_millis(300);
@@ -111,10 +110,14 @@ pub fn running(row: &Row) -> Running {
 
 /// The time so many microseconds after 1970 began.
 pub fn time(micros: i64) -> SystemTime {
-    SystemTime::UNIX_EPOCH + Duration::from_micros(micros.max(0) as u64)
+    let time = Duration::from_micros(micros.unsigned_abs());
+    if micros < 0 {
+        SystemTime::UNIX_EPOCH - time
+    } else {
+        SystemTime::UNIX_EPOCH + time
+    }
 }
 
-/// The microseconds since 1970.
 pub fn micros(time: SystemTime) -> i64 {
     match time.duration_since(SystemTime::UNIX_EPOCH) {
         Ok(since) => since.as_micros() as i64,

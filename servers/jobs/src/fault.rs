@@ -7,7 +7,6 @@ use tokio_postgres::error::SqlState;
 /// How often rows are tried before an error that may pass, or the loss of the session, is theirs.
 const TRIES: usize = 3;
 
-/// Why a statement has no answer.
 #[derive(Debug)]
 pub enum Error {
     /// The database refused it, or couldn't be reached.
@@ -18,7 +17,6 @@ pub enum Error {
     Unlike(String),
 }
 
-/// Whose an error is.
 #[derive(Clone, Copy, Debug, PartialEq, Eq)]
 pub enum Whose {
     /// The way to the database's, or its state's: the same may be right in a moment.
@@ -31,7 +29,6 @@ pub enum Whose {
     Schedule,
 }
 
-/// What was asked.
 #[derive(Clone, Copy)]
 pub enum Asked {
     /// For a session, to read a statement, or for what the program's own statements do.
@@ -92,17 +89,16 @@ impl Error {
 
     /// Whether a limit of time or of resources ended it: with less it may be right.
     pub fn is_limit(&self) -> bool {
-        self.code().map_or(false, is_limit)
+        self.code().is_some_and(is_limit)
     }
 
-    /// Whether it waited in vain for what another session has locked.
     pub fn is_lock(&self) -> bool {
         self.code() == Some(&SqlState::LOCK_NOT_AVAILABLE)
     }
 
     /// Whether the database may have met it while it read the statement again, as it does where a table has changed.
     pub fn may_be_of_reading(&self) -> bool {
-        self.code().map_or(false, |it| ["0A", "26", "42"].contains(&class(it)))
+        self.code().is_some_and(|it| ["0A", "26", "42"].contains(&class(it)))
     }
 }
 
@@ -132,7 +128,7 @@ fn whose(code: Option<&SqlState>, asked: Asked) -> Whose {
         Asked::Schedules(tries) => (Whose::Schedule, tries),
     };
     // A row that wants too much wants it again.
-    let is_of_row = !is_passing(code) || code.map_or(false, is_limit) || tries >= TRIES;
+    let is_of_row = !is_passing(code) || code.is_some_and(is_limit) || tries >= TRIES;
     if is_of_row {
         row
     } else {

@@ -8,12 +8,10 @@ use crate::sql;
 use crate::worker::Worker;
 use std::collections::HashSet;
 use std::sync::Arc;
-use std::time::{Instant, SystemTime};
+use std::time::SystemTime;
 
-/// The most leases of a statement.
 const BATCH: usize = 10_000;
 
-/// Writes the leases at every interval, until the worker ends.
 pub async fn write_on(worker: Arc<Worker>) {
     let mut interval = tokio::time::interval(worker.options.write_every);
     interval.set_missed_tick_behavior(tokio::time::MissedTickBehavior::Delay);
@@ -25,7 +23,6 @@ pub async fn write_on(worker: Arc<Worker>) {
 
 /// Writes the leases of some partitions that were extended since they were written last.
 pub async fn write(worker: &Worker, partitions: &[usize]) {
-    let begun = Instant::now();
     let mut extended = worker.partitions.extended(partitions);
     let mut left = extended.len();
     extended.sort_unstable_by_key(|it| it.id);
@@ -39,7 +36,6 @@ pub async fn write(worker: &Worker, partitions: &[usize]) {
         }
     }
     worker.metrics.leases_unwritten.set(left as u64);
-    worker.metrics.lease_write_micros.set(begun.elapsed().as_micros() as u64);
 }
 
 /// Tells how many aren't written. Those whose rows others have locked are tried again at the next interval.

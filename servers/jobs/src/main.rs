@@ -5,9 +5,9 @@ mod clock;
 mod commands;
 mod db;
 mod effect;
-mod enqueue;
 mod expiry;
 mod fault;
+mod input;
 mod leases;
 mod metrics;
 mod options;
@@ -15,8 +15,6 @@ mod owner;
 mod partitions;
 mod ready;
 mod redirect;
-mod resp;
-mod retry;
 mod scrape;
 mod server;
 mod setup;
@@ -36,37 +34,26 @@ async fn run(verb: Verb) -> Result<(), Box<dyn Error>> {
         }
         Verb::Setup(database) => setup::run(database).await,
         Verb::Worker(options) => worker::run(*options).await,
-        Verb::Enqueue(options) => enqueue::run(&options).await,
         Verb::Status(database) => status::run(&database).await,
-        Verb::Retry(options) => retry::run(&options).await,
-        Verb::Cancel(options) => retry::cancel(&options).await,
     }
 }
 
-fn main() -> ExitCode {
-    let verb = match options::verb(std::env::args().skip(1)) {
-        Ok(verb) => verb,
-        Err(error) => {
-            eprintln!("jobs: {error}");
-            return ExitCode::from(2);
-        }
-    };
-    let runtime = tokio::runtime::Builder::new_multi_thread().worker_threads(2).enable_all().build();
-    let runtime = match runtime {
-        Ok(runtime) => runtime,
-        Err(error) => {
-            eprintln!("jobs: {error}");
-            return ExitCode::FAILURE;
-        }
-    };
+fn begin(verb: Verb) -> Result<(), Box<dyn Error>> {
+    let runtime = tokio::runtime::Builder::new_multi_thread().worker_threads(2).enable_all().build()?;
     let ended = runtime.block_on(run(verb));
     // Nobody waits for what a drain has left.
     runtime.shutdown_background();
-    match ended {
-        Ok(()) => ExitCode::SUCCESS,
-        Err(error) => {
-            eprintln!("jobs: {error}");
-            ExitCode::FAILURE
-        }
-    }
+    ended
+}
+
+fn main() -> ExitCode {
+    let (code, error) = match options::verb(std::env::args().skip(1)) {
+        Err(error) => (ExitCode::from(2), error),
+        Ok(verb) => match begin(verb) {
+            Ok(()) => return ExitCode::SUCCESS,
+            Err(error) => (ExitCode::FAILURE, error.to_string()),
+        },
+    };
+    eprintln!("jobs: {error}");
+    code
 }

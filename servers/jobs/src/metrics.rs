@@ -24,25 +24,9 @@ impl Number {
     }
 }
 
-/// The upper ends of the histogram's buckets, in microseconds.
-const BUCKETS: [u64; 16] = [
-    500,
-    1_000,
-    2_000,
-    3_000,
-    5_000,
-    7_500,
-    10_000,
-    20_000,
-    50_000,
-    100_000,
-    200_000,
-    500_000,
-    1_000_000,
-    5_000_000,
-    30_000_000,
-    300_000_000,
-];
+/// The upper ends of the histogram's buckets, in units of a hundred microseconds.
+const BUCKETS: [u64; 16] = [5, 10, 20, 30, 50, 75, 100, 200, 500, 1000, 2000, 5000, 10000, 50000, 300000, 3000000];
+const UNIT: u64 = 100;
 
 /// How late jobs were taken, by the database's clock.
 #[derive(Default)]
@@ -53,9 +37,8 @@ pub struct Lateness {
 }
 
 impl Lateness {
-    /// A job was so late.
     pub fn note(&self, micros: u64) {
-        if let Some(bucket) = BUCKETS.iter().position(|end| micros <= *end) {
+        if let Some(bucket) = BUCKETS.iter().position(|end| micros <= end * UNIT) {
             self.buckets[bucket].add(1);
         }
         self.count.add(1);
@@ -70,7 +53,7 @@ impl Lateness {
         let mut lines = String::new();
         for (end, bucket) in BUCKETS.iter().zip(&self.buckets) {
             below += bucket.get();
-            writeln!(lines, "{name}_bucket{{le=\"{}\"}} {below}", *end as f64 / 1e6)?;
+            writeln!(lines, "{name}_bucket{{le=\"{}\"}} {below}", (end * UNIT) as f64 / 1e6)?;
         }
         let count = self.count.get().max(below);
         write!(text, "{lines}{name}_bucket{{le=\"+Inf\"}} {count}\n{name}_sum ")?;
@@ -78,80 +61,54 @@ impl Lateness {
     }
 }
 
-#[derive(Default)]
-pub struct Metrics {
-    pub taken: Number,
-    pub done: Number,
-    pub failed: Number,
-    pub dead: Number,
-    pub expired: Number,
-    pub refused: Number,
-    pub beats: Number,
-    pub fenced: Number,
-    pub statements: Number,
-    pub database_errors: Number,
-    pub partitions: Number,
-    pub indexed: Number,
-    pub leases: Number,
-    pub leases_written: Number,
-    pub lease_write_micros: Number,
-    pub leases_unwritten: Number,
-    pub clients: Number,
-    pub schedules_overdue: Number,
-    pub lateness: Lateness,
+/// Each number by its field, its kind, its name and what it tells.
+macro_rules! metrics {
+    ($($field:ident $kind:ident $name:ident $help:literal)*) => {
+        #[derive(Default)]
+        pub struct Metrics {
+            $(pub $field: Number,)*
+            pub lateness: Lateness,
+        }
+
+        impl Metrics {
+            fn write(&self, text: &mut String) -> fmt::Result {
+                $(
+                    let (kind, name) = (stringify!($kind), stringify!($name));
+                    writeln!(text, "# HELP {name} {}\n# TYPE {name} {kind}\n{name} {}", $help, self.$field.get())?;
+                )*
+                self.lateness.write("jobs_lateness_seconds", text)
+            }
+        }
+    };
+}
+
+metrics! {
+    taken counter jobs_taken_total "Attempts that were begun."
+    done counter jobs_done_total "Jobs that are done."
+    failed counter jobs_failed_total "Attempts that failed."
+    dead counter jobs_dead_total "Jobs that failed at their last attempt."
+    expired counter jobs_leases_ended_total "Leases that ended because nobody extended them."
+    refused counter jobs_refused_total "Jobs that came out of the index and weren't to be taken."
+    beats counter jobs_beats_total "Leases that holders extended."
+    fenced counter jobs_fenced_total "Words of holders whose attempt isn't the present one."
+    statements counter jobs_statements_total "Statements sent to the database."
+    database_errors counter jobs_database_errors_total "Statements that the database didn't answer."
+    leases_written counter jobs_leases_written_total "Leases sent to the table."
+    partitions gauge jobs_partitions_owned "Partitions that this worker owns."
+    indexed gauge jobs_indexed "Jobs that wait in memory."
+    leases gauge jobs_leases "Leases in memory."
+    leases_unwritten gauge jobs_leases_unwritten
+        "Leases that the last write left, since their rows are locked or the database didn't answer."
+    clients gauge jobs_clients "Holders that are connected."
+    schedules_overdue gauge jobs_schedules_overdue "Schedules whose job should have been enqueued some seconds ago."
 }
 
 impl Metrics {
-    /// All numbers in Prometheus's text form.
     pub fn text(&self) -> String {
         let mut text = String::new();
         // A string takes whatever is written.
         let _ = self.write(&mut text);
         text
-    }
-
-    fn write(&self, text: &mut String) -> fmt::Result {
-        let counters = [
-            ("jobs_taken_total", "Attempts that were begun.", &self.taken),
-            ("jobs_done_total", "Jobs that are done.", &self.done),
-            ("jobs_failed_total", "Attempts that failed.", &self.failed),
-            ("jobs_dead_total", "Jobs that failed at their last attempt.", &self.dead),
-            ("jobs_leases_ended_total", "Leases that ended because nobody extended them.", &self.expired),
-            ("jobs_refused_total", "Jobs that came out of the index and weren't to be taken.", &self.refused),
-            ("jobs_beats_total", "Leases that holders extended.", &self.beats),
-            ("jobs_fenced_total", "Words of holders whose attempt isn't the present one.", &self.fenced),
-            ("jobs_statements_total", "Statements sent to the database.", &self.statements),
-            ("jobs_database_errors_total", "Statements that the database didn't answer.", &self.database_errors),
-            ("jobs_leases_written_total", "Leases sent to the table.", &self.leases_written),
-        ];
-        for (name, help, number) in counters {
-            writeln!(text, "# HELP {name} {help}\n# TYPE {name} counter\n{name} {}", number.get())?;
-        }
-        let gauges = [
-            ("jobs_partitions_owned", "Partitions that this worker owns.", self.partitions.get() as f64),
-            ("jobs_indexed", "Jobs that wait in memory.", self.indexed.get() as f64),
-            ("jobs_leases", "Leases in memory.", self.leases.get() as f64),
-            (
-                "jobs_lease_write_seconds",
-                "How long the last write of the leases took.",
-                self.lease_write_micros.get() as f64 / 1e6,
-            ),
-            (
-                "jobs_leases_unwritten",
-                "Leases that the last write left, since others have locked their rows or the database didn't answer.",
-                self.leases_unwritten.get() as f64,
-            ),
-            ("jobs_clients", "Holders that are connected.", self.clients.get() as f64),
-            (
-                "jobs_schedules_overdue",
-                "Schedules whose job should have been enqueued some seconds ago.",
-                self.schedules_overdue.get() as f64,
-            ),
-        ];
-        for (name, help, value) in gauges {
-            writeln!(text, "# HELP {name} {help}\n# TYPE {name} gauge\n{name} {value}")?;
-        }
-        self.lateness.write("jobs_lateness_seconds", text)
     }
 }
 

@@ -1,6 +1,7 @@
 //! The words behind `jobs`.
 
 use crate::db::{Database, CONNECT};
+use servers::password::Password;
 use std::net::SocketAddr;
 use std::time::Duration;
 use tokio_postgres::config::{SslMode, TargetSessionAttrs};
@@ -10,6 +11,8 @@ use tokio_postgres::Config;
 const MOST_PARTITIONS: usize = 1_024;
 /// How often a job is tried where neither it nor its kind nor its worker says it: over 20 days.
 const ATTEMPTS: i32 = 25;
+/// So many can be counted.
+const MOST_ATTEMPTS: i32 = 1_000_000_000;
 
 pub const HELP: &str = "jobs VERB [OPTION..]: delayed jobs and leases in PostgreSQL
 
@@ -33,14 +36,7 @@ pub const HELP: &str = "jobs VERB [OPTION..]: delayed jobs and leases in Postgre
                              doesn't wait
     --attempts N             after so many attempts a job is dead, 25 where none is given: over 20 days
     --metrics IP:PORT        numbers for Prometheus, at /metrics
-  jobs enqueue N           enqueues N jobs
-    --delay MS               all due so long from now, 0 where none is given
-    --spread MS              and each up to so much later, 0 where none is given
-    --payload TEXT           what they carry
-  jobs status              tells partitions and their owners, jobs by their state, and how late they were
-  jobs retry ID,ID..|all   has dead jobs wait again
-    --attempts N             how many attempts more each has, 25 where none is given
-  jobs cancel ID,ID..      has jobs that wait or run be dead; their holders are told at their next word
+  jobs status              tells workers, how many partitions each owns, and jobs by their state
   --database URL           for each: postgres://user@host/name or host=.. user=.. dbname=.., JOBS_DATABASE if not given
                            with connect_timeout=S where the way to a host may take more than 2 s, several hosts
                            (host=a,b port=5432,5433) of which the primary is taken; TLS is a proxy's
@@ -55,7 +51,6 @@ Holders say JOBS.TAKE [count] [WAIT ms] [KIND name..], JOBS.BEAT id attempt, JOB
 JOBS.FAIL id attempt [reason], TIME.
 Holders have no TLS: keep --listen and --metrics where only those reach them who may.";
 
-#[derive(Clone)]
 pub struct WorkerOptions {
     pub database: Database,
     pub listen: SocketAddr,
@@ -65,17 +60,13 @@ pub struct WorkerOptions {
     pub lease: Duration,
     pub write_every: Duration,
     pub drain: Duration,
-    /// Jobs that were done longer ago are pruned.
     pub keep_done: Option<Duration>,
-    /// Those that are dead for longer, too.
     pub keep_dead: Duration,
-    /// A holder that says nothing for so long is closed.
     pub timeout: Option<Duration>,
     pub clients: usize,
     /// One that owns partitions, and those that take jobs and write what becomes of them.
     pub sessions: usize,
-    /// What holders say by AUTH before all else.
-    pub password: Option<Vec<u8>>,
+    pub password: Option<Password>,
     pub attempts: i32,
     pub metrics: Option<SocketAddr>,
 }
@@ -86,37 +77,13 @@ pub struct SetupOptions {
     pub partitions: Option<usize>,
 }
 
-pub struct EnqueueOptions {
-    pub database: Database,
-    pub count: u64,
-    pub delay: Duration,
-    pub spread: Duration,
-    pub payload: String,
-}
-
-pub struct RetryOptions {
-    pub database: Database,
-    /// All that are dead where none are given.
-    pub ids: Option<Vec<i64>>,
-    pub attempts: i32,
-}
-
-pub struct CancelOptions {
-    pub database: Database,
-    pub ids: Vec<i64>,
-}
-
 pub enum Verb {
     Help,
     Setup(SetupOptions),
     Worker(Box<WorkerOptions>),
-    Enqueue(EnqueueOptions),
     Status(Database),
-    Retry(RetryOptions),
-    Cancel(CancelOptions),
 }
 
-/// The options that were given, by name.
 struct Given(Vec<(String, String)>);
 
 impl Given {
@@ -184,7 +151,7 @@ impl Given {
                 && it.starts_with(|it: char| it.is_ascii_lowercase() || it == '_')
                 && it.bytes().all(|it| it.is_ascii_lowercase() || it.is_ascii_digit() || it == b'_')
         };
-        if schema.as_deref().map_or(false, |it| !is_plain(it)) {
+        if schema.as_deref().is_some_and(|it| !is_plain(it)) {
             return Err(
                 "--schema has 1 to 40 small letters, digits and _, and begins with none of the digits".to_owned()
             );
@@ -213,14 +180,12 @@ fn millis(name: &str, text: &str, least: u64) -> Result<Duration, String> {
     }
 }
 
-/// What is asked for.
 pub fn verb(words: impl Iterator<Item = String>) -> Result<Verb, String> {
     let mut words = words.peekable();
     let verb = words.next().unwrap_or_else(|| "--help".to_owned());
     if ["--help", "-h", "help"].contains(&&verb[..]) {
         return Ok(Verb::Help);
     }
-    let count = if ["enqueue", "retry", "cancel"].contains(&&verb[..]) { words.next() } else { None };
     let rest: Vec<String> = words.collect();
     if rest.iter().any(|it| it == "--help") {
         return Ok(Verb::Help);
@@ -237,12 +202,6 @@ pub fn verb(words: impl Iterator<Item = String>) -> Result<Verb, String> {
         }),
         "status" => Verb::Status(given.database()?),
         "worker" => Verb::Worker(Box::new(worker(&mut given)?)),
-        "enqueue" => Verb::Enqueue(enqueue(count, &mut given)?),
-        "retry" => Verb::Retry(retry(count, &mut given)?),
-        "cancel" => Verb::Cancel(CancelOptions {
-            ids: ids(&count.ok_or("jobs cancel wants the ids of jobs")?)?,
-            database: given.database()?,
-        }),
         _ => return Err(format!("there is no {verb}; jobs --help tells what there is")),
     };
     given.end()?;
@@ -260,7 +219,7 @@ fn worker(given: &mut Given) -> Result<WorkerOptions, String> {
         write_every: given.millis("--write-every", 2_000, 10)?,
         clients: given.value("--clients", 900)?,
         sessions: given.value("--sessions", 4)?,
-        password: given.text("--password-file").map(|it| password(&it)).transpose()?,
+        password: given.text("--password-file").map(|it| Password::of_file(&it)).transpose()?,
         keep_done: given.text("--keep-done").map(|it| millis("--keep-done", &it, 0)).transpose()?,
         keep_dead: given.millis("--keep-dead", 90 * 24 * 3_600_000, 0)?,
         timeout: given.text("--timeout").map(|it| millis("--timeout", &it, 1)).transpose()?,
@@ -273,72 +232,26 @@ fn worker(given: &mut Given) -> Result<WorkerOptions, String> {
 }
 
 fn check(options: &WorkerOptions) -> Result<(), String> {
-    if !(1..=1_000).contains(&options.clients) {
-        return Err("--clients is 1 to 1000".to_owned());
-    }
-    if !(2..=32).contains(&options.sessions) {
-        return Err("--sessions is 2 to 32".to_owned());
-    }
-    // A lease that ends before it is written could never be extended.
-    if options.lease < 2 * options.write_every {
-        return Err("--lease is twice --write-every at least".to_owned());
-    }
-    if options.attempts < 1 {
-        return Err("--attempts is 1 at least".to_owned());
-    }
     // A slash and a space part what workers tell each other.
     let is_plain = |text: &str, most| {
         (1..=most).contains(&text.len()) && text.bytes().all(|it| it.is_ascii_graphic() && it != b'/')
     };
-    if !is_plain(&options.name, 24) {
-        return Err(format!("{} is no --name: it has 1 to 24 plain characters", options.name));
-    }
-    if options.announce.as_deref().map_or(false, |it| !is_plain(it, 200)) {
-        return Err("--announce has 1 to 200 plain characters, and no slash".to_owned());
-    }
-    if options.effect.is_none() && options.announce.is_none() && options.listen.ip().is_unspecified() {
-        return Err("--announce has to say where holders reach a worker that listens everywhere".to_owned());
+    let is_elsewhere = options.effect.is_some() || options.announce.is_some() || !options.listen.ip().is_unspecified();
+    for (is_right, what) in [
+        ((1..=1_000).contains(&options.clients), "--clients is 1 to 1000"),
+        ((2..=32).contains(&options.sessions), "--sessions is 2 to 32"),
+        // A lease that ends before it is written could never be extended.
+        (options.lease >= 2 * options.write_every, "--lease is twice --write-every at least"),
+        ((1..=MOST_ATTEMPTS).contains(&options.attempts), "--attempts is 1 to 1000000000"),
+        (is_plain(&options.name, 24), "--name has 1 to 24 plain characters, and no slash"),
+        (options.announce.iter().all(|it| is_plain(it, 200)), "--announce has 1 to 200 plain characters, and no slash"),
+        (is_elsewhere, "--announce has to say where holders reach a worker that listens everywhere"),
+    ] {
+        if !is_right {
+            return Err(what.to_owned());
+        }
     }
     Ok(())
-}
-
-/// The first line of a file.
-fn password(path: &str) -> Result<Vec<u8>, String> {
-    let text = std::fs::read_to_string(path).map_err(|error| format!("{path}: {error}"))?;
-    let line = text.lines().next().unwrap_or_default();
-    if line.is_empty() {
-        return Err(format!("{path} has no password in its first line"));
-    }
-    Ok(line.as_bytes().to_vec())
-}
-
-fn enqueue(count: Option<String>, given: &mut Given) -> Result<EnqueueOptions, String> {
-    let count = count.ok_or("jobs enqueue wants a number of jobs")?;
-    Ok(EnqueueOptions {
-        database: given.database()?,
-        count: count.parse().map_err(|_| format!("{count} is no number of jobs"))?,
-        delay: given.millis("--delay", 0, 0)?,
-        spread: given.millis("--spread", 0, 0)?,
-        payload: given.text("--payload").unwrap_or_default(),
-    })
-}
-
-fn retry(named: Option<String>, given: &mut Given) -> Result<RetryOptions, String> {
-    let named = named.ok_or("jobs retry wants the ids of dead jobs, or all")?;
-    let attempts = given.value("--attempts", ATTEMPTS)?;
-    if attempts < 1 {
-        return Err("--attempts is 1 at least".to_owned());
-    }
-    Ok(RetryOptions {
-        database: given.database()?,
-        ids: if named == "all" { None } else { Some(ids(&named)?) },
-        attempts,
-    })
-}
-
-/// Ids of jobs between commas.
-fn ids(text: &str) -> Result<Vec<i64>, String> {
-    text.split(',').map(|it| it.parse().map_err(|_| format!("{it} is no id of a job"))).collect()
 }
 
 #[cfg(test)]
@@ -354,7 +267,6 @@ mod tests {
         for (line, word) in [
             ("walk", "walk"),
             ("worker --database host=x --lease 5", "--lease"),
-            ("worker --database host=x --lease soon", "soon"),
             ("worker --database host=x --color red", "--color"),
             ("worker --database host=x --listen nowhere", "nowhere"),
             ("worker --database host=x --attempts 0", "--attempts"),
@@ -362,29 +274,11 @@ mod tests {
             ("worker --database host=x --clients 1001", "--clients"),
             ("worker --database host=x --sessions 1", "--sessions"),
             ("worker --database host=x --listen 0.0.0.0:6500", "--announce"),
-            ("enqueue many --database host=x", "many"),
-            ("enqueue 5 --database", "--database"),
             ("setup --database host=x --partitions 1025", "--partitions"),
             ("status --database postgres://me:secret@x/y", "JOBS_DATABASE"),
-            ("status status", "status"),
-            ("retry some --database host=x", "some"),
-            ("cancel 5,all --database host=x", "all"),
             ("status --database postgres://h/x?sslmode=require", "sslmode"),
-            ("retry all --database host=x --attempts 0", "--attempts"),
         ] {
             assert!(refusal(line).contains(word), "{line}: {}", refusal(line));
-        }
-    }
-
-    #[test]
-    fn what_is_not_given_has_a_value() {
-        let words = ["worker", "--database", "host=x"].map(str::to_owned);
-        match verb(words.into_iter()) {
-            Ok(Verb::Worker(options)) => {
-                assert_eq!((options.lease.as_secs(), options.write_every.as_secs(), options.attempts), (10, 2, 25));
-                assert!(options.effect.is_none());
-            }
-            _ => panic!("it is a worker"),
         }
     }
 }

@@ -115,7 +115,7 @@ struct Owner<'w> {
 impl Owner<'_> {
     /// Says that this worker lives, and that its terms go on.
     async fn renew(&mut self) -> Result<(), Error> {
-        if self.renewed.map_or(false, |it| it.elapsed() < RENEW_EVERY) {
+        if self.renewed.is_some_and(|it| it.elapsed() < RENEW_EVERY) {
             return Ok(());
         }
         let worker = self.worker;
@@ -282,7 +282,6 @@ impl Owner<'_> {
         Ok(())
     }
 
-    /// The worker ends.
     async fn leave(&mut self) -> Result<(), Error> {
         self.let_go(&self.worker.partitions.owned()).await?;
         self.session.query(sql::LEAVE, &[&self.worker.number]).await?;

@@ -1,8 +1,7 @@
 //! What a worker holds of each partition: which jobs wait in its queue, which are out, and which leases it keeps.
 
 use crate::clock::Clock;
-use hontkhale::delay_queue::Key;
-use hontkhale::DelayQueue;
+use hontkhale::{DelayQueue, Key};
 use std::collections::{HashMap, HashSet};
 use std::sync::{Arc, Mutex, MutexGuard, OnceLock, PoisonError};
 use std::time::{Duration, Instant};
@@ -12,6 +11,8 @@ pub const WAITING_ROOM: usize = 2_048;
 /// How long a transaction may be open that enqueues a job which is due already, in microseconds, for the next reading
 /// to find it: later ones are told by a notification, or found by the next reading of the whole partition.
 const LATE: i64 = 2_000_000;
+/// No job is due before it, which is the database's first day, in microseconds since 1970.
+const EARLIEST: i64 = -210_866_803_200_000_000;
 /// The most jobs that a reading files in a partition of a kind of which some at a time may run.
 const FEW: usize = 32;
 
@@ -28,7 +29,6 @@ pub enum Due {
 #[derive(Clone, Debug, PartialEq, Eq)]
 pub struct Waiting {
     pub id: i64,
-    /// The microseconds since 1970.
     pub due: i64,
     pub priority: i16,
     pub kind: Arc<str>,
@@ -39,7 +39,6 @@ pub struct Waiting {
 pub struct Running {
     pub id: i64,
     pub attempt: i32,
-    /// The microseconds since 1970.
     pub lease_until: i64,
 }
 
@@ -161,7 +160,6 @@ impl Partitions {
         self.all().iter().map(|it| enter(it).term.unwrap_or(0)).collect()
     }
 
-    /// The partitions that are owned.
     pub fn owned(&self) -> Vec<usize> {
         (0..self.count()).filter(|it| self.term(*it).is_some()).collect()
     }
@@ -183,7 +181,7 @@ impl Partitions {
                 return None;
             }
             if std::mem::take(&mut partition.is_whole) {
-                partition.since = 0;
+                partition.since = EARLIEST;
             }
             Some((number, partition.since))
         };

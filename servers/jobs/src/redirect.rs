@@ -1,9 +1,9 @@
 //! Sends a holder to the worker that owns a job.
 
 use crate::commands::try_again;
-use crate::resp::Reply;
 use crate::sql;
 use crate::worker::Worker;
+use servers::resp::Reply;
 use std::collections::HashMap;
 use std::sync::{Mutex, MutexGuard, PoisonError};
 use std::time::{Duration, Instant};

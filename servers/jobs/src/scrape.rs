@@ -14,7 +14,6 @@ const REQUEST: usize = 8_192;
 const AT_A_TIME: usize = 16;
 const PATIENCE: Duration = Duration::from_secs(5);
 
-/// Serves the numbers.
 pub async fn serve(worker: Arc<Worker>, listener: TcpListener) {
     let seats = Arc::new(Semaphore::new(AT_A_TIME));
     loop {

@@ -5,11 +5,12 @@ use crate::db::{tell, Param};
 use crate::effect::note_lateness;
 use crate::expiry::{adopt, running};
 use crate::fault::Error;
+use crate::input::Input;
 use crate::partitions::{Beat, Running};
 use crate::redirect::redirect;
-use crate::resp::{Input, Reply};
 use crate::sql;
 use crate::worker::Worker;
+use servers::resp::{Protocol, Reply};
 use socket2::{SockRef, TcpKeepalive};
 use std::collections::{HashMap, HashSet};
 use std::io;
@@ -22,7 +23,6 @@ use tokio::sync::{OwnedSemaphorePermit, Semaphore};
 use tokio::time::{timeout, Instant};
 use tokio_postgres::Row;
 
-/// The most commands that are answered together.
 const TOGETHER: usize = 5_000;
 /// How long a client may leave its replies unread.
 const PATIENCE: Duration = Duration::from_secs(15);
@@ -56,7 +56,7 @@ async fn talk(worker: Arc<Worker>, mut stream: TcpStream, seat: Option<OwnedSema
         None => drop(stream.write_all(b"-ERR max number of clients reached\r\n").await),
         Some(_seat) => {
             let is_known = worker.options.password.is_none();
-            let mut holder = Holder { worker: &worker, is_known, input: Input::default(), replies: Vec::new() };
+            let mut holder = Holder { worker: &worker, is_known, input: Input::new(), replies: Vec::new() };
             worker.metrics.clients.add(1);
             // Whoever is gone isn't answered.
             let _ = holder.converse(&mut stream).await;
@@ -100,7 +100,7 @@ impl Holder<'_> {
                 self.answer(alike, stream).await?;
             }
             if let Some(error) = broken {
-                Reply::Error(format!("ERR Protocol error: {error}")).write(&mut self.replies);
+                self.tell(Reply::Error(format!("ERR Protocol error: {error}")));
             }
             self.send(stream).await?;
             if ends {
@@ -118,6 +118,10 @@ impl Holder<'_> {
         }
     }
 
+    fn tell(&mut self, reply: Reply) {
+        reply.write_whole(&mut self.replies, Protocol::Two);
+    }
+
     async fn send(&mut self, stream: &mut TcpStream) -> io::Result<()> {
         let sent = timeout(PATIENCE, stream.write_all(&self.replies)).await;
         self.replies.clear();
@@ -125,18 +129,16 @@ impl Holder<'_> {
         sent.map_err(|_| io::Error::from(io::ErrorKind::TimedOut))?
     }
 
-    /// Answers commands of one kind.
     async fn answer(&mut self, commands: &[Command], stream: &mut TcpStream) -> io::Result<()> {
         match &commands[0] {
             Command::Auth(_) => self.learn(commands).await,
-            Command::Quit => Reply::Status("OK").write(&mut self.replies),
+            Command::Quit => self.tell(Reply::Status("OK")),
             _ if !self.is_known => {
-                let refused = Reply::Error("NOAUTH Authentication required.".to_owned());
-                commands.iter().for_each(|_| refused.write(&mut self.replies));
+                let refused = || Reply::Error("NOAUTH Authentication required.".to_owned());
+                commands.iter().for_each(|_| self.tell(refused()));
             }
             Command::Beat(_) => self.beat(&attempts(commands)).await,
-            Command::Done(_) => self.done(&attempts(commands)).await,
-            Command::Fail(..) => self.fail(commands).await,
+            Command::Done(_) | Command::Fail(..) => self.finish(commands).await,
             Command::Take { .. } => {
                 for command in commands {
                     if let Command::Take { count, wait, kinds } = command {
@@ -146,7 +148,7 @@ impl Holder<'_> {
                     }
                 }
             }
-            _ => commands.iter().for_each(|it| simple(self.worker, it).write(&mut self.replies)),
+            _ => commands.iter().for_each(|it| self.tell(simple(self.worker, it))),
         }
         Ok(())
     }
@@ -154,7 +156,7 @@ impl Holder<'_> {
     async fn learn(&mut self, commands: &[Command]) {
         for command in commands {
             let reply = match (command, &self.worker.options.password) {
-                (Command::Auth(said), Some(password)) if is_alike(said, password) => {
+                (Command::Auth(said), Some(password)) if password.is(said) => {
                     self.is_known = true;
                     Reply::Status("OK")
                 }
@@ -164,7 +166,7 @@ impl Holder<'_> {
                 }
                 (_, None) => Reply::Error("ERR Client sent AUTH, but no password is set.".to_owned()),
             };
-            reply.write(&mut self.replies);
+            self.tell(reply);
         }
     }
 
@@ -195,14 +197,14 @@ impl Holder<'_> {
                 break given;
             }
         };
-        reply.write(&mut self.replies);
+        self.tell(reply);
         Ok(())
     }
 
     async fn beat(&mut self, attempts: &[Attempt]) {
         let worker = self.worker;
         if worker.is_ending() {
-            return attempts.iter().for_each(|_| try_again("this worker drains").write(&mut self.replies));
+            return attempts.iter().for_each(|_| self.tell(try_again("this worker drains")));
         }
         let extend = |it: &Attempt| worker.partitions.beat(it.id, it.attempt, worker.options.lease);
         let mut beats: Vec<Beat> = attempts.iter().map(extend).collect();
@@ -231,28 +233,24 @@ impl Holder<'_> {
                 Beat::Foreign => redirect(worker, worker.partitions.of(it.id)).await,
                 Beat::Fenced | Beat::Unknown => refuse(worker, *it),
             };
-            reply.write(&mut self.replies);
+            self.tell(reply);
         }
     }
 
-    async fn done(&mut self, attempts: &[Attempt]) {
+    /// Attempts are done, or have failed for reasons.
+    async fn finish(&mut self, commands: &[Command]) {
+        let (worker, attempts) = (self.worker, attempts(commands));
         let (ids, numbers): (Vec<i64>, Vec<i32>) = attempts.iter().map(|it| (it.id, it.attempt)).unzip();
-        let (number, terms) = (&self.worker.number, self.worker.partitions.terms());
-        let answer = self.worker.links.insist(sql::DONE, &[number, &terms, &ids, &numbers]).await;
-        let count = self.end(attempts, answer).await;
-        self.worker.metrics.done.add(count);
-    }
-
-    async fn fail(&mut self, commands: &[Command]) {
-        let attempts = attempts(commands);
-        let (ids, numbers): (Vec<i64>, Vec<i32>) = attempts.iter().map(|it| (it.id, it.attempt)).unzip();
-        let reasons = commands.iter().map(|it| if let Command::Fail(_, reason) = it { &reason[..] } else { "" });
-        let reasons: Vec<&str> = reasons.collect();
-        let (number, terms) = (&self.worker.number, self.worker.partitions.terms());
-        let params: [Param<'_>; 6] = [number, &terms, &ids, &numbers, &reasons, &self.worker.options.attempts];
-        let answer = self.worker.links.insist(sql::FAIL, &params).await;
-        let count = self.end(&attempts, answer).await;
-        self.worker.metrics.failed.add(count);
+        let reason = |it: &Command| if let Command::Fail(_, reason) = it { reason.clone() } else { String::new() };
+        let reasons: Vec<String> = commands.iter().map(reason).collect();
+        let terms = worker.partitions.terms();
+        let params: [Param<'_>; 6] = [&worker.number, &terms, &ids, &numbers, &reasons, &worker.options.attempts];
+        let (sql, params, ended) = match commands[0] {
+            Command::Done(_) => (sql::DONE, &params[..4], &worker.metrics.done),
+            _ => (sql::FAIL, &params[..], &worker.metrics.failed),
+        };
+        let answer = worker.links.insist(sql, params).await;
+        ended.add(self.end(&attempts, answer).await);
     }
 
     /// Answers attempts by the jobs that the database tells, each by what became of it, and by `running` as it was.
@@ -261,7 +259,7 @@ impl Holder<'_> {
         let rows = match answer {
             Ok(rows) => rows,
             Err(error) => {
-                attempts.iter().for_each(|_| try_again(&error.to_string()).write(&mut self.replies));
+                attempts.iter().for_each(|_| self.tell(try_again(&error.to_string())));
                 return 0;
             }
         };
@@ -280,15 +278,10 @@ impl Holder<'_> {
             if ended.get(&it.id) != Some(&false) {
                 self.worker.partitions.end(it.id, it.attempt, None);
             }
-            reply.write(&mut self.replies);
+            self.tell(reply);
         }
         ended.values().filter(|it| **it).count() as u64
     }
-}
-
-/// Whether two texts are alike, by a time that tells nothing of where they differ.
-fn is_alike(one: &[u8], other: &[u8]) -> bool {
-    one.len() == other.len() && one.iter().zip(other).fold(0, |sum, (a, b)| sum | (a ^ b)) == 0
 }
 
 fn refuse(worker: &Worker, it: Attempt) -> Reply {
@@ -323,14 +316,14 @@ fn given(worker: &Worker, row: &Row) -> Reply {
     note_lateness(worker, row.get(4), row.get(5), it.attempt);
     let payload: String = row.get(3);
     let numbers = [it.id, it.attempt.into(), it.lease_until / 1_000].map(Reply::Integer);
-    Reply::Array(numbers.into_iter().chain([Reply::Bulk(payload.into_bytes())]).collect())
+    Reply::Array(numbers.into_iter().chain([Reply::bulk(payload.as_bytes())]).collect())
 }
 
 fn simple(worker: &Worker, command: &Command) -> Reply {
     match command {
         Command::Time => {
             let now = worker.clock.now();
-            Reply::Array([now / 1_000_000, now % 1_000_000].map(|it| Reply::Bulk(it.to_string().into_bytes())).into())
+            Reply::Array([now / 1_000_000, now % 1_000_000].map(|it| Reply::bulk(it.to_string().as_bytes())).into())
         }
         Command::Ping => Reply::Status("PONG"),
         Command::Commands => Reply::Array(Vec::new()),

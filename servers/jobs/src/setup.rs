@@ -1,10 +1,9 @@
 //! Makes the tables, and changes those of an older program: step by step, without keeping inserts waiting.
 
-use crate::db::{deaf, meet, tell, Database, Delay, Session};
+use crate::db::{connect, meet, tell, Database, Delay, Session};
 use crate::fault::{Asked, Error as DbError, Whose};
 use crate::options::SetupOptions;
 use std::error::Error;
-use std::sync::Arc;
 use std::time::{Duration, Instant};
 use tokio_postgres::error::SqlState;
 
@@ -14,7 +13,6 @@ const VERSIONS: [&str; 3] = [include_str!("schema/1.sql"), include_str!("schema/
 const LEAST: u32 = 14;
 /// How many partitions there are where nobody says another number: it stands for it in the steps.
 const USUAL: usize = 64;
-/// What begins a step.
 const STEP: &str = "\n-- STEP";
 /// How long a step waits for a lock each time: inserts that come meanwhile wait as long.
 const LOCK: Duration = Duration::from_millis(300);
@@ -30,7 +28,7 @@ fn fits([(version, process), (_, other)]: &[(String, String); 2]) -> Result<(), 
     let relative =
         ["CockroachDB", "-YB-", "Redshift", "Greenplum", "Materialize"].iter().find(|it| version.contains(**it));
     let number = version.strip_prefix("PostgreSQL ").and_then(|it| it.split(|it: char| !it.is_ascii_digit()).next());
-    let is_known = number.and_then(|it| it.parse().ok()).map_or(false, |it: u32| it >= LEAST);
+    let is_known = number.and_then(|it| it.parse().ok()).is_some_and(|it: u32| it >= LEAST);
     if relative.is_some() || !is_known {
         return Err(format!("the database has to be PostgreSQL of version {LEAST} or later, and says: {version}"));
     }
@@ -42,13 +40,12 @@ fn fits([(version, process), (_, other)]: &[(String, String); 2]) -> Result<(), 
     Ok(())
 }
 
-/// Makes or changes what `jobs setup` finds.
 pub async fn run(SetupOptions { mut database, partitions }: SetupOptions) -> Result<(), Box<dyn Error>> {
     fits(&meet(&database).await?)?;
     // An index over a great table takes its time.
     database.statement_timeout = Duration::from_secs(24 * 3_600);
     database.lock_timeout = LOCK;
-    let session = Session::open(&database, &Arc::default(), deaf()).await?;
+    let session = connect(&database).await?;
     if let Some(schema) = &database.schema {
         let stands: bool = session.query("SELECT to_regnamespace($1) IS NOT NULL", &[schema]).await?[0].get(0);
         if !stands {
@@ -78,7 +75,7 @@ pub async fn run(SetupOptions { mut database, partitions }: SetupOptions) -> Res
         1 => USUAL.to_string(),
         _ => count(&session).await?.to_string(),
     };
-    if partitions.map_or(false, |it| it.to_string() != count) {
+    if partitions.is_some_and(|it| it.to_string() != count) {
         return Err(format!("the tables have {count} partitions, and keep them").into());
     }
     for (version, steps) in (1..).zip(VERSIONS).skip(stands as usize) {
@@ -112,7 +109,7 @@ async fn stands(database: &Database) -> Result<Result<(i32, i64), String>, DbErr
     if let Err(refusal) = fits(&meet(database).await?) {
         return Ok(Err(refusal));
     }
-    let session = Session::open(database, &Arc::default(), deaf()).await?;
+    let session = connect(database).await?;
     let version = session.query(VERSION, &[]).await?[0].get(0);
     let known = version == VERSIONS.len() as i32;
     Ok(Ok((version, if known { count(&session).await? } else { 0 })))
@@ -145,12 +142,9 @@ pub async fn check(database: &Database) -> Result<usize, Box<dyn Error>> {
 mod tests {
     use super::*;
 
-    fn said(version: &str, other: &str) -> [(String, String); 2] {
-        ["7", other].map(|process| (version.to_owned(), process.to_owned()))
-    }
-
     #[test]
-    fn relatives_of_postgresql_are_refused_by_name() {
+    fn relatives_of_postgresql_and_poolers_in_transaction_mode_are_refused_by_name() {
+        let fit = |version: &str, other: &str| fits(&["7", other].map(|it| (version.to_owned(), it.to_owned())));
         for version in [
             "CockroachDB CCL v23.1.11 (x86_64-pc-linux-gnu, built 2023/09/27)",
             "PostgreSQL 15.2-YB-2.25.0.0-b0 on x86_64-pc-linux-gnu",
@@ -158,14 +152,10 @@ mod tests {
             "PostgreSQL 14.4 (Greenplum Database 8.0.0)",
             "PostgreSQL 13.14 on x86_64-pc-linux-gnu",
         ] {
-            assert!(fits(&said(version, "8")).unwrap_err().contains(version));
+            assert!(fit(version, "8").unwrap_err().contains(version));
         }
-        assert_eq!(fits(&said("PostgreSQL 15.18 (Debian 15.18-0+deb12u1) on x86_64-pc-linux-gnu", "8")), Ok(()));
-        assert_eq!(fits(&said("PostgreSQL 18beta1 on x86_64-pc-linux-gnu", "8")), Ok(()));
-    }
-
-    #[test]
-    fn a_pooler_in_transaction_mode_is_refused_by_name() {
-        assert!(fits(&said("PostgreSQL 15.18", "7")).unwrap_err().contains("pooler in transaction mode"));
+        assert_eq!(fit("PostgreSQL 15.18 (Debian 15.18-0+deb12u1) on x86_64-pc-linux-gnu", "8"), Ok(()));
+        assert_eq!(fit("PostgreSQL 18beta1 on x86_64-pc-linux-gnu", "8"), Ok(()));
+        assert!(fit("PostgreSQL 15.18", "7").unwrap_err().contains("pooler in transaction mode"));
     }
 }

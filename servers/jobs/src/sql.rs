@@ -102,7 +102,6 @@ WHERE partition = ANY (ARRAY(
     SELECT partition FROM jobs_partitions WHERE partition = ANY($2::smallint[]) AND owner = $1::bigint
     FOR NO KEY UPDATE SKIP LOCKED
 ))";
-/// The worker has ended.
 pub const LEAVE: &str = "DELETE FROM jobs_workers WHERE worker = $1::bigint";
 /// The address of the worker that owns a partition and serves holders.
 pub const OWNER: &str = "

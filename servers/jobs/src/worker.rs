@@ -19,11 +19,10 @@ use std::net::SocketAddr;
 use std::sync::atomic::{AtomicBool, AtomicUsize, Ordering::SeqCst};
 use std::sync::{Arc, Mutex, PoisonError};
 use tokio::net::TcpListener;
-use tokio::signal::unix::{signal, Signal, SignalKind};
+use tokio::signal::unix::{signal, SignalKind};
 use tokio::sync::mpsc::{unbounded_channel, UnboundedSender};
 use tokio::sync::{watch, Notify};
 
-/// The most that are taken out in one go.
 const TOGETHER: usize = 2_048;
 /// A drain has no more time.
 const LEFT: &str = "what was under way when it was told to end isn't over: it is left to the other workers";
@@ -77,7 +76,6 @@ impl Worker {
         *self.ending.borrow()
     }
 
-    /// Whether the partitions are to be let go.
     pub fn released(&self) -> bool {
         self.released.load(SeqCst)
     }
@@ -116,7 +114,6 @@ impl Worker {
 struct Place {
     /// One of its partitions, and its address.
     at: String,
-    /// The kinds of these jobs.
     ready: Vec<String>,
 }
 
@@ -165,9 +162,9 @@ pub async fn run(options: WorkerOptions) -> Result<(), Box<dyn Error>> {
         None => String::new(),
     };
     let mut tasks = begin(&worker, listener, statement.into());
-    let mut signals = Signals::new()?;
+    let signals = signals()?;
     tokio::select! {
-        _ = signals.next() => {}
+        _ = signals.notified() => {}
         ended = &mut tasks.owner => return Ok(ended??),
     }
     tell(format_args!("worker {} drains", worker.options.name));
@@ -176,7 +173,7 @@ pub async fn run(options: WorkerOptions) -> Result<(), Box<dyn Error>> {
     tokio::select! {
         _ = tasks.finish(&worker) => {}
         _ = tokio::time::sleep(worker.options.drain) => return Err(LEFT.into()),
-        _ = signals.next() => return Err(LEFT.into()),
+        _ = signals.notified() => return Err(LEFT.into()),
     }
     tell(format_args!("worker {} has ended", worker.options.name));
     Ok(())
@@ -186,7 +183,6 @@ async fn bind(address: SocketAddr) -> Result<TcpListener, String> {
     TcpListener::bind(address).await.map_err(|error| format!("{address}: {error}"))
 }
 
-/// Serves its numbers, where they are wanted.
 async fn watched(worker: &Arc<Worker>) -> Result<(), Box<dyn Error>> {
     if let Some(address) = worker.options.metrics {
         tokio::spawn(scrape::serve(worker.clone(), bind(address).await?));
@@ -233,20 +229,16 @@ impl Tasks {
     }
 }
 
-struct Signals {
-    term: Signal,
-    int: Signal,
-}
-
-impl Signals {
-    fn new() -> io::Result<Signals> {
-        Ok(Signals { term: signal(SignalKind::terminate())?, int: signal(SignalKind::interrupt())? })
+/// What is rung at each SIGTERM and SIGINT.
+fn signals() -> io::Result<Arc<Notify>> {
+    let told = Arc::new(Notify::new());
+    for kind in [SignalKind::terminate(), SignalKind::interrupt()] {
+        let (mut signal, told) = (signal(kind)?, told.clone());
+        tokio::spawn(async move {
+            while signal.recv().await.is_some() {
+                told.notify_one();
+            }
+        });
     }
-
-    async fn next(&mut self) {
-        tokio::select! {
-            _ = self.term.recv() => {}
-            _ = self.int.recv() => {}
-        }
-    }
+    Ok(told)
 }

@@ -7,7 +7,7 @@ pub type Tick = u64;
 
 pub struct Clock {
     /// A moment shortly before it began, in which a tick began.
-    begun: Instant,
+    pub begun: Instant,
     since: Tick,
 }
 
@@ -22,17 +22,11 @@ impl Clock {
         self.tick(Instant::now())
     }
 
-    /// The moment in which its first tick began.
-    pub fn begun(&self) -> Instant {
-        self.begun
-    }
-
     /// The moment in which a tick begins, or its first one where that was before.
     pub fn moment(&self, tick: Tick) -> Instant {
         self.begun + Duration::from_millis(tick.saturating_sub(self.since))
     }
 
-    /// The tick of a moment.
     pub fn tick(&self, moment: Instant) -> Tick {
         let passed = moment.saturating_duration_since(self.begun);
         self.since + passed.as_secs() * 1_000 + Tick::from(passed.subsec_millis())

@@ -3,7 +3,6 @@
 mod connection;
 mod expiry;
 mod keys;
-mod lease;
 mod refusal;
 mod scan;
 mod transaction;
@@ -13,7 +12,7 @@ use crate::output::Output;
 use crate::resp::{Protocol, Reply};
 use crate::seats::{Guest, Seats};
 use crate::settings::Settings;
-use hontkhale::delay_queue::Key;
+use hontkhale::Key;
 use refusal::Refusal;
 use std::collections::HashMap;
 use std::net::SocketAddr;
@@ -25,14 +24,13 @@ use transaction::Transaction;
 /// How many names a thread's extends are remembered for, and how long these are at most.
 const KNOWN_LIMIT: usize = 16_384;
 const KNOWN_LENGTH: usize = 64;
-/// How often a warning is written at most.
 const WARNED_EVERY: Duration = Duration::from_secs(60);
 
 /// A thread's part of the server: its client of the keyspace, which the connections that it serves share.
 pub struct Desk {
     keyspace: Arc<Keyspace>,
-    seats: Arc<Seats>,
-    settings: Arc<Settings>,
+    pub seats: Arc<Seats>,
+    pub settings: Arc<Settings>,
     turn: Turn,
     /// The entries of names that were extended. An entry that isn't the name's any more refuses its key.
     known: HashMap<Vec<u8>, Key>,
@@ -53,7 +51,6 @@ pub struct Client<'a> {
     pub session: &'a mut Session,
 }
 
-/// What became of a request.
 #[derive(Clone, Copy, Debug, PartialEq, Eq)]
 pub enum Served {
     Done,
@@ -73,7 +70,6 @@ type Answer = Result<Reply, Refusal>;
 /// A command by its name, the least number of its words, whether it takes more, the names that it asks for, and what it does.
 struct Command(&'static str, usize, bool, Names, fn(&mut Client<'_>, Words<'_>) -> Answer);
 
-/// Which names a request asks for.
 #[derive(Clone, Copy, PartialEq, Eq)]
 enum Names {
     None,
@@ -83,7 +79,6 @@ enum Names {
     Rest,
     /// Every other of them, which it claims.
     Pairs,
-    /// All that there are.
     All,
     /// Those of the requests that EXEC does, which it claims.
     Queued,
@@ -128,8 +123,7 @@ const COMMANDS: &[Command] = &[
     Command("touch", 2, true, Names::Rest, keys::exists),
     Command("getex", 2, true, Names::First, keys::get_and_expire),
     Command("getdel", 2, false, Names::First, keys::get_and_remove),
-    Command("delex", 2, true, Names::First, lease::del_where),
-    Command("delifeq", 3, false, Names::First, lease::del_if_equal),
+    Command("delifeq", 3, false, Names::First, keys::del_if_equal),
     Command("type", 2, false, Names::First, keys::type_of),
     Command("scan", 2, true, Names::All, scan::scan),
     Command("keys", 2, false, Names::All, scan::keys),
@@ -179,18 +173,9 @@ impl Desk {
         Desk { keyspace, seats, settings, turn, known: HashMap::new(), warned: None }
     }
 
-    /// The session of a connection that begins.
     pub fn session(&self, guest: &Arc<Guest>) -> Session {
         let (guest, transaction) = (guest.clone(), Default::default());
         Session { guest, protocol: Protocol::Two, is_admitted: self.settings.password.is_none(), transaction }
-    }
-
-    pub fn settings(&self) -> &Settings {
-        &self.settings
-    }
-
-    pub fn seats(&self) -> &Seats {
-        &self.seats
     }
 
     /// Says that a web page reached for this server, now and then.
@@ -228,7 +213,6 @@ impl Session {
         self.transaction.is_running()
     }
 
-    /// The memory that it holds.
     pub fn held(&self) -> usize {
         self.guest.name().capacity() + self.transaction.held()
     }
@@ -331,12 +315,10 @@ impl Client<'_> {
     }
 }
 
-/// The number of a request's command.
 fn number(words: Words<'_>) -> Option<usize> {
     COMMANDS.iter().position(|it| words[0].eq_ignore_ascii_case(it.0.as_bytes()))
 }
 
-/// The names that a request asks for.
 fn names(words: Words<'_>) -> Names {
     number(words).map_or(Names::None, |it| COMMANDS[it].3)
 }

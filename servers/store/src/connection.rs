@@ -44,12 +44,10 @@ impl Shop {
     }
 }
 
-/// What comes after a turn.
 #[derive(Clone, Copy, Debug, PartialEq, Eq)]
 pub enum After {
     /// The socket has to become ready.
     Waits,
-    /// There is more to do.
     Again,
     Over,
 }
@@ -63,14 +61,12 @@ pub struct Connection {
     /// Whether the input has more than the beginning of a request.
     has_more: bool,
     is_readable: bool,
-    /// The client sends nothing more.
     is_hung_up: bool,
     /// Since when the client takes no reply.
     stuck: Option<Instant>,
     /// Since when it is told why it isn't served any more. What it sends is dropped: a socket that is closed with
     /// something unread takes back what it said.
     lingers: Option<Instant>,
-    /// Whether it waits for its turn.
     pub is_queued: bool,
 }
 
@@ -108,7 +104,6 @@ impl Connection {
         }
     }
 
-    /// What its socket is ready for.
     pub fn note(&mut self, event: &Event) {
         self.is_readable |= event.is_readable() || event.is_read_closed() || event.is_error();
         self.is_hung_up |= event.is_read_closed() || event.is_error();
@@ -119,7 +114,6 @@ impl Connection {
         self.is_readable = true;
     }
 
-    /// Whether its client leaves its replies unread.
     pub fn is_stuck(&self) -> bool {
         self.stuck.is_some()
     }
@@ -260,7 +254,6 @@ impl Connection {
         Ok(true)
     }
 
-    /// Answers what stands in the input.
     fn serve_input(&mut self, desk: &mut Desk) -> io::Result<()> {
         let mut input = mem::take(&mut self.input);
         let used = self.talk.serve(&input, desk, &mut self.socket, &mut self.has_more)?;
@@ -271,7 +264,6 @@ impl Connection {
         Ok(())
     }
 
-    /// Keeps what isn't answered yet.
     fn keep(&mut self, rest: &[u8]) {
         let (capacity, wanted) = (self.input.capacity(), self.input.len() + rest.len());
         if wanted > capacity {
@@ -333,7 +325,6 @@ impl Talk {
         Client { desk, session: &mut self.session }
     }
 
-    /// Answers the request that the parser found.
     fn answer(&mut self, bytes: &[u8], desk: &mut Desk, socket: &TcpStream) -> Served {
         let count = self.parser.count();
         if count == 0 {

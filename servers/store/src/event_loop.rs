@@ -36,7 +36,6 @@ impl Mailbox {
         self.count.load(SeqCst)
     }
 
-    /// Hands a connection over.
     pub fn hand(&self, socket: TcpStream, seat: Seat) -> io::Result<()> {
         self.count.fetch_add(1, SeqCst);
         self.arrivals.lock().unwrap_or_else(PoisonError::into_inner).push((socket, seat));
@@ -56,14 +55,12 @@ pub struct EventLoop {
     shop: Shop,
     connections: Vec<Option<Connection>>,
     free: Vec<usize>,
-    /// The connections that wait for their turn.
     queue: VecDeque<usize>,
     /// Those whose clients leave replies unread, or send on after the last one, and when they were looked at.
     stuck: Vec<usize>,
     looked: Instant,
     /// How often somebody was sent away when this thread looked whether it was one of its own.
     seen_away: u64,
-    /// Until when the end waits.
     end: Option<Instant>,
 }
 
@@ -71,7 +68,7 @@ impl EventLoop {
     pub fn new(desk: Desk) -> io::Result<EventLoop> {
         let poll = Poll::new()?;
         let waker = Arc::new(Waker::new(poll.registry(), WAKE)?);
-        desk.seats().wakes(&waker);
+        desk.seats.wakes(&waker);
         let (arrivals, is_ending, count) = Default::default();
         let mailbox = Arc::new(Mailbox { arrivals, waker, is_ending, count });
         let (connections, free, queue, stuck, seen_away, end) = Default::default();
@@ -93,7 +90,6 @@ impl EventLoop {
         self.mailbox.clone()
     }
 
-    /// Serves until the end is asked for.
     pub fn run(mut self) -> io::Result<()> {
         let mut events = Events::with_capacity(READY);
         while !self.is_over() {
@@ -165,7 +161,7 @@ impl EventLoop {
     }
 
     fn close_sent_away(&mut self) {
-        let times = self.shop.desk.seats().times_sent_away();
+        let times = self.shop.desk.seats.times_sent_away();
         if mem::replace(&mut self.seen_away, times) != times {
             for place in 0..self.connections.len() {
                 // One that sent itself away was answered in its turn.
@@ -187,19 +183,13 @@ impl EventLoop {
     /// Gives each that waits by now a turn.
     fn give_turns(&mut self) {
         for _ in 0..self.queue.len() {
-            let place = match self.queue.pop_front() {
-                Some(place) => place,
-                None => return,
-            };
+            let Some(place) = self.queue.pop_front() else { return };
             self.give_turn(place);
         }
     }
 
     fn give_turn(&mut self, place: usize) {
-        let connection = match &mut self.connections[place] {
-            Some(connection) => connection,
-            None => return,
-        };
+        let Some(connection) = &mut self.connections[place] else { return };
         connection.is_queued = false;
         let was_stuck = connection.is_stuck() || connection.is_lingering();
         // An error of its socket ends a connection, and nothing else.
@@ -215,7 +205,7 @@ impl EventLoop {
         if after == After::Again {
             self.queue(place);
         }
-        if self.shop.desk.seats().is_crowded() {
+        if self.shop.desk.seats.is_crowded() {
             self.close_largest();
         }
     }
@@ -241,7 +231,7 @@ impl EventLoop {
     }
 
     fn timeout(&self) -> Option<Duration> {
-        self.shop.desk.settings().timeout
+        self.shop.desk.settings.timeout
     }
 
     /// Now and then closes those whose clients left their replies unread for too long, or are silent for too long.

@@ -15,7 +15,6 @@ impl Wake for Unparks {
     }
 }
 
-/// Takes off what is due, for ever.
 pub fn keep(keyspace: &Keyspace, keeper: usize) {
     let (mut receiver, waker) = (keyspace.receiver(), Waker::from(Arc::new(Unparks(thread::current()))));
     loop {

@@ -19,8 +19,7 @@ pub use walk::Held;
 use crate::clock::{Clock, Tick};
 use crate::room::Room;
 use claims::Claims;
-use hontkhale::delay_queue::{Builder, Expired, InsertErrorKind, Key, KeyError, Receiver};
-use hontkhale::DelayQueue;
+use hontkhale::{Builder, DelayQueue, Expired, InsertErrorKind, Key, KeyError, Receiver};
 use shard::{Shard, Writer};
 use std::alloc::{handle_alloc_error, Layout};
 use std::collections::hash_map::RandomState;
@@ -58,7 +57,6 @@ pub enum Lifetime {
     Until(Tick),
 }
 
-/// How long a live key lives.
 #[derive(Clone, Copy, Debug, PartialEq, Eq)]
 pub enum Life {
     Endless,
@@ -89,7 +87,7 @@ impl Keyspace {
 
     fn of(keys: usize, room: Room, queue: Builder<Name>) -> Result<Keyspace, InsertErrorKind> {
         let (clock, room) = (Clock::new(), Arc::new(room));
-        let queue = queue.max_entries(keys).shards(QUEUE_SHARDS).ticks_from(clock.begun()).build();
+        let queue = queue.max_entries(keys).shards(QUEUE_SHARDS).ticks_from(clock.begun).build();
         queue.reserve(keys)?;
         Ok(Keyspace {
             shards: (0..SHARDS).map(|_| Shard::new(&room)).collect(),
@@ -102,7 +100,6 @@ impl Keyspace {
         })
     }
 
-    /// The room of keys and values.
     pub fn room(&self) -> &Room {
         &self.room
     }
@@ -139,7 +136,7 @@ impl Keyspace {
 
     /// How long a record lives, none where it is over.
     fn life(&self, record: &Record, now: Tick) -> Option<Life> {
-        match record.entry() {
+        match record.entry {
             None => Some(Life::Endless),
             Some(entry) => self.deadline(&entry).filter(|deadline| now < *deadline).map(Life::Until),
         }
@@ -165,7 +162,7 @@ impl Keyspace {
         if let Some(life) = self.life(record, now) {
             return Some(life);
         }
-        let entry = record.entry()?;
+        let entry = record.entry?;
         names.begin_end();
         let is_extended = matches!(self.queue.remove_if_due(&entry), Ok(None));
         let life = self.deadline(&entry).filter(|_| is_extended).map(Life::Until);
@@ -183,7 +180,6 @@ impl Keyspace {
         change(&mut Place { keyspace: self, names: &mut names, name, now, life })
     }
 
-    /// What a keeper receives by.
     pub fn receiver(&self) -> Receiver<Name> {
         self.queue.receiver()
     }
@@ -214,7 +210,7 @@ impl Keyspace {
     /// shard is let go.
     fn lose(&self, out: &Expired<Name>) {
         let mut names = self.write(self.shard_of(&out.value));
-        let is_its = names.records.get(&out.value).is_some_and(|it| it.entry() == Some(out.key));
+        let is_its = names.records.get(&out.value).is_some_and(|it| it.entry == Some(out.key));
         let _gone = is_its.then(|| names.expire(&out.value));
         drop(names);
     }

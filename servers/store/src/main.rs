@@ -8,7 +8,6 @@ mod keeper;
 mod keyspace;
 mod options;
 mod output;
-mod resp;
 mod room;
 mod seats;
 mod server;
@@ -16,11 +15,12 @@ mod settings;
 #[cfg(test)]
 mod tests;
 
-use hontkhale::owner::LAST_TICK;
+use hontkhale::parts::owner::LAST_TICK;
 use keyspace::Keyspace;
 use options::{Options, HELP};
 use room::{Resident, Room, ALWAYS};
 use seats::Seats;
+use servers::resp;
 use std::io::{self, Write};
 use std::net::SocketAddr;
 use std::process::ExitCode;

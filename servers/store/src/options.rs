@@ -1,13 +1,14 @@
 //! What the server is told by its command line.
 
-use crate::settings::{Password, Settings};
+use crate::settings::Settings;
+use servers::password::Password;
+use std::env;
 use std::env::VarError;
 use std::fmt::Display;
 use std::net::{IpAddr, Ipv4Addr};
 use std::ops::RangeInclusive;
 use std::str::FromStr;
 use std::time::Duration;
-use std::{env, fs};
 
 pub const HELP: &str = "store [OPTION..]: a server of expiring keys, to which redis-cli talks
 
@@ -99,7 +100,7 @@ impl Options {
                 let value = value()?;
                 self.bind = value.parse().map_err(|_| format!("--bind takes an IP address, not {value}"))?;
             }
-            "--password-file" => self.settings.password = Some(password_of_file(&value()?)?),
+            "--password-file" => self.settings.password = Some(Password::of_file(&value()?)?),
             "--protected-mode" => match &value()?[..] {
                 "no" => self.is_protected = false,
                 "yes" => self.is_protected = true,
@@ -140,12 +141,7 @@ fn seconds(seconds: u64) -> Option<Duration> {
     Some(Duration::from_secs(seconds)).filter(|it| !it.is_zero())
 }
 
-/// A password stands in a file or in the environment: a command line is everybody's to read.
-fn password_of_file(path: &str) -> Result<Password, String> {
-    let text = fs::read_to_string(path).map_err(|error| format!("{path} can't be read: {error}"))?;
-    Password::of(&text).ok_or(format!("{path} has no password in its first line"))
-}
-
+/// It may stand in the environment too.
 fn password_of_environment() -> Result<Option<Password>, String> {
     match env::var(PASSWORD) {
         Ok(text) => Password::of(&text).map(Some).ok_or(format!("{PASSWORD} is empty")),

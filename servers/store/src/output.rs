@@ -33,12 +33,10 @@ impl Output {
         self.long.is_none() && self.bytes.len() == self.sent
     }
 
-    /// The memory that it holds.
     pub fn held(&self) -> usize {
         self.bytes.capacity() + self.long.as_ref().map_or(0, |(value, _)| value.len())
     }
 
-    /// Drops what isn't sent.
     pub fn clear(&mut self) {
         self.bytes.clear();
         (self.sent, self.long) = (0, None);
@@ -66,7 +64,6 @@ impl Output {
         Ok(total)
     }
 
-    /// What is to be sent next.
     fn piece(&self) -> Option<&[u8]> {
         match &self.long {
             _ if self.sent < self.bytes.len() => Some(&self.bytes[self.sent..]),

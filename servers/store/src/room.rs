@@ -15,7 +15,7 @@ pub const ALWAYS: usize = 16;
 
 /// The room of all keys and values.
 pub struct Room {
-    most: usize,
+    pub most: usize,
     used: AtomicUsize,
     resident: Option<Resident>,
 }
@@ -28,10 +28,6 @@ impl Room {
     /// The same, by which nothing is written either once the process is too large.
     pub fn within(self, resident: Resident) -> Room {
         Room { resident: Some(resident), ..self }
-    }
-
-    pub fn most(&self) -> usize {
-        self.most
     }
 
     /// What the process holds, where it is bounded.

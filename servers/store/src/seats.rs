@@ -12,12 +12,9 @@ use std::time::{Duration, Instant};
 /// request.
 pub const PER_SEAT: usize = 2 << 10;
 
-/// The places of all connections.
 pub struct Seats {
-    /// The most connections at a time.
-    limit: usize,
-    /// The most bytes that they hold together.
-    room: usize,
+    pub limit: usize,
+    pub room: usize,
     taken: AtomicUsize,
     bytes: AtomicUsize,
     last: AtomicU64,
@@ -52,7 +49,6 @@ impl Guest {
         self.since.elapsed().as_millis() as u64
     }
 
-    /// Something came.
     pub fn hear(&self) {
         self.heard.store(self.millis(), Relaxed);
     }
@@ -73,7 +69,6 @@ impl Guest {
         self.command.load(Relaxed)
     }
 
-    /// What it holds.
     pub fn held(&self) -> usize {
         self.bytes.load(SeqCst)
     }
@@ -82,13 +77,11 @@ impl Guest {
         self.name.lock().unwrap_or_else(PoisonError::into_inner)
     }
 
-    /// Whether it is to be closed.
     pub fn is_sent_away(&self) -> bool {
         self.is_sent_away.load(SeqCst)
     }
 }
 
-/// Why a connection isn't served.
 #[derive(Clone, Copy, Debug, PartialEq, Eq)]
 pub enum NoSeat {
     Clients,
@@ -138,21 +131,12 @@ impl Seats {
         self.sent_away.load(SeqCst)
     }
 
-    pub fn limit(&self) -> usize {
-        self.limit
-    }
-
     pub fn taken(&self) -> usize {
         self.taken.load(SeqCst)
     }
 
-    /// What all connections hold.
     pub fn bytes(&self) -> usize {
         self.bytes.load(SeqCst)
-    }
-
-    pub fn room(&self) -> usize {
-        self.room
     }
 
     /// Whether all connections hold more than they may. One of them has to go then.

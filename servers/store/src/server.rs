@@ -23,7 +23,6 @@ const BACKLOG: i32 = 511;
 /// How long it waits where the machine has no file for another connection.
 const NO_FILE: Duration = Duration::from_millis(20);
 
-/// A thread that serves connections.
 struct Server {
     mailbox: Arc<Mailbox>,
     thread: JoinHandle<io::Result<()>>,
@@ -76,7 +75,6 @@ fn signals() -> io::Result<UnixStream> {
     Ok(UnixStream::from_std(told))
 }
 
-/// Who welcomes connections.
 struct Reception<'a> {
     seats: &'a Arc<Seats>,
     servers: &'a [Server],

@@ -6,7 +6,7 @@ use crate::connection::{After, Connection, Shop};
 use crate::keeper::keep;
 use crate::keyspace::{Keyspace, Lifetime, Place, KEEPERS};
 use crate::output::Output;
-use crate::resp::{integer, Broken, Parser, Protocol, Reply};
+use crate::resp::Reply;
 use crate::room::Room;
 use crate::seats::{Guest, Seat, Seats};
 use crate::settings::Settings;
@@ -40,7 +40,6 @@ fn keyspace() -> Arc<Keyspace> {
 struct Asker {
     desk: Desk,
     session: Session,
-    begun: Instant,
 }
 
 fn client(keyspace: &Arc<Keyspace>) -> Asker {
@@ -50,7 +49,7 @@ fn client(keyspace: &Arc<Keyspace>) -> Asker {
 fn client_by(keyspace: &Arc<Keyspace>, settings: Settings) -> Asker {
     let seats = Arc::new(Seats::new(10, 1 << 20));
     let desk = Desk::new(keyspace.clone(), seats, Arc::new(settings));
-    Asker { session: desk.session(&Guest::new(7, ([127, 0, 0, 1], 7).into())), desk, begun: Instant::now() }
+    Asker { session: desk.session(&Guest::new(7, ([127, 0, 0, 1], 7).into())), desk }
 }
 
 fn ask(Asker { desk, session, .. }: &mut Asker, line: &str) -> Reply {
@@ -171,27 +170,6 @@ fn a_transaction_of_a_client_that_reads_nothing_is_done() {
     panic!("too few clients were amid a transaction");
 }
 
-#[test]
-fn no_key_is_seen_at_its_deadline() {
-    let keyspace = keyspace();
-    let mut client = client(&keyspace);
-    for round in 0..200 {
-        let deadline = keyspace.clock.now() + 3 + round % 3;
-        is_ok(&mut client, &format!("SET key value PXAT {deadline}"));
-        loop {
-            let before = keyspace.clock.now();
-            let value = ask(&mut client, "GET key");
-            let after = keyspace.clock.now();
-            assert!(value == Reply::Nil || before < deadline, "seen at {before}, its deadline is {deadline}");
-            assert!(value != Reply::Nil || after >= deadline, "gone at {after}, its deadline is {deadline}");
-            if value == Reply::Nil {
-                break;
-            }
-        }
-        assert_eq!(ask(&mut client, "DBSIZE"), Reply::Integer(0));
-    }
-}
-
 /// A reader asks until the key is gone, while another thread extends it. How many extends were accepted.
 fn extended_until_gone(keyspace: &Arc<Keyspace>, reader: &mut Asker, name: &str, life: u64) -> u32 {
     is_ok(reader, &format!("SET {name} value PX {life}"));
@@ -296,7 +274,7 @@ fn changed_at_the_end(request: &str, change: impl Fn(&mut Place<'_, '_>) -> bool
     for round in 0..5 {
         is_ok(&mut client, "SET key value PX 6000000");
         let is_done = keyspace.change(b"key", |place| {
-            assert_eq!(place.expire(place.now() + 1), Ok(true), "{request}");
+            assert_eq!(place.expire(place.now + 1), Ok(true), "{request}");
             wait_until("no keeper takes its entry out", || place.is_out());
             change(place)
         });
@@ -314,9 +292,9 @@ fn changed_at_the_end(request: &str, change: impl Fn(&mut Place<'_, '_>) -> bool
 
 #[test]
 fn a_key_that_ends_while_it_is_changed_is_gone_or_stays() {
-    let later = |place: &Place<'_, '_>| Lifetime::Until(place.now() + 6_000_000);
+    let later = |place: &Place<'_, '_>| Lifetime::Until(place.now + 6_000_000);
     changed_at_the_end("PERSIST", |place| place.persist(), false);
-    changed_at_the_end("PEXPIRE", |place| place.expire(place.now() + 6_000_000) == Ok(true), false);
+    changed_at_the_end("PEXPIRE", |place| place.expire(place.now + 6_000_000) == Ok(true), false);
     changed_at_the_end("SET KEEPTTL", |place| place.set(b"other", Lifetime::Kept).is_err(), false);
     changed_at_the_end("SET PX", |place| place.set(b"other", later(place)).is_ok(), true);
     changed_at_the_end("SET", |place| place.set(b"other", Lifetime::Endless).is_ok(), true);
@@ -389,83 +367,9 @@ fn memory_is_counted_back_to_nothing() {
     }
     thread::sleep(Duration::from_millis(30));
     (0..50).for_each(|at| drop(ask(&mut client, &format!("DEL key:{at} count:{at}"))));
-    assert_eq!((ask(&mut client, "DBSIZE"), keyspace.held().bytes), (Reply::Integer(0), 0));
+    let held = keyspace.held();
+    assert_eq!((ask(&mut client, "DBSIZE"), held.bytes, held.expires), (Reply::Integer(0), 0, 0));
     assert!(keyspace.room().take(0, 64 << 20).is_ok(), "all of the room is free");
-}
-
-/// The requests of these bytes that come in pieces of a size.
-fn requests(sent: &[u8], size: usize) -> Result<Vec<Vec<Vec<u8>>>, Broken> {
-    let (mut parser, mut bytes, mut got) = (Parser::default(), Vec::new(), Vec::new());
-    for piece in sent.chunks(size) {
-        bytes.extend_from_slice(piece);
-        while let Some(length) = parser.parse(&bytes)? {
-            let words: Vec<_> = parser.words(&bytes).map(<[u8]>::to_vec).collect();
-            got.extend(Some(words).filter(|it| !it.is_empty()));
-            bytes.drain(..length);
-            parser.reset();
-        }
-    }
-    Ok(got)
-}
-
-#[test]
-fn requests_come_in_pieces_of_any_size() {
-    let sent = b"*2\r\n$3\r\nGET\r\n$4\r\na\r\nb\r\n\r\nPING now\r\n*0\r\n*1\r\n$0\r\n\r\nSET 'a b' \"\\x41\\n\"\n";
-    let words = |words: &[&str]| words.iter().map(|it| Vec::from(*it)).collect::<Vec<_>>();
-    let wanted = vec![words(&["GET", "a\r\nb"]), words(&["PING", "now"]), words(&[""]), words(&["SET", "a b", "A\n"])];
-    for size in 1..=sent.len() {
-        assert_eq!(requests(sent, size).as_ref(), Ok(&wanted), "in pieces of {size}");
-    }
-}
-
-#[test]
-fn quotes_hold_words_together() {
-    let one = |line: &str| requests(format!("{line}\r\n").as_bytes(), 1_000).map(|it| it.concat());
-    let good: [(&str, &[&str]); 7] = [
-        ("SET \"a b\" 'c d'", &["SET", "a b", "c d"]),
-        ("SET \"\" ''", &["SET", "", ""]),
-        (r#"ECHO "\x41\x0a\"\\\t\q""#, &["ECHO", "A\n\"\\\tq"]),
-        (r#"ECHO "\x4g""#, &["ECHO", "x4g"]),
-        (r"ECHO 'it\'s' 'a\b'", &["ECHO", "it's", r"a\b"]),
-        ("ECHO pre\"fix\"", &["ECHO", "prefix"]),
-        ("  ECHO \t two  ", &["ECHO", "two"]),
-    ];
-    for (line, words) in good {
-        assert_eq!(one(line), Ok(words.iter().map(|it| Vec::from(*it)).collect()), "{line}");
-    }
-    for line in ["ECHO \"a", "ECHO 'a", "ECHO \"a\"b", "ECHO 'a'b", "ECHO \"a\\\"", "ECHO '"] {
-        assert_eq!(one(line), Err(Broken::Quotes), "{line}");
-    }
-}
-
-#[test]
-fn integers_are_those_of_the_protocol() {
-    let good = [("0", 0), ("-1", -1), ("9223372036854775807", i64::MAX), ("-9223372036854775808", i64::MIN)];
-    assert!(good.iter().all(|(text, number)| integer(text.as_bytes()) == Some(*number)));
-    let bad = ["", "-", "-0", "01", "+1", " 1", "1 ", "1.0", "x", "9223372036854775808", "99999999999999999999999"];
-    assert!(bad.iter().all(|text| integer(text.as_bytes()).is_none()));
-}
-
-#[test]
-fn replies_are_written_whole() {
-    let long: Arc<[u8]> = vec![b'x'; 100_000].into();
-    let (mut output, mut written) = (Output::default(), Vec::new());
-    output.reply(&Reply::Bulk(long));
-    assert!(output.is_full(), "a long value is sent before anything is added");
-    output.send(&mut written).unwrap();
-    let told = Reply::Error("ERR Unsupported option \u{e4}\r\n+OK".into());
-    let replies = [told, Reply::Nil, Reply::Integer(-2), Reply::Begun(1), Reply::Status("OK"), Reply::Text("a".into())];
-    replies.iter().for_each(|reply| output.reply(reply));
-    output.send(&mut written).unwrap();
-    assert!(output.is_empty());
-    assert!(written.starts_with(b"$100000\r\nxxx"));
-    assert!(written.ends_with(b"xxx\r\n-ERR Unsupported option \xe4  +OK\r\n$-1\r\n:-2\r\n*1\r\n+OK\r\n$1\r\na\r\n"));
-    output.protocol = Protocol::Three;
-    let pairs = vec![(Reply::bulk(b"a"), Reply::Array(vec![Reply::Nil]))];
-    [Reply::Map(pairs), Reply::Text("b".into())].iter().for_each(|reply| output.reply(reply));
-    written.clear();
-    output.send(&mut written).unwrap();
-    assert_eq!(written, b"%1\r\n$1\r\na\r\n*1\r\n_\r\n=5\r\ntxt:b\r\n");
 }
 
 /// Takes so many bytes at a time, and nothing every other time.
@@ -485,21 +389,6 @@ impl std::io::Write for Slow {
     fn flush(&mut self) -> std::io::Result<()> {
         Ok(())
     }
-}
-
-#[test]
-fn what_waits_to_be_sent_counts_as_memory() {
-    let (mut output, value) = (Output::default(), vec![b'v'; 700_000]);
-    output.reply(&Reply::bulk(&value));
-    assert!(output.held() >= 700_000, "a value counts until it is sent");
-    assert!(output.is_full());
-    let mut sent = Vec::new();
-    output.send(&mut sent).unwrap();
-    assert!(output.is_empty() && output.held() < 1_000 && sent.len() == 700_011);
-    while !output.is_full() {
-        output.reply(&Reply::bulk(&value[..10_000]));
-    }
-    assert!((60_000..90_000).contains(&output.held()), "{} bytes of short replies", output.held());
 }
 
 #[test]

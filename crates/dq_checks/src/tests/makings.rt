@@ -22,6 +22,7 @@ enum Making {
     SharedWords,
     QueueOverPlainWords,
     QueueOverSharedWords,
+    UnfoldedQueue,
     PlainTwin,
 }
 
@@ -57,6 +58,37 @@ fn is_queue_made<W: Words + Drop, A: Allocator + Clone>(
     match DelayCore::new(heap, config, words) {
         Ok(mut queue) => Ok(takes_an_entry(&mut queue)),
         Err((error, words)) => is_refused(error, words.rows() == capacity),
+    }
+}
+
+// Whether an empty queue is made whole again that was folded. Where it isn't, it comes back with all its words.
+fn is_whole_again<W: Words + Drop, B: Allocator, A: Allocator + Clone>(
+    heap: A,
+    queue: DelayCore<char, W, B>,
+) -> Result<bool, CoreError> {
+    let Ok(folded) = queue.fold() else {
+        return Err(CoreError::BadConfig);
+    };
+    let capacity = folded.capacity();
+    match folded.unfold(heap) {
+        Ok(mut queue) => Ok(takes_an_entry(&mut queue)),
+        Err(folded) => is_refused(CoreError::NoMemory, folded.capacity() == capacity),
+    }
+}
+
+fn is_queue_unfolded<A: Allocator + Clone>(
+    alloc: Global,
+    heap: A,
+    capacity: usize,
+) -> Result<bool, CoreError> {
+    let config = CoreConfig {
+        shard: 0,
+        capacity,
+        last_stamp: LAST_STAMP,
+    };
+    match DelayCore::new(alloc, config, VecWords::new(alloc, capacity)?) {
+        Ok(queue) => is_whole_again(heap, queue),
+        Err((error, _words)) => Err(error),
     }
 }
 
@@ -117,6 +149,7 @@ fn is_made<A: Allocator + Copy>(
         Making::SharedWords => are_shared_words_made(heap, rows)?,
         Making::QueueOverPlainWords => is_queue_made(heap, VecWords::new(alloc, rows)?)?,
         Making::QueueOverSharedWords => is_queue_made(heap, Keeper::new(alloc, rows)?)?,
+        Making::UnfoldedQueue => is_queue_unfolded(alloc, heap, rows)?,
         Making::PlainTwin => is_twin_made(heap, rows)?,
     })
 }
@@ -170,6 +203,8 @@ const ALLOCATIONS: &[(Making, u64)] = &[
     // the slots and the wheel: the words are there already
     (Making::QueueOverPlainWords, 6),
     (Making::QueueOverSharedWords, 6),
+    // the words are kept
+    (Making::UnfoldedQueue, 6),
     (Making::PlainTwin, 1),
 ];
 
@@ -181,7 +216,7 @@ fn are_refused(rt: &impl Abort, alloc: Global, capacity: u16) -> Result<(), Fail
     Ok(())
 }
 
-// promise: core.new-issue known.row-limits plain.deadline-ever slots.slot-filled words.caller-takes
+// promise: core.fold core.new-issue known.row-limits plain.deadline-ever slots.slot-filled words.caller-takes
 #[test]
 fn each_allocation_is_refused(rt: HostRuntime) -> Result<(), Fail> {
     are_refused(&rt, rt.alloc(), 4)?;

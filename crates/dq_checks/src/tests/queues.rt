@@ -89,7 +89,10 @@ impl Calls<Keeper> for OpenWords {
         key: &Key,
         when: u64,
     ) -> Result<u64, CallError> {
-        self.extend(key, when)
+        match self.extend(key, when) {
+            Ok((answer, _receipt)) => Ok(answer),
+            Err((error, _receipt)) => Err(error),
+        }
     }
 
     fn cancel_by(
@@ -97,7 +100,10 @@ impl Calls<Keeper> for OpenWords {
         _core: &mut DelayCore<char, Keeper>,
         key: &Key,
     ) -> Result<u64, CallError> {
-        self.cancel(key)
+        match self.cancel(key) {
+            Ok((answer, _receipt)) => Ok(answer),
+            Err((error, _receipt)) => Err(error),
+        }
     }
 
     fn look_by(
@@ -105,7 +111,10 @@ impl Calls<Keeper> for OpenWords {
         _core: &mut DelayCore<char, Keeper>,
         key: &Key,
     ) -> Result<Look, CallError> {
-        self.look(key)
+        match self.look(key) {
+            Ok((answer, _receipt)) => Ok(answer),
+            Err((error, _receipt)) => Err(error),
+        }
     }
 }
 

@@ -26,6 +26,9 @@ impl<T, J: Rooms, A: Allocator> Shard for NamedShard<T, J, A> {
 
     ghost stands = { λ s place places. s.shard.core.shard ≡ place };
 
+    ghost same = { λ s t. t
+        ≡ record s { shard = record s.shard { core = record s.shard.core { aside = t.shard.core.aside } } } };
+
     fn law(&self) {
         self.state.law();
     }
@@ -106,7 +109,7 @@ impl<T, J: Rooms, A: Allocator> NamedQueue<T, J, A> {
 
     // The caller's shard, with its lock held.
     #[inline]
-    fn locked_for<R: Wait>(
+    pub(super) fn locked_for<R: Wait>(
         &self,
         rt: &R,
         me: &NamedCaller<T, J, A>,

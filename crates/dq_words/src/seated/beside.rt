@@ -1,9 +1,9 @@
 //! What two seats of a table know together.
 ghost use Rattle.std.specs.Prelude.{◌≡◌, true};
-ghost use Rattle.dq_words.specs.Places.{StoodWith};
+ghost use Rattle.dq_words.specs.Places.{StoodApart, StoodWith};
 
-use crate::seated::plays::{Tell, ToldLoad};
-use crate::seated::{Receipt, Seated};
+use crate::seated::plays::{ApartLoad, Spend, Tell, ToldLoad};
+use crate::seated::{OpenWords, Receipt, Seated};
 use std::alloc::Allocator;
 
 impl<A: Allocator> Seated<A> {
@@ -34,5 +34,23 @@ impl<A: Allocator> Seated<A> {
         self.table
             .shared
             .load::<ToldLoad>(&mut self.seat, self.rows);
+    }
+}
+
+impl<A: Allocator> OpenWords<A> {
+    // What the seats of two calls know together: one of them is given up, so they aren't the same. Three loads, of which
+    // neither records any.
+    pub(crate) fn tell(&self, one: &mut Receipt, other: Receipt)
+        requires one { one.old.table ≡ self.now.table }
+        requires other { other.table ≡ self.now.table }
+        ensures together { StoodApart one.old.view other.view.calls }
+        ensures same { one.new ≡ one.old }
+    {
+        let Receipt { mut seat } = other;
+        let carrier = self.table.shared.split_seat::<Spend>(&mut seat);
+        self.table.shared.join_seat::<Spend>(&mut one.seat, carrier);
+        self.table
+            .shared
+            .load::<ApartLoad>(&mut one.seat, self.rows);
     }
 }

@@ -1,5 +1,5 @@
 //! The words as any thread steps on them: each call by a seat of its own, which its load makes.
-ghost use Rattle.std.specs.Prelude.{◌≡◌, ◌<◌, ◌≤◌, length, false, slice_index, IfOk};
+ghost use Rattle.std.specs.Prelude.{◌≡◌, ◌<◌, ◌≤◌, length, true, false, slice_index, IfOk};
 ghost use Rattle.dq_ticks.specs.Word.{word, stamp_of, mark_of};
 ghost use Rattle.dq_words.specs.OpenCalls.{SawPresent};
 ghost use Rattle.dq_words.specs.Plays.{CallerLoads, CancelStep, ExtendStep};
@@ -36,8 +36,8 @@ use std::sync::Arc;
 /// queue was dropped are then refused as `Ended`, and a look shows them as removed.
 #[derive(Drop)]
 pub struct OpenWords<A: Allocator = Global> {
-    table: Arc<WordTable<A>, A>,
-    rows: usize,
+    pub(super) table: Arc<WordTable<A>, A>,
+    pub(super) rows: usize,
 }
 
 impl<A: Allocator> Model for OpenWords<A> {
@@ -53,8 +53,8 @@ impl<A: Allocator> Model for OpenWords<A> {
         × ((arc_value s.table).shared.table_id.words ≡ s.rows + 1) };
 }
 
-/// The seat by which one call stepped on open words. It has no bytes. Whoever has it can show the keeper that the
-/// call was accepted.
+/// The seat by which one call stepped on open words, accepted or refused. It has no bytes. Whoever has it knows what
+/// the word was then, and can show the keeper what was accepted.
 #[derive(Drop)]
 pub struct Receipt {
     pub(crate) seat: WordSeat,
@@ -68,12 +68,13 @@ impl Model for Receipt {
 
     ghost view = { λ s. record { table = s.seat.table_id; view = s.seat.me.0.view } };
 
-    ghost invariant = { λ s. s.seat.me.0.carries ≡ false };
+    ghost invariant = { λ s. (s.seat.me.0.carries ≡ false) × (s.seat.me.0.spent ≡ false) };
 }
 
 impl<A: Allocator> Seated<A> {
     // The words of the table, for any thread.
     pub(crate) fn open(&mut self) -> Result<OpenWords<A>, AllocError>
+        requires keeper { self.old.view.keeps ≡ true }
         ensures same_table { IfOk result (λ w. w.table ≡ self.old.table) }
         ensures rows { IfOk result (λ w. w.rows ≡ length self.old.view.seen) }
         ensures unchanged { self.new ≡ self.old }

@@ -1,6 +1,7 @@
 //! What each step on the table tells the seat that makes it.
 ghost use Rattle.std.specs.Prelude.{[]};
 ghost use Rattle.dq_words.specs.Places.{InPlace, standing, placed, carrier, carried, hearing, told_loaded};
+ghost use Rattle.dq_words.specs.Places.{apart_loaded, parted, spending, taking};
 ghost use Rattle.dq_words.specs.OpenCalls.{passer_loaded, passer_extended, passer_cancelled};
 ghost use Rattle.dq_words.specs.Plays.{Knowing, caller_loaded, keeper_loaded, extend_made};
 ghost use Rattle.dq_words.specs.Plays.{cancel_made, begin_made, exchange_made, settling, renewing};
@@ -107,6 +108,13 @@ impl Play<u64, Place> for ToldLoad {
     ghost then = { told_loaded };
 }
 
+// A seat's load that tells it what it and a seat that was given up know together.
+pub(crate) struct ApartLoad;
+
+impl Play<u64, Place> for ApartLoad {
+    ghost then = { apart_loaded };
+}
+
 // A seat's calls go to another seat.
 pub(crate) struct Tell;
 
@@ -118,6 +126,21 @@ impl Split<Place> for Tell {
 
 impl Join<Place> for Tell {
     ghost both = { hearing };
+
+    ghost spent = { carrier [] };
+}
+
+// A seat is given up, and its calls go to another seat.
+pub(crate) struct Spend;
+
+impl Split<Place> for Spend {
+    ghost left = { spending };
+
+    ghost right = { parted };
+}
+
+impl Join<Place> for Spend {
+    ghost both = { taking };
 
     ghost spent = { carrier [] };
 }

@@ -9,8 +9,7 @@ mod request_deadlines;
 #[path = "../src/bin/retries.rs"]
 mod retries;
 
-use hontkhale::delay_queue::ManualClock;
-use hontkhale::DelayQueue;
+use hontkhale::{DelayQueue, ManualClock};
 use request_deadlines::Reply;
 #[cfg(target_os = "linux")]
 use std::fs;

@@ -7,8 +7,7 @@ mod cache;
 mod lease_table;
 
 use cache::Cache;
-use hontkhale::delay_queue::ManualClock;
-use hontkhale::DelayQueue;
+use hontkhale::{DelayQueue, ManualClock};
 use lease_table::LeaseTable;
 use std::io::{BufRead, BufReader, ErrorKind, Write};
 use std::net::{SocketAddr, TcpListener, TcpStream};

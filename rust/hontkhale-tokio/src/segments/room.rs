@@ -3,7 +3,7 @@
 use super::{Segments, NEVER, SEGMENTS_LIMIT};
 use crate::key::{Expired, Key};
 use crate::segment::{Segment, FIRST_SLOTS};
-use hontkhale::owner::{CoreError, CAPACITY_LIMIT};
+use hontkhale::parts::owner::{CoreError, CAPACITY_LIMIT};
 use std::sync::Arc;
 
 /// Drops the values in the segments that went. Where a drop panics, those that are left are dropped by the next poll.

@@ -13,7 +13,7 @@ use std::collections::HashMap;
 /// and the owner passes them in: the cache reads no clock.
 ///
 /// ```
-/// use hontkhale::cache::TtlCache;
+/// use hontkhale::parts::cache::TtlCache;
 ///
 /// let mut cache = TtlCache::with_capacity(100).unwrap();
 /// cache.put("key", 1, 500, 1_000).unwrap();
@@ -77,7 +77,7 @@ where
     /// - `NoMemory` if memory is refused.
     ///
     /// ```
-    /// use hontkhale::cache::TtlCache;
+    /// use hontkhale::parts::cache::TtlCache;
     /// use std::collections::hash_map::RandomState;
     ///
     /// let mut cache = TtlCache::with_hasher(100, RandomState::new()).unwrap();

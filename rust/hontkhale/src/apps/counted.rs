@@ -8,7 +8,7 @@ use std::collections::hash_map::RandomState;
 /// A cache that counts its look-ups: a hit if a value was seen, and else a miss.
 ///
 /// ```
-/// use hontkhale::cache::{CountedCache, TtlCache};
+/// use hontkhale::parts::cache::{CountedCache, TtlCache};
 ///
 /// let mut cache = CountedCache::new(TtlCache::with_capacity(100).unwrap());
 /// let long = cache.get_or_insert_with("key", 500, 1_000, || 1).unwrap();

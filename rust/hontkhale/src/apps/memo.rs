@@ -29,7 +29,7 @@ where
     /// - `Worn`, or `Full` with worn slots, only if the cache was made with a last stamp of 1.
     ///
     /// ```
-    /// use hontkhale::cache::TtlCache;
+    /// use hontkhale::parts::cache::TtlCache;
     ///
     /// let mut cache = TtlCache::with_capacity(100).unwrap();
     /// assert_eq!(cache.get_or_insert_with("key", 500, 1_000, || 6 * 7), Ok(42));

@@ -51,7 +51,7 @@ where
     /// - `Worn` only if the cache was made with a last stamp of 1, so that no key can be renewed.
     ///
     /// ```
-    /// use hontkhale::cache::TtlCache;
+    /// use hontkhale::parts::cache::TtlCache;
     ///
     /// let mut cache = TtlCache::with_capacity(100).unwrap();
     /// cache.set("key", 1, 500, 1_000).unwrap();
@@ -87,7 +87,7 @@ where
     /// - `Worn`, or `Full` with worn slots, only if the cache was made with a last stamp of 1.
     ///
     /// ```
-    /// use hontkhale::cache::TtlCache;
+    /// use hontkhale::parts::cache::TtlCache;
     ///
     /// let mut cache = TtlCache::with_capacity(100).unwrap();
     /// assert_eq!(cache.set("key", 1, 500, 1_000), Ok(None));

@@ -10,9 +10,9 @@ use crate::ticks::{Key, LAST_TICK};
 /// the program passes them in: no clock is read.
 ///
 /// ```
-/// use hontkhale::owner::Turn;
-/// use hontkhale::sessions::IdleSessions;
-/// use hontkhale::shards::QueueConfig;
+/// use hontkhale::parts::owner::Turn;
+/// use hontkhale::parts::sessions::IdleSessions;
+/// use hontkhale::parts::shards::QueueConfig;
 ///
 /// let sessions = IdleSessions::new(QueueConfig::of(1, 100), 30_000)?;
 /// let mut handle = sessions.handle()?;
@@ -20,7 +20,7 @@ use crate::ticks::{Key, LAST_TICK};
 /// assert_eq!(sessions.touch(&mut handle, &key, 20_000), Ok(50_000));
 /// assert!(matches!(sessions.next_idle(0, 30_000)?, Turn::Waiting { .. }));
 /// assert!(matches!(sessions.next_idle(0, 50_000)?, Turn::Out(idle) if idle.value.text() == "alice"));
-/// # Ok::<(), hontkhale::shards::QueueError>(())
+/// # Ok::<(), hontkhale::parts::shards::QueueError>(())
 /// ```
 ///
 /// Many threads may log in, and poll for the sessions that ended, each call under the lock of one shard. Each thread
@@ -118,15 +118,15 @@ impl IdleSessions {
     /// - `Ended` if the session expired or was logged out; it says how.
     ///
     /// ```
-    /// use hontkhale::sessions::IdleSessions;
-    /// use hontkhale::shards::QueueConfig;
+    /// use hontkhale::parts::sessions::IdleSessions;
+    /// use hontkhale::parts::shards::QueueConfig;
     ///
     /// let sessions = IdleSessions::new(QueueConfig::of(1, 100), 30_000)?;
     /// let mut handle = sessions.handle()?;
     /// let key = sessions.login(0, "alice", 0)?;
     /// assert_eq!(sessions.touch(&mut handle, &key, 20_000), Ok(50_000));
     /// assert_eq!(sessions.touch(&mut handle, &key, 10_000), Ok(50_000));
-    /// # Ok::<(), hontkhale::shards::QueueError>(())
+    /// # Ok::<(), hontkhale::parts::shards::QueueError>(())
     /// ```
     pub fn touch(&self, handle: &mut Handle, key: &Key, now: u64) -> Result<u64, CallError> {
         handle.extend(key, self.deadline_from(now))
@@ -145,15 +145,15 @@ impl IdleSessions {
     /// - `Ended` if the session expired or was logged out; it says how.
     ///
     /// ```
-    /// use hontkhale::sessions::IdleSessions;
-    /// use hontkhale::shards::QueueConfig;
+    /// use hontkhale::parts::sessions::IdleSessions;
+    /// use hontkhale::parts::shards::QueueConfig;
     ///
     /// let sessions = IdleSessions::new(QueueConfig::of(1, 100), 30_000)?;
     /// let mut handle = sessions.handle()?;
     /// let key = sessions.login(0, "alice", 0)?;
     /// assert_eq!(sessions.logout(&mut handle, &key), Ok(30_000));
     /// assert!(sessions.logout(&mut handle, &key).is_err());
-    /// # Ok::<(), hontkhale::shards::QueueError>(())
+    /// # Ok::<(), hontkhale::parts::shards::QueueError>(())
     /// ```
     pub fn logout(&self, handle: &mut Handle, key: &Key) -> Result<u64, CallError> {
         handle.cancel(key)
@@ -176,16 +176,16 @@ impl IdleSessions {
     /// - `TickTooLarge` if `now` is beyond the last tick.
     ///
     /// ```
-    /// use hontkhale::owner::Turn;
-    /// use hontkhale::sessions::IdleSessions;
-    /// use hontkhale::shards::QueueConfig;
+    /// use hontkhale::parts::owner::Turn;
+    /// use hontkhale::parts::sessions::IdleSessions;
+    /// use hontkhale::parts::shards::QueueConfig;
     ///
     /// let sessions = IdleSessions::new(QueueConfig::of(1, 100), 30_000)?;
     /// sessions.login(0, "alice", 0)?;
     /// while let Turn::Out(ended) = sessions.next_idle(0, 30_000)? {
     ///     assert_eq!(ended.value.text(), "alice");
     /// }
-    /// # Ok::<(), hontkhale::shards::QueueError>(())
+    /// # Ok::<(), hontkhale::parts::shards::QueueError>(())
     /// ```
     pub fn next_idle(&self, shard: usize, now: u64) -> Result<Turn<Name>, QueueError> {
         self.queue.poll(shard, now)

@@ -18,14 +18,14 @@ pub struct LiveEntry<'a, T> {
 /// The live entries of a queue over plain words, as an iterator over those that are left.
 ///
 /// ```
-/// use hontkhale::owner::DelayCore;
+/// use hontkhale::parts::owner::DelayCore;
 ///
 /// let mut queue = DelayCore::with_capacity(4)?;
 /// queue.insert_or_drop("a", 10)?;
 /// queue.insert_or_drop("b", 20)?;
 /// let sum: u64 = queue.entries().map(|entry| entry.deadline).sum();
 /// assert_eq!(sum, 30);
-/// # Ok::<(), hontkhale::owner::CoreError>(())
+/// # Ok::<(), hontkhale::parts::owner::CoreError>(())
 /// ```
 pub struct Entries<'a, T> {
     queue: &'a DelayCore<T, VecWords>,

@@ -69,7 +69,7 @@ impl<T, W: Words> DelayCore<T, W> {
     /// drop.
     ///
     /// ```
-    /// use hontkhale::owner::{CoreError, DelayCore};
+    /// use hontkhale::parts::owner::{CoreError, DelayCore};
     ///
     /// let mut queue = DelayCore::with_capacity(1_000)?;
     /// let first = queue.insert_or_drop("first", 100)?;

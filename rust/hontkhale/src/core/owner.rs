@@ -9,6 +9,7 @@ use crate::core::outcomes::{Piece, Swept, Turn};
 use crate::core::queue::DelayCore;
 use crate::core::words::Words;
 use crate::ticks::{EntryId, Key, LAST_TICK};
+use core::mem;
 
 impl<T, W: Words> DelayCore<T, W> {
     /// Drops the freed values that wait for their drop. If a drop panics, the others wait for the next call that
@@ -17,6 +18,14 @@ impl<T, W: Words> DelayCore<T, W> {
     pub fn drop_aside(&mut self) {
         for _turn in 0..self.aside() {
             drop(self.take_aside());
+        }
+    }
+
+    // Drops the value that waits in the slot that the next insert takes, if one does.
+    #[inline(always)]
+    fn make_room(&mut self) {
+        if mem::needs_drop::<T>() {
+            drop(self.take_crowded());
         }
     }
 
@@ -29,7 +38,7 @@ impl<T, W: Words> DelayCore<T, W> {
     /// - `Full` if no slot is free. It tells how many entries are linked and how many slots are worn.
     ///
     /// ```
-    /// use hontkhale::owner::{CoreError, DelayCore};
+    /// use hontkhale::parts::owner::{CoreError, DelayCore};
     ///
     /// let mut queue = DelayCore::with_capacity(1).unwrap();
     /// queue.insert("value", 100).unwrap();
@@ -42,7 +51,7 @@ impl<T, W: Words> DelayCore<T, W> {
             return Err((CoreError::TooFar { limit: LAST_TICK }, value));
         }
         // Another's drop may panic: it runs before there is an entry whose key would be lost.
-        drop(self.take_crowded());
+        self.make_room();
         self.insert_deferring(value, when).0
     }
 
@@ -77,7 +86,7 @@ impl<T, W: Words> DelayCore<T, W> {
     /// `TickTooLarge` if `tick` is beyond the last tick. It isn't noted then.
     ///
     /// ```
-    /// use hontkhale::owner::{DelayCore, Turn};
+    /// use hontkhale::parts::owner::{DelayCore, Turn};
     ///
     /// let mut queue = DelayCore::with_capacity(100)?;
     /// queue.insert_or_drop("late", 20)?;
@@ -87,7 +96,7 @@ impl<T, W: Words> DelayCore<T, W> {
     ///     out.push(expired.value);
     /// }
     /// assert_eq!(out, ["early", "late"]);
-    /// # Ok::<(), hontkhale::owner::CoreError>(())
+    /// # Ok::<(), hontkhale::parts::owner::CoreError>(())
     /// ```
     #[inline(always)]
     pub fn poll(&mut self, tick: u64) -> Result<Turn<T>, CoreError> {

@@ -49,13 +49,13 @@ fn soonest<T>(entries: &[Pending<T>]) -> (usize, u64) {
 /// compare the wheel.
 ///
 /// ```
-/// use hontkhale::owner::{PlainQueue, PlainTurn};
+/// use hontkhale::parts::owner::{PlainQueue, PlainTurn};
 ///
 /// let mut queue = PlainQueue::new(4)?;
 /// assert_eq!(queue.insert("value", 10), Ok(10));
 /// assert!(matches!(queue.poll(9)?, PlainTurn::PlainWaiting));
 /// assert!(matches!(queue.poll(10)?, PlainTurn::PlainOut { deadline: 10, value: "value" }));
-/// # Ok::<(), hontkhale::owner::CoreError>(())
+/// # Ok::<(), hontkhale::parts::owner::CoreError>(())
 /// ```
 pub struct PlainQueue<T> {
     capacity: usize,

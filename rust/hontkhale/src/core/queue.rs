@@ -17,7 +17,7 @@ use crate::wheels::{Beside, Wheel};
 /// and the owner passes them in: the queue reads no clock. It takes all of its memory when it is made.
 ///
 /// ```
-/// use hontkhale::owner::{DelayCore, Turn};
+/// use hontkhale::parts::owner::{DelayCore, Turn};
 ///
 /// let mut queue = DelayCore::with_capacity(1_000)?;
 /// let first = queue.insert_or_drop("first", 100)?;
@@ -28,7 +28,7 @@ use crate::wheels::{Beside, Wheel};
 /// assert!(matches!(queue.poll(299)?, Turn::Waiting { .. }));
 /// assert!(matches!(queue.poll(300)?, Turn::Out(expired) if expired.value == "first"));
 /// assert!(matches!(queue.poll(300)?, Turn::Idle));
-/// # Ok::<(), hontkhale::owner::CoreError>(())
+/// # Ok::<(), hontkhale::parts::owner::CoreError>(())
 /// ```
 ///
 /// An entry is *live* until it comes out, is removed or is cancelled. A cancelled entry keeps its slot until a call

@@ -60,7 +60,7 @@ impl<T, W: Words> DelayCore<T, W> {
     /// If the words were in use before.
     ///
     /// ```
-    /// use hontkhale::owner::{CoreConfig, CoreError, DelayCore, VecWords};
+    /// use hontkhale::parts::owner::{CoreConfig, CoreError, DelayCore, VecWords};
     ///
     /// # fn main() -> Result<(), CoreError> {
     /// let config = CoreConfig { shard: 0, capacity: 1, last_stamp: 1 };
@@ -101,46 +101,5 @@ impl<T, W: Words> DelayCore<T, W> {
         self.expired = 0;
         self.removed = 0;
         Ok(mem::replace(&mut self.words, words))
-    }
-
-    // Notes a tick, where nothing is linked, and goes to it. Constant time.
-    #[cfg(feature = "std")]
-    fn come_to(&mut self, tick: u64) {
-        // requires linked_in self.old ≡ 0
-        // requires self.old.noted ≤ tick
-        // requires tick ≤ LAST_TICK
-        self.noted = tick;
-        self.wheel.advance(tick);
-    }
-
-    /// Goes on as `fresh`, a queue of its own capacity under a higher number, and returns the whole queue that it was,
-    /// which holds no entry. The noted tick stays: `fresh` comes to it. Every key from before has a lower number, so
-    /// the queue refuses it for good. Callers of the old words stay at those, and reach nothing new.
-    ///
-    /// It takes no memory and gives none back, in constant time: so a queue behind a lock goes on as one that was made
-    /// while the lock was free. Values that wait for their drop go with the old queue.
-    ///
-    /// # Errors
-    /// `fresh` comes back, and nothing changes. In this order:
-    /// - `StillLinked` if an entry is in the queue, even a cancelled one.
-    /// - `UsedNumber` if the number of `fresh` isn't higher than the queue's.
-    #[cfg(feature = "std")]
-    #[allow(clippy::result_large_err)]
-    pub(crate) fn renew_as(
-        &mut self,
-        mut fresh: DelayCore<T, W>,
-    ) -> Result<DelayCore<T, W>, (RenewError, DelayCore<T, W>)> {
-        // requires linked_in fresh ≡ 0
-        // requires fresh.noted ≤ self.old.noted
-        let linked = self.slots.linked();
-        if linked > 0 {
-            return Err((RenewError::StillLinked { linked }, fresh));
-        }
-        if fresh.shard <= self.shard {
-            let number = self.shard;
-            return Err((RenewError::UsedNumber { number }, fresh));
-        }
-        fresh.come_to(self.noted);
-        Ok(mem::replace(self, fresh))
     }
 }

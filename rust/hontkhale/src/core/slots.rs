@@ -146,6 +146,8 @@ pub struct Slots<T> {
     pub(crate) deferred: DeferredDrops,
     /// The worn slots whose value waits for its drop.
     pub(crate) deferred_worn: DeferredDrops,
+    /// Whether a freed value waits for its drop: not one whose drop does nothing.
+    drops: bool,
 }
 
 impl<T> Slots<T> {
@@ -171,6 +173,7 @@ impl<T> Slots<T> {
             free,
             deferred,
             deferred_worn,
+            drops: mem::needs_drop::<T>(),
         })
     }
 }
@@ -205,15 +208,16 @@ impl<T> Slots<T> {
             free,
             deferred,
             deferred_worn,
+            drops: mem::needs_drop::<T>(),
         })
     }
 }
 
-// Notes that the value of a worn slot was let go there, and waits for its drop where it has one.
+// Notes that the value of a worn slot was let go there, and waits for its drop where values do.
 #[inline(always)]
-fn mark<T>(deferred: &mut DeferredDrops, index: usize) {
+fn mark(deferred: &mut DeferredDrops, drops: bool, index: usize) {
     // requires index < defers_room deferred.old
-    if mem::needs_drop::<T>() {
+    if drops {
         deferred.add(index);
     }
 }
@@ -221,12 +225,12 @@ fn mark<T>(deferred: &mut DeferredDrops, index: usize) {
 // Gives a slot whose value was let go to the next fills: as a free one, or where the value waits for its drop as one
 // that is taken where none is free.
 #[inline(always)]
-fn set_aside<T>(free: &mut FreeSlots, deferred: &mut DeferredDrops, index: usize) {
+fn set_aside(free: &mut FreeSlots, deferred: &mut DeferredDrops, drops: bool, index: usize) {
     // requires index < room_of free.old
     // requires free_times free.old index ≡ 0
     // requires index < defers_room deferred.old
     // requires deferred_at deferred.old index ≡ 0
-    if mem::needs_drop::<T>() {
+    if drops {
         deferred.add(index);
     } else {
         free.give(index);
@@ -380,10 +384,10 @@ impl<T> Slots<T> {
         let cell = nth_mut(&mut self.cells, index);
         cell.let_go();
         if cell.stamp() < self.last {
-            set_aside::<T>(&mut self.free, &mut self.deferred, index);
+            set_aside(&mut self.free, &mut self.deferred, self.drops, index);
             self.free_count += 1;
         } else {
-            mark::<T>(&mut self.deferred_worn, index);
+            mark(&mut self.deferred_worn, self.drops, index);
         }
         self.held_count -= 1;
     }
@@ -391,14 +395,10 @@ impl<T> Slots<T> {
     /// How many values wait for their drop.
     #[inline(always)]
     pub fn aside(&self) -> usize {
-        if mem::needs_drop::<T>() {
-            self.deferred.count() + self.deferred_worn.count()
-        } else {
-            0
-        }
+        self.deferred.count() + self.deferred_worn.count()
     }
 
-    /// Takes out a value that waits for its drop; none where none does.
+    /// Takes out a value that waits for its drop; none comes exactly where none does.
     pub fn take_aside(&mut self) -> Option<T> {
         take_any(
             &mut self.cells,
@@ -415,10 +415,16 @@ impl<T> Slots<T> {
         if waiting == 0 || waiting < self.free_count {
             return None;
         }
-        self.take_aside()
+        take_any(
+            &mut self.cells,
+            &mut self.free,
+            &mut self.deferred,
+            &mut self.deferred_worn,
+        )
     }
 
-    /// Takes out the value that is set aside where the next fill puts its own, if one is: none is while a slot is free.
+    /// Takes out the value that is set aside where the next fill puts its own; none comes exactly where a slot is free
+    /// in which none is, or where a fill is refused.
     #[inline(always)]
     pub fn take_crowded(&mut self) -> Option<T> {
         if self.aside() == 0 {

@@ -2,7 +2,7 @@
 
 use crate::core::errors::CoreError;
 use crate::core::packed_row::PackedRow;
-use crate::core::words::{shown, CallError, Look, Settled, Words};
+use crate::core::words::{shown, CallError, Look, Settled, Steps};
 use crate::ticks::{Key, Mark, Parts, CAPACITY_LIMIT, LAST_STAMP, LAST_TICK};
 
 /// A row of words that its owner alone changes: so nothing comes between the steps of a queue over it.
@@ -120,7 +120,7 @@ impl VecWords {
     }
 }
 
-impl Words for VecWords {
+impl Steps for VecWords {
     const FENCED: bool = false;
 
     fn rows(&self) -> usize {

@@ -88,8 +88,15 @@ impl fmt::Display for CallError {
 #[cfg(feature = "std")]
 impl std::error::Error for CallError {}
 
-/// A row of words, and what the keeper knows of them.
-pub trait Words {
+/// A row of words, and what the keeper knows of them: the bound of whatever takes a queue over any words. No other crate's
+/// types have it.
+#[allow(private_bounds)]
+pub trait Words: Steps {}
+
+impl<W: Steps> Words for W {}
+
+/// What the queue does with its words.
+pub(crate) trait Steps {
     /// Whether a step of a word is a fence, behind which every later read waits: so it is where others may change the
     /// words.
     const FENCED: bool = true;

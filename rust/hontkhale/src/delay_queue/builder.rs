@@ -1,11 +1,13 @@
 //! What a queue is made by.
 
-use crate::delay_queue::callers::Front;
-use crate::delay_queue::shared::{Limits, Shared};
+use crate::delay_queue::front::Front;
+use crate::delay_queue::shared::Shared;
 use crate::delay_queue::time::{ManualClock, Source, Time};
 use crate::delay_queue::DelayQueue;
+use crate::directory::Clerk;
 use crate::shards::SHARD_LIMIT;
 use crate::ticks::LAST_STAMP;
+use std::alloc::{handle_alloc_error, Layout};
 use std::fmt;
 use std::marker::PhantomData;
 use std::sync::Arc;
@@ -22,7 +24,9 @@ use std::time::Instant;
 /// ```
 #[must_use]
 pub struct Builder<T> {
-    limits: Limits,
+    shards: usize,
+    max_entries: usize,
+    last_stamp: u32,
     clock: Source,
     start: Option<Instant>,
     values: PhantomData<fn() -> T>,
@@ -31,14 +35,10 @@ pub struct Builder<T> {
 impl<T> Builder<T> {
     pub(crate) fn new() -> Builder<T> {
         let shards = thread::available_parallelism().map_or(4, |count| count.get().clamp(2, 16));
-        let limits = Limits {
+        Builder {
             shards,
-            spread: shards,
             max_entries: usize::MAX,
             last_stamp: LAST_STAMP,
-        };
-        Builder {
-            limits,
             clock: Source::System,
             start: None,
             values: PhantomData,
@@ -46,18 +46,17 @@ impl<T> Builder<T> {
     }
 
     /// How many entries may wait at most. An insert beyond is refused as
-    /// [`Full`](crate::delay_queue::InsertErrorKind::Full). Without it a queue grows until it has 3 million entries a shard.
+    /// [`Full`](crate::delay_queue::InsertErrorKind::Full). Without it a queue grows until it has 4 million entries a shard.
     pub fn max_entries(mut self, most: usize) -> Builder<T> {
-        self.limits.max_entries = most;
+        self.max_entries = most;
         self
     }
 
-    /// Over how many shards, each behind a lock of its own, the threads of a queue are spread once it has grown: 1 to 64, and
-    /// the nearest of these for another number. With 1 all threads use one shard, and another one beside it only where that has
-    /// no room. Without this call they are as many as the machine runs threads, at most 16.
+    /// Over how many shards, each behind a lock of its own, the threads of a queue are spread: 1 to 64, and the nearest of these
+    /// for another number. With 1 all threads use one shard. Without this call they are as many as the machine runs threads, 2 to
+    /// 16.
     pub fn shards(mut self, shards: usize) -> Builder<T> {
-        self.limits.spread = shards.clamp(1, SHARD_LIMIT);
-        self.limits.shards = self.limits.spread.max(2);
+        self.shards = shards.clamp(1, SHARD_LIMIT);
         self
     }
 
@@ -105,7 +104,7 @@ impl<T> Builder<T> {
     /// After how many inserts and resets a slot is worn, 1 to [`LAST_STAMP`]: for tests of what is done then.
     #[doc(hidden)]
     pub fn last_stamp(mut self, last: u32) -> Builder<T> {
-        self.limits.last_stamp = last.clamp(1, LAST_STAMP);
+        self.last_stamp = last.clamp(1, LAST_STAMP);
         self
     }
 
@@ -113,19 +112,23 @@ impl<T> Builder<T> {
     #[must_use]
     pub fn build(self) -> DelayQueue<T> {
         let time = Time::new(self.clock.clone(), self.start);
-        let front = Arc::new(Front::new(time, self.limits.max_entries));
+        let Ok(clerk) = Clerk::new(u32::MAX) else {
+            handle_alloc_error(Layout::new::<Front>());
+        };
+        let front = Arc::new(Front::new(time, self.max_entries, clerk.directory().clone()));
         if let Source::Manual(clock) = &self.clock {
             let weak = Arc::downgrade(&front);
             clock.wakes(move || weak.upgrade().map(|front| front.wake_all()).is_some());
         }
-        DelayQueue::of(&Arc::new(Shared::new(front, self.limits)))
+        DelayQueue::of(&Arc::new(Shared::new(front, clerk, self.shards, self.last_stamp)))
     }
 }
 
 impl<T> fmt::Debug for Builder<T> {
     fn fmt(&self, f: &mut fmt::Formatter<'_>) -> fmt::Result {
         f.debug_struct("Builder")
-            .field("limits", &self.limits)
+            .field("shards", &self.shards)
+            .field("max_entries", &self.max_entries)
             .field("clock", &self.clock)
             .field("start", &self.start)
             .finish_non_exhaustive()

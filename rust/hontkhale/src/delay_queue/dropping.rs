@@ -3,7 +3,7 @@
 
 use std::cell::{Cell, RefCell};
 use std::mem::ManuallyDrop;
-use std::sync::atomic::{AtomicBool, AtomicUsize, Ordering::SeqCst};
+use std::sync::atomic::{AtomicUsize, Ordering::SeqCst};
 use std::sync::{Mutex, MutexGuard, PoisonError};
 
 // They have no destructors, so that those of a thread's other values may drop values of a queue.
@@ -46,7 +46,6 @@ fn end_within() {
 /// Values of a queue that were let go within a drop of another one of its values. They are dropped after it.
 pub(crate) struct LetGo<T> {
     values: Mutex<Vec<T>>,
-    has_some: AtomicBool,
     /// In how many places values wait for their drop: here, and in the shards where some are set aside.
     places: AtomicUsize,
 }
@@ -55,17 +54,12 @@ impl<T> LetGo<T> {
     pub fn new() -> LetGo<T> {
         LetGo {
             values: Mutex::default(),
-            has_some: AtomicBool::new(false),
             places: AtomicUsize::new(0),
         }
     }
 
     fn values(&self) -> MutexGuard<'_, Vec<T>> {
         self.values.lock().unwrap_or_else(PoisonError::into_inner)
-    }
-
-    fn has_some(&self) -> bool {
-        self.has_some.load(SeqCst)
     }
 
     /// Whether values of the queue wait for their drop, here or in a shard.
@@ -89,16 +83,16 @@ impl<T> LetGo<T> {
 
     fn push(&self, value: T) {
         let mut values = self.values();
-        values.push(value);
-        if !self.has_some.swap(true, SeqCst) {
+        if values.is_empty() {
             self.count_place();
         }
+        values.push(value);
     }
 
     fn pop(&self) -> Option<T> {
         let mut values = self.values();
         let value = values.pop();
-        if values.is_empty() && self.has_some.swap(false, SeqCst) {
+        if value.is_some() && values.is_empty() {
             *values = Vec::new();
             self.uncount_place();
         }
@@ -106,7 +100,7 @@ impl<T> LetGo<T> {
     }
 
     /// What tells the queue from others.
-    fn address(&self) -> usize {
+    pub fn address(&self) -> usize {
         self as *const LetGo<T> as usize
     }
 
@@ -152,8 +146,9 @@ impl<T> LetGo<T> {
     /// The same where the turn is begun.
     #[inline(always)]
     fn drop_rest(&self, _dropping: &Dropping) {
-        while self.has_some() {
-            drop(self.pop());
+        while self.has_values() {
+            let Some(value) = self.pop() else { return };
+            drop(value);
         }
     }
 

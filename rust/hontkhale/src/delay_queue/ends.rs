@@ -1,38 +1,62 @@
 //! Who asks whether a queue is empty: its receivers once nothing more is inserted, and those that wait until it is.
+//!
+//! Whoever ends an entry while somebody asks looks whether it was the last one, and whoever begins to ask looks once by the
+//! shards' locks. An insert that was under way as inserts were refused either is seen by that look, or finds the queue sealed
+//! and takes its entry back: so what was put in comes out.
 
-use crate::delay_queue::callers::Watch;
-use std::sync::atomic::{AtomicBool, AtomicUsize, Ordering::SeqCst};
+use crate::delay_queue::shared::Shared;
+use crate::delay_queue::waking;
+use crate::locks::is_in_closure_of;
+use std::sync::atomic::{fence, AtomicUsize, Ordering::SeqCst};
 use std::sync::{Condvar, Mutex, MutexGuard, PoisonError};
+use std::thread::{self, Thread};
 use std::time::Duration;
 
 /// What is known of a queue's end.
 #[derive(Default)]
 pub(crate) struct Ends {
     /// How many ask. While nobody does the end of an entry tells nobody.
-    asked: Mutex<usize>,
-    /// Whether inserts are refused.
-    refuses: AtomicBool,
+    asked: AtomicUsize,
+    /// Whether inserts are refused, whether the receivers end once the queue is empty, and whether the queue was dropped.
+    state: AtomicUsize,
     /// The clones of the queue, which may insert.
     inserters: AtomicUsize,
-    /// Whether the receivers end once the queue is empty.
-    ends_when_empty: AtomicBool,
-    /// Held while it is found out whether they do, by one thread at a time. Nobody's code runs meanwhile.
-    deciding: Mutex<()>,
-    /// How often those were woken that wait until the queue is empty.
-    wakes: Mutex<u64>,
+    /// How often those were woken that wait until the queue is empty. It is locked while it is found out whether the receivers
+    /// end. Nobody's code runs meanwhile.
+    emptied: Mutex<u64>,
     woken: Condvar,
 }
 
+const REFUSES: usize = 1;
+const ENDS_WHEN_EMPTY: usize = 2;
+const IS_OVER: usize = 4;
+
 impl Ends {
+    #[inline(always)]
+    fn is(&self, state: usize) -> bool {
+        self.state.load(SeqCst) & state > 0
+    }
+
     /// Whether inserts are refused.
     #[inline(always)]
     pub fn refuses(&self) -> bool {
-        self.refuses.load(SeqCst)
+        self.is(REFUSES)
     }
 
     /// From now on inserts are refused.
     pub fn refuse(&self) {
-        self.refuses.store(true, SeqCst);
+        self.state.fetch_or(REFUSES, SeqCst);
+    }
+
+    /// Whether the queue was dropped.
+    #[inline(always)]
+    pub fn is_over(&self) -> bool {
+        self.is(IS_OVER)
+    }
+
+    /// The queue is dropped.
+    pub fn end(&self) {
+        self.state.fetch_or(IS_OVER, SeqCst);
     }
 
     pub fn add_inserter(&self) {
@@ -44,71 +68,157 @@ impl Ends {
         self.inserters.fetch_sub(1, SeqCst) == 1
     }
 
-    /// From now on inserts are refused, and the receivers end once the queue is empty.
-    pub fn end_when_empty(&self, watch: &Watch) {
-        self.refuse();
-        if !self.ends_when_empty.swap(true, SeqCst) {
-            self.note_asked(watch, |asked| asked + 1);
-        }
+    /// Whether somebody asks whether the queue is empty.
+    #[inline(always)]
+    pub fn is_asked(&self) -> bool {
+        self.asked.load(SeqCst) > 0
     }
 
-    /// Has the ends of entries looked at while somebody asks.
-    fn note_asked(&self, watch: &Watch, change: impl FnOnce(usize) -> usize) {
-        let mut asked = self.asked.lock().unwrap_or_else(PoisonError::into_inner);
-        *asked = change(*asked);
-        watch.set(Watch::ASKED, *asked > 0);
-    }
-
-    /// Whether the receivers end once the queue is empty.
-    pub fn ends_when_empty(&self) -> bool {
-        self.ends_when_empty.load(SeqCst)
-    }
-
-    /// The right to find out whether they do.
-    pub fn deciding(&self) -> MutexGuard<'_, ()> {
-        self.deciding.lock().unwrap_or_else(PoisonError::into_inner)
-    }
-
-    /// Until what it gives is dropped, those that wait are woken whenever the queue is empty.
-    pub fn ask<'e>(&'e self, watch: &'e Watch) -> Asks<'e> {
-        self.note_asked(watch, |asked| asked + 1);
-        Asks { ends: self, watch }
-    }
-
-    fn wakes(&self) -> MutexGuard<'_, u64> {
-        self.wakes.lock().unwrap_or_else(PoisonError::into_inner)
-    }
-
-    /// How often those that wait were woken so far.
-    pub fn seen(&self) -> u64 {
-        *self.wakes()
+    fn emptied(&self) -> MutexGuard<'_, u64> {
+        self.emptied.lock().unwrap_or_else(PoisonError::into_inner)
     }
 
     /// Wakes those that wait until the queue is empty.
     pub fn wake_all(&self) {
-        *self.wakes() += 1;
+        *self.emptied() += 1;
         self.woken.notify_all();
     }
 
-    /// Sleeps until it is woken once more than it has seen, at most for a time.
-    pub fn sleep(&self, seen: u64, length: Option<Duration>) {
-        let wakes = self.wakes();
+    /// Sleeps until those that wait are woken once more than it has seen, at most for a time.
+    fn sleep(&self, seen: u64, length: Option<Duration>) {
         let is_same = |wakes: &mut u64| *wakes == seen;
         match length {
-            None => drop(self.woken.wait_while(wakes, is_same)),
-            Some(length) => drop(self.woken.wait_timeout_while(wakes, length, is_same)),
+            None => drop(self.woken.wait_while(self.emptied(), is_same)),
+            Some(length) => drop(self.woken.wait_timeout_while(self.emptied(), length, is_same)),
         }
     }
 }
 
 /// One that waits until a queue is empty.
-pub(crate) struct Asks<'e> {
-    ends: &'e Ends,
-    watch: &'e Watch,
-}
+struct Asks<'e>(&'e Ends);
 
 impl Drop for Asks<'_> {
     fn drop(&mut self) {
-        self.ends.note_asked(self.watch, |asked| asked - 1);
+        self.0.asked.fetch_sub(1, SeqCst);
+    }
+}
+
+impl<T> Shared<T> {
+    /// Refuses inserts, and ends the receivers once nothing waits. A task's waker may panic.
+    pub fn close_when_empty(&self) -> thread::Result<()> {
+        let ends = &self.front.ends;
+        let before = ends.state.fetch_or(REFUSES | ENDS_WHEN_EMPTY, SeqCst);
+        if before & ENDS_WHEN_EMPTY == 0 {
+            ends.asked.fetch_add(1, SeqCst);
+        }
+        self.end_if_empty()
+    }
+
+    /// Notes that entries wait no longer. No lock is held.
+    #[inline(always)]
+    pub fn note_ended(&self, entries: usize) {
+        self.front.uncount(entries);
+        if self.front.ends.is_asked() {
+            self.note_end();
+        }
+    }
+
+    /// Tells those that ask where the queue is empty now, but not in a closure under a lock of the queue. What a task's waker panics with is lost: the caller may have a value
+    /// in hand. No lock is held.
+    #[cold]
+    pub fn note_end(&self) {
+        // The lock of those that wait may be held by one that waits for the closure's: whoever has called that looks once more.
+        if is_in_closure_of(self.front.id as usize) {
+            return;
+        }
+        // Of two threads that end the last two entries one sees that both have ended.
+        fence(SeqCst);
+        if !self.has_none() {
+            return;
+        }
+        self.front.ends.wake_all();
+        if self.front.ends.is(ENDS_WHEN_EMPTY) {
+            waking::lose(self.end_if_empty());
+        }
+    }
+
+    /// Ends the receivers where nothing waits. In a closure under a lock of the queue it doesn't: whoever has called that looks
+    /// once more.
+    fn end_if_empty(&self) -> thread::Result<()> {
+        if is_in_closure_of(self.front.id as usize) {
+            return Ok(());
+        }
+        let deciding = self.front.ends.emptied();
+        if self.front.bell.is_closed() {
+            return Ok(());
+        }
+        self.front.tasks.seal();
+        if !self.is_surely_empty() {
+            self.front.tasks.unseal();
+            return Ok(());
+        }
+        let threads = self.front.bell.close();
+        drop(deciding);
+        threads.iter().for_each(Thread::unpark);
+        self.front.tasks.wake_all()
+    }
+
+    /// Whether no entry waits, told by the locks of all shards: each insert that takes one of them later sees what the caller did.
+    fn is_surely_empty(&self) -> bool {
+        self.shards.iter().for_each(|shard| drop(shard.lock()));
+        self.has_none()
+    }
+
+    /// Waits until no entry waits, and tells whether none did before the time was over.
+    pub fn wait_empty(&self, timeout: Duration) -> bool {
+        let (time, ends) = (&self.front.time, &self.front.ends);
+        // A moment that no clock reaches is waited for without end.
+        let until = time.now().checked_add(timeout);
+        ends.asked.fetch_add(1, SeqCst);
+        let _asks = Asks(ends);
+        loop {
+            let seen = *ends.emptied();
+            let is_over = until.is_some_and(|until| until <= time.now());
+            if self.is_surely_empty() {
+                return true;
+            }
+            if is_over {
+                return false;
+            }
+            ends.sleep(seen, until.and_then(|until| time.sleep_until(until)));
+        }
+    }
+}
+
+#[cfg(test)]
+mod tests {
+    use crate::DelayQueue;
+    use std::time::Duration;
+
+    const FAR: Duration = Duration::from_secs(1_000);
+
+    /// Another thread has taken it out, saw that nobody asks, and counts next.
+    #[test]
+    fn a_last_entry_that_is_out_and_counted_yet_keeps_no_receiver() {
+        let queue = DelayQueue::builder().max_entries(4).build();
+        let key = queue.insert("last".to_string(), FAR).expect("room");
+        let shared = &queue.shared;
+        let value = shared.shards[key.shard()].lock().remove(&key).expect("it waits");
+        queue.close_when_empty();
+        let is_empty = queue.wait_empty(Duration::ZERO);
+        shared.front.uncount(1);
+        assert!(is_empty && shared.front.bell.is_closed());
+        assert_eq!((value.as_str(), queue.len()), ("last", 0));
+    }
+
+    /// Another thread's insert is counted, and is refused then for want of memory, or by a panic.
+    #[test]
+    fn an_insert_that_is_counted_and_comes_to_nothing_keeps_no_receiver() {
+        let queue = DelayQueue::<String>::builder().max_entries(4).build();
+        let front = &queue.shared.front;
+        assert!(front.count_in());
+        queue.close_when_empty();
+        front.uncount(1);
+        assert!(front.bell.is_closed());
     }
 }

@@ -36,8 +36,7 @@ impl Error for InsertErrorKind {}
 /// [`SendError`](std::sync::mpsc::SendError), a `Box<dyn Error + Send + Sync>` takes a value that is `Send + Sync`.
 ///
 /// ```
-/// use hontkhale::delay_queue::InsertErrorKind;
-/// use hontkhale::DelayQueue;
+/// use hontkhale::{DelayQueue, InsertErrorKind};
 /// use std::time::Duration;
 ///
 /// let queue = DelayQueue::builder().max_entries(1).build();

@@ -1,9 +1,9 @@
 //! What reaches entries from elsewhere: a handle, which knows nothing of the values, and a guard of one entry.
 
-use crate::delay_queue::callers::{Front, Told};
 use crate::delay_queue::errors::KeyError;
+use crate::delay_queue::front::{Front, Step};
 use crate::delay_queue::key::Key;
-use crate::delay_queue::shared::{quick_step, Shared, Step, Steps};
+use crate::delay_queue::shared::{Shared, Steps};
 use std::fmt;
 use std::sync::{Arc, Weak};
 use std::time::{Duration, Instant};
@@ -11,7 +11,8 @@ use std::time::{Duration, Instant};
 /// Extends and cancels entries of a [`DelayQueue`](crate::DelayQueue), and tells their deadlines, without its type and without a lifetime.
 ///
 /// It may be cloned and sent to any thread, and doesn't keep its queue: once that was dropped, each call returns
-/// [`Closed`](KeyError::Closed).
+/// [`Closed`](KeyError::Closed). It keeps what it needs to make its calls without a lock, which is 8 bytes of the room for each
+/// entry that the queue had.
 #[derive(Clone)]
 pub struct Handle {
     front: Arc<Front>,
@@ -29,17 +30,20 @@ impl Handle {
 
     #[inline]
     fn tick_of(&self, key: &Key, step: Step) -> Result<u64, KeyError> {
-        if self.front.is_ended() {
+        if self.front.ends.is_over() {
             return Err(KeyError::Closed);
         }
-        let mut told = quick_step(&self.front, key, step);
-        if told == Told::NOT_YET {
-            told = self.queue.upgrade().ok_or(KeyError::Closed)?.slow_step(key, step);
+        let made = match self.front.quick_step(key, step) {
+            Some(made) => made,
+            None => self.queue.upgrade().ok_or(KeyError::Closed)?.slow_step(key, step),
+        };
+        if matches!(step, Step::Cancel) && made.is_ok() {
+            self.front.count_cancel();
+            if self.front.ends.is_asked() {
+                self.note_end();
+            }
         }
-        if matches!(step, Step::Cancel) && told.is_deadline() && self.front.count_cancel() {
-            self.note_end();
-        }
-        told.result()
+        made
     }
 
     #[cold]
@@ -54,7 +58,7 @@ impl Handle {
     }
 
     /// Raises the deadline of an entry to `after` from now, and returns the deadline that is then in force: that one, or a
-    /// later one that it had. It takes no lock and constant time; after a reset of the entry it may take one.
+    /// later one that it had. It takes no lock and constant time; after a sooner reset of the entry it may take one.
     ///
     /// # Errors
     /// In this order:
@@ -62,13 +66,12 @@ impl Handle {
     /// - `WrongQueue` if the key is another queue's.
     /// - `TooFar` if the deadline is more than 139 years after the queue was made.
     /// - `Ended` if the entry came out, was removed, or was cancelled.
-    /// - `NoMemory` if the call has to take memory, as a thread's first call for a shard does, and memory is refused.
     pub fn extend(&self, key: &Key, after: Duration) -> Result<Instant, KeyError> {
         self.step(key, Step::Extend(self.front.time.tick_in(after)))
     }
 
     /// Raises the deadline of an entry to `when`, and returns the deadline that is then in force: that one, or a later one
-    /// that it had. It reads no clock. It takes no lock and constant time; after a reset of the entry it may take one.
+    /// that it had. It reads no clock. It takes no lock and constant time; after a sooner reset of the entry it may take one.
     ///
     /// # Errors
     /// In this order:
@@ -76,7 +79,6 @@ impl Handle {
     /// - `WrongQueue` if the key is another queue's.
     /// - `TooFar` if the deadline is more than 139 years after the queue was made.
     /// - `Ended` if the entry came out, was removed, or was cancelled.
-    /// - `NoMemory` if the call has to take memory, as a thread's first call for a shard does, and memory is refused.
     pub fn extend_at(&self, key: &Key, when: Instant) -> Result<Instant, KeyError> {
         let rounded = self.front.time.rounded(when);
         let deadline = self.tick_of(key, Step::Extend(rounded.0))?;
@@ -91,7 +93,6 @@ impl Handle {
     /// - `Closed` if the queue was dropped.
     /// - `WrongQueue` if the key is another queue's.
     /// - `Ended` if the entry came out, was removed, or was cancelled.
-    /// - `NoMemory` if the call has to take memory, as a thread's first call for a shard does, and memory is refused.
     pub fn cancel(&self, key: &Key) -> Result<Instant, KeyError> {
         self.step(key, Step::Cancel)
     }
@@ -106,8 +107,7 @@ impl Handle {
     /// - `Ended` if the entry came out, was removed, or was cancelled.
     ///
     /// ```
-    /// use hontkhale::delay_queue::KeyError;
-    /// use hontkhale::DelayQueue;
+    /// use hontkhale::{DelayQueue, KeyError};
     /// use std::time::Duration;
     ///
     /// let queue = DelayQueue::new();
@@ -131,7 +131,6 @@ impl Handle {
     /// - `Closed` if the queue was dropped.
     /// - `WrongQueue` if the key is another queue's.
     /// - `Ended` if the entry came out, was removed, or was cancelled.
-    /// - `NoMemory` if the call has to take memory, as a thread's first call for a shard does, and memory is refused.
     pub fn deadline(&self, key: &Key) -> Result<Instant, KeyError> {
         self.step(key, Step::Look)
     }
@@ -140,7 +139,7 @@ impl Handle {
 impl fmt::Debug for Handle {
     fn fmt(&self, f: &mut fmt::Formatter<'_>) -> fmt::Result {
         f.debug_struct("Handle")
-            .field("queue", &self.front.number())
+            .field("queue", &self.front.id)
             .finish_non_exhaustive()
     }
 }
@@ -186,7 +185,6 @@ impl<T> Timeout<T> {
     /// In this order:
     /// - `TooFar` if the deadline is more than 139 years after the queue was made.
     /// - `Ended` if the value came out already.
-    /// - `NoMemory` if the call has to take memory, as a thread's first call for a shard does, and memory is refused.
     pub fn extend(&self, after: Duration) -> Result<Instant, KeyError> {
         self.shared()?.extend(&self.key, after)
     }
@@ -198,7 +196,6 @@ impl<T> Timeout<T> {
     /// In this order:
     /// - `TooFar` if the deadline is more than 139 years after the queue was made.
     /// - `Ended` if the value came out already.
-    /// - `NoMemory` if the call has to take memory, as a thread's first call for a shard does, and memory is refused.
     pub fn extend_at(&self, when: Instant) -> Result<Instant, KeyError> {
         self.shared()?.extend_at(&self.key, when)
     }
@@ -209,7 +206,7 @@ impl<T> Timeout<T> {
     /// Nothing changes then. In this order:
     /// - `TooFar` if the deadline is more than 139 years after the queue was made.
     /// - `Ended` if the value came out already.
-    /// - `NoMemory` if the entry's slot is worn, no other shard has room, and memory is refused.
+    /// - `NoMemory` if the entry's slot is worn, the shard has no room, and memory is refused.
     ///
     /// ```
     /// use hontkhale::DelayQueue;
@@ -234,7 +231,7 @@ impl<T> Timeout<T> {
     /// Nothing changes then. In this order:
     /// - `TooFar` if the deadline is more than 139 years after the queue was made.
     /// - `Ended` if the value came out already.
-    /// - `NoMemory` if the entry's slot is worn, no other shard has room, and memory is refused.
+    /// - `NoMemory` if the entry's slot is worn, the shard has no room, and memory is refused.
     pub fn reset_at(&mut self, when: Instant) -> Result<(), KeyError> {
         let shared = self.shared()?;
         self.key = shared.reset(&self.key, shared.front.time.tick_at(when))?;
@@ -246,7 +243,6 @@ impl<T> Timeout<T> {
     /// # Errors
     /// In this order:
     /// - `Ended` if the value came out already.
-    /// - `NoMemory` if the call has to take memory, as a thread's first call for a shard does, and memory is refused.
     pub fn deadline(&self) -> Result<Instant, KeyError> {
         self.shared()?.step_to_moment(&self.key, Step::Look)
     }

@@ -5,36 +5,7 @@ use std::cmp::Ordering;
 use std::fmt;
 use std::hash::{Hash, Hasher};
 
-/// At which of so many places the shard of a number stands: the number's remainder, without a division, which takes longer than
-/// all else of an extend. The first product is the number's part behind the point, in parts of 2^64, once it is divided.
-#[derive(Clone, Copy)]
-pub(crate) struct Places {
-    count: u64,
-    inverse: u64,
-}
-
-impl Places {
-    /// So many, at least one.
-    pub fn new(count: usize) -> Places {
-        let count = count as u64;
-        Places {
-            count,
-            inverse: (u64::MAX / count).wrapping_add(1),
-        }
-    }
-
-    pub fn count(&self) -> usize {
-        self.count as usize
-    }
-
-    #[inline(always)]
-    pub fn place_of(&self, number: u32) -> usize {
-        let part = self.inverse.wrapping_mul(u64::from(number));
-        ((u128::from(part) * u128::from(self.count)) >> 64) as usize
-    }
-}
-
-/// The bits of a birth or of a stamp, of an index, and of a number in a key.
+/// The bits of a birth or of a stamp, of an index, and of a core's number in a key.
 const STAMP_BITS: u32 = 20;
 const INDEX_BITS: u32 = 16;
 const NUMBER_BITS: u32 = 32;
@@ -64,16 +35,16 @@ const NUMBER_BITS: u32 = 32;
 /// ```
 #[derive(Clone, Copy)]
 pub struct Key {
-    /// The number of the queue, and that of the shard's generation.
+    /// The number of the queue, and that of the core.
     place: u64,
-    /// The segment, the index, the birth, and the stamp that the entry had when the key was made.
+    /// The shard, the index, the birth, and the stamp that the entry had when the key was made.
     entry: u64,
 }
 
 impl Key {
-    pub(crate) fn of(queue: u32, segment: usize, key: &ticks::Key) -> Key {
+    pub(crate) fn of(queue: u32, shard: usize, key: &ticks::Key) -> Key {
         let entry = key.entry();
-        let name = (segment as u64) << INDEX_BITS | u64::from(entry.index());
+        let name = (shard as u64) << INDEX_BITS | u64::from(entry.index());
         let born = name << STAMP_BITS | u64::from(entry.born());
         Key {
             place: u64::from(queue) << NUMBER_BITS | u64::from(entry.shard()),
@@ -85,11 +56,13 @@ impl Key {
         (self.place >> NUMBER_BITS) as u32
     }
 
-    pub(crate) fn segment(&self) -> usize {
+    /// The shard's place.
+    pub(crate) fn shard(&self) -> usize {
         (self.entry >> (INDEX_BITS + 2 * STAMP_BITS)) as usize
     }
 
-    /// The shard's number.
+    /// The core's number.
+    #[inline(always)]
     pub(crate) fn number(&self) -> u32 {
         self.place as u32
     }
@@ -100,7 +73,7 @@ impl Key {
         ticks::EntryId::new(self.number(), u32::from(index), born)
     }
 
-    /// The segment's own key.
+    /// The core's own key.
     pub(crate) fn inner(&self) -> ticks::Key {
         ticks::Key::new(self.entry(), self.entry as u32 & ((1 << STAMP_BITS) - 1))
     }
@@ -142,33 +115,10 @@ impl fmt::Debug for Key {
         let entry = self.entry();
         f.debug_struct("Key")
             .field("queue", &self.queue())
-            .field("segment", &self.segment())
-            .field("shard", &entry.shard())
+            .field("shard", &self.shard())
+            .field("core", &entry.shard())
             .field("index", &entry.index())
             .field("born", &entry.born())
             .finish()
-    }
-}
-
-#[cfg(test)]
-mod tests {
-    use super::Places;
-
-    #[test]
-    fn the_place_of_a_number_is_its_remainder() {
-        for count in 1..=100_u32 {
-            let places = Places::new(count as usize);
-            let ends = (0..300).map(|back| u32::MAX - back);
-            let multiples = (1..300).map(|times| u32::MAX / count / times * count);
-            let around =
-                multiples.flat_map(|multiple| [multiple.saturating_sub(1), multiple, multiple.saturating_add(1)]);
-            for number in (0..1_000).chain(ends).chain(around) {
-                assert_eq!(
-                    places.place_of(number),
-                    (number % count) as usize,
-                    "{number} of {count}"
-                );
-            }
-        }
     }
 }

@@ -1,6 +1,7 @@
-//! Where the entries are that were moved to another slot, so that their keys stay good.
+//! Where the entries of a shard are that were moved to another slot, so that their keys stay good.
 
 use crate::delay_queue::key::Key;
+use crate::memory::AllocError;
 use std::collections::HashMap;
 
 pub(crate) struct Moves {
@@ -18,8 +19,15 @@ impl Moves {
         }
     }
 
+    #[inline(always)]
     pub fn len(&self) -> usize {
         self.places.len()
+    }
+
+    /// Makes room for one note more.
+    pub fn reserve(&mut self) -> Result<(), AllocError> {
+        self.places.try_reserve(1)?;
+        Ok(self.keys.try_reserve(1)?)
     }
 
     /// The present key of a moved entry.

@@ -1,21 +1,18 @@
 //! How entries come out.
 
-use crate::core::{Expired as Out, Piece, Turn};
 use crate::delay_queue::errors::{RecvTimeoutError, TryRecvError};
 use crate::delay_queue::key::Key;
-use crate::delay_queue::segment::Segment;
-use crate::delay_queue::shared::{Room, Shared, TRIES};
+use crate::delay_queue::shared::Shared;
+use crate::delay_queue::store::{Polled, Way};
 use crate::delay_queue::waking::{Todo, Wait};
 use crate::delay_queue::Expired;
 use std::fmt;
-use std::slice;
-use std::sync::atomic::Ordering::{Relaxed, SeqCst};
 use std::thread;
 use std::time::{Duration, Instant};
 
 /// How many entries are taken out under one lock.
 const TAKEN_AT_ONCE: usize = 64;
-/// Up to how many entries of a shard a thread polls as a whole. In pieces an entry takes longer, and whoever waits for the lock
+/// Up to how many entries of a core a thread polls as a whole. In pieces an entry takes longer, and whoever waits for the lock
 /// gets it no sooner.
 const POLLED_WHOLE: usize = 8_192;
 
@@ -125,54 +122,39 @@ impl<T> Shared<T> {
     }
 
     /// The shard that has something due first, where one has.
-    fn most_due(&self, now: u64) -> Option<Room> {
-        let mut least = (now.saturating_add(1), None);
-        for (at, segment) in self.segments() {
-            for (place, row) in segment.rows.iter().enumerate() {
-                let hint = row.hint();
-                if hint < least.0 {
-                    least = (hint, Some(Room { left: TRIES, at, place }));
-                }
+    #[inline(always)]
+    fn most_due(&self, now: u64) -> Option<usize> {
+        let mut first = (now.saturating_add(1), None);
+        for (at, shard) in self.shards.iter().enumerate() {
+            let hint = shard.hint();
+            if hint < first.0 {
+                first = (hint, Some(at));
             }
         }
-        least.1
+        first.1
     }
 
-    /// A shard that may have something due: the one from which this thread took last, a few times, so that not all hints are
-    /// read each time.
-    #[inline(always)]
-    fn due_place(&self, now: u64) -> Option<Room> {
-        let noted = &self.front.lane().due;
-        let last = Room::of(noted.load(Relaxed));
-        let is_due = |segment: &Segment<T>| last.left > 0 && segment.rows[last.place].hint() <= now;
-        let room = if self.segment(last.at).is_some_and(is_due) {
-            last.tried()
-        } else {
-            self.most_due(now)?
-        };
-        noted.store(room.packed(), Relaxed);
-        Some(room)
-    }
-
-    /// Takes an entry out that is due, by a poll that is a whole one of a shard of at most so many entries.
+    /// Takes an entry out that is due, by a poll that is a whole one of cores of at most so many entries.
     #[inline(always)]
     pub fn take_step(&self, whole: usize) -> Step<T> {
         let now = self.front.time.tick();
-        let Some(room) = self.due_place(now) else {
+        let Some(at) = self.most_due(now) else {
             return Step::Rests;
         };
-        let mut out = None;
-        self.poll(&room, now, whole, |expired| {
-            out = Some(expired);
-            false
-        });
-        match out {
-            None => Step::Works,
-            Some(mut out) => {
-                self.note_out(slice::from_mut(&mut out));
-                Step::Took(out)
-            }
-        }
+        let mut store = self.shards[at].lock();
+        let polled = store.poll(now, whole);
+        let has_work = store.has_work;
+        drop(store);
+        let out = match polled {
+            Polled::Out(key, deadline, value) => Expired {
+                key,
+                deadline: self.front.time.moment(deadline),
+                value,
+            },
+            Polled::Works | Polled::Rests => return Step::Works,
+        };
+        self.note_out(at, 1, has_work);
+        Step::Took(out)
     }
 
     /// An entry that is due.
@@ -188,89 +170,36 @@ impl<T> Shared<T> {
 
     /// Takes entries that are due, at most so many, and tells how many; none where none is.
     fn take_some(&self, row: &mut Vec<Expired<T>>, most: usize) -> Option<usize> {
-        match self.take_many(row, most) {
-            0 => None,
-            taken => Some(taken),
-        }
-    }
-
-    /// Takes entries that are due, at most so many, and tells how many.
-    fn take_many(&self, row: &mut Vec<Expired<T>>, most: usize) -> usize {
         let now = self.front.time.tick();
         let before = row.len();
         while row.len() - before < most {
-            let Some(room) = self.most_due(now) else {
+            let Some(at) = self.most_due(now) else {
                 break;
             };
             let first = row.len();
-            let until = first + TAKEN_AT_ONCE.min(most - (first - before));
-            row.reserve(until - first);
-            self.poll(&room, now, POLLED_WHOLE, |expired| {
-                row.push(expired);
-                row.len() < until
-            });
-            self.note_out(&mut row[first..]);
-        }
-        row.len() - before
-    }
-
-    /// Takes out what is due in a shard while `more` says so. Who takes one after the other from the same shard leaves its hint
-    /// as it is, too early, until it has taken some or nothing is due there.
-    #[inline(always)]
-    fn poll(&self, room: &Room, now: u64, whole: usize, mut more: impl FnMut(Expired<T>) -> bool) {
-        let segment = self.segment(room.at).expect("a segment of the queue");
-        let mut shard = segment.enter(room.place);
-        let mut latest = 0;
-        let mut known = (0, self.front.time.moment(0));
-        loop {
-            match shard.poll(now, whole) {
-                Piece::Answer(Turn::Out(out)) => {
-                    let late = now.saturating_sub(out.deadline);
-                    if late > 0 {
-                        shard.count_late(late);
-                        latest = latest.max(late);
-                    }
-                    known = (out.deadline, self.front.time.moment_after(out.deadline, known));
-                    if more(self.expired(room.at, out, known.1)) {
-                        continue;
-                    }
-                    if room.left == TRIES {
-                        shard.set_hint(shard.core().next_wake());
-                    }
-                }
-                Piece::Answer(Turn::Waiting { next }) => shard.set_hint(Some(next)),
-                Piece::Answer(Turn::Idle) => shard.set_hint(None),
-                // The hint is as it was, so the shard is asked again.
-                Piece::Working => {}
+            let room = TAKEN_AT_ONCE.min(most - (first - before));
+            row.reserve(room);
+            let has_work = self.take_at(at, now, row, first + room);
+            if row.len() > first {
+                self.note_out(at, row.len() - first, has_work);
             }
-            break;
         }
-        let is_last = shard.core().is_empty();
-        drop(shard);
-        if latest > 0 && latest > self.latest.load(Relaxed) {
-            self.latest.fetch_max(latest, SeqCst);
-        }
-        if is_last && room.at > 0 {
-            self.shrink();
-        }
+        Some(row.len() - before).filter(|taken| *taken > 0)
     }
 
-    #[inline(always)]
-    fn expired(&self, at: usize, out: Out<T>, deadline: Instant) -> Expired<T> {
-        Expired {
-            key: self.key(at, &out.key),
-            deadline,
-            value: out.value,
+    /// Takes out what is due in a shard, under one lock, until a row has so many. It tells whether something is to be done there.
+    fn take_at(&self, at: usize, now: u64, row: &mut Vec<Expired<T>>, until: usize) -> bool {
+        let mut store = self.shards[at].lock();
+        let mut known = (0, self.front.time.moment(0));
+        while row.len() < until {
+            let Polled::Out(key, tick, value) = store.poll(now, POLLED_WHOLE) else {
+                break;
+            };
+            known = (tick, self.front.time.moment_after(tick, known));
+            let deadline = known.1;
+            row.push(Expired { key, deadline, value });
         }
-    }
-
-    /// Notes that entries came out, and gives each the key that its insert had. No lock of a shard is held. An entry that was
-    /// moved is counted as moved until it is noted here.
-    #[inline(always)]
-    fn note_out(&self, outs: &mut [Expired<T>]) {
-        if self.front.note_ended(outs.len()) {
-            outs.iter_mut().for_each(|out| out.key = self.note_watched(out.key));
-        }
+        store.has_work
     }
 }
 
@@ -378,51 +307,44 @@ impl<T> fmt::Debug for TryIter<'_, T> {
 #[must_use = "an iterator does nothing until it is asked"]
 pub struct Drain<'q, T> {
     shared: &'q Shared<T>,
-    segment: usize,
-    place: usize,
-    slot: usize,
-    /// The moves of entries that were made as this way through the shards began.
-    moves: u64,
+    /// The shard, and how far the way through its slots is.
+    at: usize,
+    way: Way,
+    /// How many entries had been moved in it as that way began.
+    moved: Option<u64>,
 }
 
 impl<'q, T> Drain<'q, T> {
     pub(crate) fn new(shared: &'q Shared<T>) -> Drain<'q, T> {
         Drain {
             shared,
-            segment: 0,
-            place: 0,
-            slot: 0,
-            moves: shared.moves_made.load(SeqCst),
+            at: 0,
+            way: Way::BEGIN,
+            moved: None,
         }
     }
 
     /// The next live entry on the way through the shards.
     fn next_on_the_way(&mut self) -> Option<(Key, Instant, T)> {
-        let shared = self.shared;
-        while let Some(segment) = shared.segment(self.segment) {
-            if let Some(taken) = self.next_here(segment) {
-                return Some(taken);
+        while let Some(shard) = self.shared.shards.get(self.at) {
+            let mut store = shard.lock();
+            let moved = *self.moved.get_or_insert(store.counts.moved);
+            let polled = store.take_next(&mut self.way);
+            // What was moved meanwhile may be where the way has been.
+            let is_over = store.counts.moved == moved;
+            drop(store);
+            match polled {
+                Polled::Out(key, deadline, value) => {
+                    self.shared.note_ended(1);
+                    return Some((key, self.shared.front.time.moment(deadline), value));
+                }
+                Polled::Works => {}
+                Polled::Rests => {
+                    while self.shared.maintain(self.at) {}
+                    self.at += usize::from(is_over);
+                    (self.way, self.moved) = (Way::BEGIN, None);
+                }
             }
-            (self.place, self.slot) = (self.place + 1, 0);
-            if self.place == segment.rows.len() {
-                (self.segment, self.place) = (self.segment + 1, 0);
-            }
-        }
-        None
-    }
-
-    /// The next live entry of the present shard. What was cancelled is freed on the way.
-    fn next_here(&mut self, segment: &Segment<T>) -> Option<(Key, Instant, T)> {
-        while let Some((entry, next)) = segment.entry_from(self.place, self.slot) {
-            self.slot = next;
-            let mut shard = segment.enter(self.place);
-            let Ok(removed) = shard.core_mut().remove(&entry) else {
-                let _ = shard.core_mut().reap_deferring(&entry);
-                continue;
-            };
-            drop(shard);
-            let key = self.shared.note_watched(self.shared.key(self.segment, &removed.key));
-            return Some((key, self.shared.front.time.moment(removed.deadline), removed.value));
         }
         None
     }
@@ -434,20 +356,11 @@ impl<T> Iterator for Drain<'_, T> {
     fn next(&mut self) -> Option<(Key, Instant, T)> {
         // What was cancelled is dropped while nothing is in hand.
         self.shared.tidy();
-        loop {
-            if let Some(taken) = self.next_on_the_way() {
-                return Some(taken);
-            }
-            // What was moved meanwhile may be where the way has been.
-            let again = Drain::new(self.shared);
-            if again.moves == self.moves {
-                break;
-            }
-            *self = again;
+        let taken = self.next_on_the_way();
+        if taken.is_none() {
+            self.shared.tidy();
         }
-        self.shared.tidy();
-        self.shared.shrink();
-        None
+        taken
     }
 }
 

@@ -390,7 +390,7 @@ mod tests {
     use std::sync::atomic::{AtomicBool, Ordering::SeqCst};
     use std::sync::mpsc::channel;
     use std::sync::Arc;
-    use std::task::{Context, Wake, Waker};
+    use std::task::{Wake, Waker};
     use std::thread;
     use std::time::Duration;
 
@@ -411,36 +411,27 @@ mod tests {
     #[test]
     fn a_waker_that_is_called_as_an_entry_was_moved_finds_the_entry() {
         const FAR: Duration = Duration::from_secs(1_000);
-        let queue = DelayQueue::builder()
-            .clock(&ManualClock::new())
-            .shards(2)
-            .last_stamp(2)
-            .build();
-        let key = queue.insert(0, FAR).expect("room");
-        // So that no insert renews what is worn.
-        queue.shared.renew(queue.shared.segment(0).expect("a segment"), 0);
-        for number in 1..100 {
-            let key = queue.insert(number, FAR).expect("room");
-            queue.remove(&key).expect("it waits");
-        }
+        let queue = DelayQueue::builder().clock(&ManualClock::new()).shards(1).build();
+        // There is another core once the first one is full, which drains but for one entry.
+        let keys: Vec<Key> = (0..65).map(|number| queue.insert(number, FAR).expect("room")).collect();
+        keys[1..].iter().for_each(|key| assert!(queue.remove(key).is_ok()));
         let asks = Arc::new(Asks {
             queue: queue.clone(),
-            key,
+            key: keys[0],
             was_told: AtomicBool::new(false),
         });
+        let moved = |queue: &DelayQueue<u64>| queue.shared.shards[0].lock().counts.moved;
+        assert_eq!(moved(&queue), 0);
         let mut receiver = queue.receiver();
         let waker = Waker::from(Arc::clone(&asks));
-        assert!(receiver.poll_recv(&mut Context::from_waker(&waker)).is_pending());
-        queue
-            .shared
-            .front
-            .tasks
-            .arm(receiver.task.as_ref().expect("it was polled"), NEVER);
+        let task = receiver.task.get_or_insert_with(|| queue.shared.front.tasks.join());
+        task.listen(&waker);
+        queue.shared.front.tasks.arm(task, NEVER);
         let (done, waits) = channel();
-        let renews = queue.clone();
+        let moves = queue.clone();
         thread::spawn(move || {
-            renews.shared.renew(renews.shared.segment(0).expect("a segment"), 0);
-            let _ = done.send(renews.shared.moves_made.load(SeqCst));
+            moves.shared.maintain(0);
+            let _ = done.send(moved(&moves));
         });
         assert_eq!(waits.recv_timeout(Duration::from_secs(20)), Ok(1));
         assert!(asks.was_told.load(SeqCst));

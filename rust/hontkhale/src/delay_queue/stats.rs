@@ -1,17 +1,11 @@
 //! What a queue tells of itself.
 
-use crate::delay_queue::segment::{Row, Segment, POWERS};
+use crate::delay_queue::shard::Shard;
 use crate::delay_queue::shared::Shared;
-use crate::lasting::Ended;
-use std::array;
+use crate::delay_queue::store::{Counts, POWERS};
 use std::fmt;
 use std::mem::size_of;
-use std::sync::atomic::Ordering::SeqCst;
 use std::time::Duration;
-
-/// What the wheel and the words take of each slot, and what a shard takes besides.
-const SLOT_BYTES: usize = 32;
-const SHARD_BYTES: usize = 10_000;
 
 /// What a server watches of a [`DelayQueue`](crate::DelayQueue).
 ///
@@ -36,8 +30,8 @@ pub struct Stats {
     pub let_go: usize,
     /// About how many bytes the queue takes, without what its values point to.
     pub memory: usize,
-    /// By how much the oldest entry that is due is late, at most; nothing where none is due. An entry that was extended or
-    /// cancelled counts by its earlier deadline until the queue comes upon it.
+    /// By how much the oldest entry that is due is late, at most; nothing where none is due. An entry that was extended,
+    /// reset to a later deadline or cancelled counts by its earlier deadline until the queue comes upon it.
     pub late: Duration,
     /// By how much an entry was late at most, as it came out or by `late`, since the making or the last
     /// [`reset_lateness`](crate::DelayQueue::reset_lateness).
@@ -51,8 +45,7 @@ pub struct Stats {
 /// Where [`Stats::report`] tells what a queue has come to. A metrics library has a kind of each.
 ///
 /// ```
-/// use hontkhale::delay_queue::Metrics;
-/// use hontkhale::DelayQueue;
+/// use hontkhale::{DelayQueue, Metrics};
 /// use std::time::Duration;
 ///
 /// /// Text as Prometheus reads it.
@@ -130,41 +123,14 @@ impl fmt::Display for Stats {
     }
 }
 
-impl<T> Segment<T> {
-    /// The tick by which the first entry of the shard at a place is filed. No deadline of a live one is before it.
-    fn first_filed(&self, place: usize) -> Option<u64> {
-        let shard = self.enter(place);
-        shard.core().filed(&shard.core().peek()?.entry())
-    }
-
-    /// Adds what became of the entries. Those whose values are set aside don't count as cancelled yet.
-    fn add_ended(&self, sum: &mut Ended) {
-        for place in 0..self.rows.len() {
-            let shard = self.enter(place);
-            let ended = shard.ended();
-            sum.inserted += ended.inserted;
-            sum.expired += ended.expired;
-            sum.removed += ended.removed;
-            sum.cancelled += ended.cancelled - shard.core().aside() as u64;
-        }
-    }
-
-    fn memory(&self) -> usize {
-        let slot = size_of::<(u32, u32, Option<T>)>() + SLOT_BYTES;
-        self.rows.len() * SHARD_BYTES + self.capacity() * slot
-    }
-}
-
 impl<T> Shared<T> {
     /// The tick by which the first entry of all is filed, where that is before a tick. No deadline of a shard is before its
     /// hint, so those of later hints aren't asked.
     pub fn first_filed_before(&self, end: u64) -> Option<u64> {
         let mut first = end;
-        for (_, segment) in self.segments() {
-            for (place, row) in segment.rows.iter().enumerate() {
-                if row.hint() < first {
-                    first = segment.first_filed(place).map_or(first, |filed| filed.min(first));
-                }
+        for shard in &self.shards {
+            if shard.hint() < first {
+                first = shard.lock().first_filed().map_or(first, |filed| filed.min(first));
             }
         }
         Some(first).filter(|first| *first < end)
@@ -172,52 +138,40 @@ impl<T> Shared<T> {
 
     pub fn stats(&self) -> Stats {
         let waiting = self.waiting();
-        let ended = self.all_ended();
+        let mut sum = Counts::default();
+        let (mut freed, mut memory) = (0, size_of::<Shared<T>>());
+        for shard in &self.shards {
+            let store = shard.lock();
+            sum.add(&store.counts);
+            freed += store.freed();
+            memory += size_of::<Shard<T>>() + store.memory();
+        }
         let cancels = self.front.cancels();
-        let moves = self.moves_made.load(SeqCst);
         let now = self.front.time.tick();
         let late = self.first_filed_before(now).map_or(0, |first| now - first);
-        let mut lateness: [u64; POWERS] = array::from_fn(|power| self.rows().map(|row| row.late_by(power)).sum());
+        let mut lateness = sum.late;
         // Those that came out in time are counted nowhere else.
-        let counted = self.counted_late.load(SeqCst) + lateness.iter().sum::<u64>();
-        lateness[0] += ended.expired.saturating_sub(counted);
+        let counted = sum.counted_late + lateness.iter().sum::<u64>();
+        lateness[0] += sum.expired.saturating_sub(counted);
         Stats {
-            // A move takes an entry out in one place and puts it in at another.
-            inserted: ended.inserted.saturating_sub(moves),
-            expired: ended.expired,
-            removed: ended.removed.saturating_sub(moves),
+            inserted: sum.inserted,
+            expired: sum.expired,
+            removed: sum.removed,
             cancels,
             waiting,
-            cancelled: cancels.saturating_sub(ended.cancelled) as usize,
+            cancelled: cancels.saturating_sub(freed) as usize,
             let_go: self.let_go.len(),
-            memory: size_of::<Shared<T>>() + self.segments().map(|(_, segment)| segment.memory()).sum::<usize>(),
+            memory,
             late: Duration::from_millis(late),
-            latest: Duration::from_millis(self.latest.load(SeqCst).max(late)),
+            latest: Duration::from_millis(sum.latest.max(late)),
             lateness,
         }
     }
 
-    fn all_ended(&self) -> Ended {
-        let mut ended = Ended {
-            inserted: 0,
-            expired: 0,
-            removed: 0,
-            cancelled: 0,
-        };
-        self.segments().for_each(|(_, segment)| segment.add_ended(&mut ended));
-        ended
-    }
-
-    fn rows(&self) -> impl Iterator<Item = &Row> {
-        self.segments().flat_map(|(_, segment)| segment.rows.iter())
-    }
-
     /// Counts the lateness of what comes out from now on.
     pub fn reset_lateness(&self) {
-        for (_, segment) in self.segments() {
-            (0..segment.rows.len()).for_each(|place| segment.enter(place).begin_late_anew());
-        }
-        self.counted_late.store(self.all_ended().expired, SeqCst);
-        self.latest.store(0, SeqCst);
+        self.shards
+            .iter()
+            .for_each(|shard| shard.lock().counts.begin_late_anew());
     }
 }

@@ -11,8 +11,7 @@ use std::time::{Duration, Instant};
 /// A clock that stands still until it is advanced, for tests. A clone is the same clock.
 ///
 /// ```
-/// use hontkhale::delay_queue::ManualClock;
-/// use hontkhale::DelayQueue;
+/// use hontkhale::{DelayQueue, ManualClock};
 /// use std::time::Duration;
 ///
 /// let clock = ManualClock::new();
@@ -231,6 +230,9 @@ fn rounded_down(length: Duration) -> u64 {
 }
 
 /// The first tick that isn't before the end of a length, or one beyond the last, and how many nanoseconds that end is before it.
+///
+/// Each insert asks. `div_ceil` looks at the remainder too, which takes a few instructions more.
+#[allow(clippy::manual_div_ceil)]
 #[inline(always)]
 fn rounded_up(length: Duration) -> (u64, u32) {
     if length.as_secs() > LAST_TICK / 1_000 {

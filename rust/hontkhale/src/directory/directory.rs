@@ -25,6 +25,7 @@ impl<X> Clone for Directory<X> {
 }
 
 /// The row and the place of a number. `None` beyond the last number.
+#[inline]
 fn locate(number: u32) -> Option<(usize, usize)> {
     let above = number.checked_add(1)?;
     let row = above.ilog2();
@@ -38,6 +39,7 @@ impl<X> Directory<X> {
         Ok(Directory { rows: Arc::new(rows) })
     }
 
+    #[inline]
     fn place(&self, number: u32) -> Option<&OnceLock<X>> {
         let (row, place) = locate(number)?;
         self.rows.get(row)?.get()?.get(place)
@@ -67,6 +69,7 @@ impl<X> Directory<X> {
     }
 
     /// The thing of a number. `None` if nothing was added under that number yet. It takes no lock and no memory.
+    #[inline]
     pub fn get(&self, number: u32) -> Option<&X> {
         self.place(number)?.get()
     }

@@ -75,13 +75,6 @@ impl<T, N: Until> Attended<T, N> {
         (answer, keep_or_leave(&self.core, &mut self.parked))
     }
 
-    /// The deadline of a live entry, with who has left by it.
-    #[inline]
-    pub fn deadline(&mut self, entry: &EntryId) -> (Result<u64, CoreError>, Leaver<N>) {
-        let answer = self.core.deadline(entry);
-        (answer, keep_or_leave(&self.core, &mut self.parked))
-    }
-
     /// Notes a tick and takes one entry out that is due, or tells when to come again, with who has left by it. No
     /// value is dropped.
     #[inline(always)]

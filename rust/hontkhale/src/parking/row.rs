@@ -1,7 +1,7 @@
-//! A row of shards behind locks, of either queue: the locks, who waits for them, and what is done once one is free.
+//! A row of shards behind locks: the locks, who waits for them, and what is done once one is free.
 //!
-//! A front, as `SharedDelayQueue` and `LastingQueue`, has a `Row` of its own shards, and says in `impl Shard` what a
-//! call asks of one. A call by name of a front is then three lines:
+//! A front, as `SharedDelayQueue`, has a `Row` of its own shards, and says in `impl Shard` what a call asks of one. A
+//! call by name of a front is then three lines:
 //!
 //! ```ignore
 //! let mut shard = self.row.lock(rt, place);

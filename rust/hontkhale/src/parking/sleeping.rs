@@ -10,8 +10,7 @@ use core::task::{Context, Poll, Waker};
 #[derive(Clone, Copy, Debug, PartialEq, Eq)]
 #[non_exhaustive]
 pub enum StreamFault {
-    /// The tick of its source is beyond the last tick. A stream of a `SharedDelayQueue` has ended for good, and one of
-    /// a `LastingQueue` goes on.
+    /// The tick of its source is beyond the last tick. The stream has ended for good.
     TickTooLarge {
         /// The last tick.
         limit: u64,

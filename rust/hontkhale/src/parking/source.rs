@@ -5,7 +5,7 @@ use std::time::{Duration, Instant};
 /// Says which tick it is.
 ///
 /// ```
-/// use hontkhale::streams::TickSource;
+/// use hontkhale::parts::streams::TickSource;
 ///
 /// struct At(u64);
 ///
@@ -16,15 +16,15 @@ use std::time::{Duration, Instant};
 /// }
 /// ```
 pub trait TickSource {
-    /// The tick of this moment, of one millisecond. A stream of a `SharedDelayQueue` asks it while its shard's lock is
-    /// held, so it must not take that lock itself; one of a `LastingQueue` asks it while it holds none.
+    /// The tick of this moment, of one millisecond. A stream asks it while its shard's lock is held,
+    /// so it must not take that lock itself.
     fn now(&mut self) -> u64;
 }
 
 /// The whole milliseconds since an instant. It never goes back. Sources that share one start tell one time.
 ///
 /// ```
-/// use hontkhale::streams::{MillisecondTicks, TickSource};
+/// use hontkhale::parts::streams::{MillisecondTicks, TickSource};
 ///
 /// let mut ticks = MillisecondTicks::new();
 /// let first = ticks.now();

@@ -6,6 +6,7 @@ use std::error::Error;
 
 /// What is wrong with a line of a script. Of several faults of one line the first is told.
 #[derive(Clone, Copy, Debug, PartialEq, Eq)]
+#[non_exhaustive]
 pub enum FaultKind {
     /// The script has more than 1,000,000 lines.
     TooManyLines,
@@ -27,6 +28,7 @@ pub enum FaultKind {
 
 /// Why `run` gave up. Lines count from 1.
 #[derive(Clone, Copy, Debug, PartialEq, Eq)]
+#[non_exhaustive]
 pub enum ReplayFault {
     /// The capacity isn't from 1 to 65536.
     BadConfig,

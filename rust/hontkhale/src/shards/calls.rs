@@ -24,13 +24,13 @@ impl<T> SharedDelayQueue<T> {
     /// - `Worn` if the entry's slot has no stamp left for another key.
     ///
     /// ```
-    /// use hontkhale::shards::{QueueConfig, SharedDelayQueue};
+    /// use hontkhale::parts::shards::{QueueConfig, SharedDelayQueue};
     ///
     /// let queue = SharedDelayQueue::new(QueueConfig::of(8, 1_000))?;
     /// let key = queue.insert_or_drop(3, "value", 100)?;
     /// let sooner = queue.reset(&key.entry(), 50)?;
     /// assert_eq!(queue.deadline(&sooner.entry()), Ok(50));
-    /// # Ok::<(), hontkhale::shards::QueueError>(())
+    /// # Ok::<(), hontkhale::parts::shards::QueueError>(())
     /// ```
     pub fn reset(&self, entry: &EntryId, when: u64) -> Result<Key, QueueError> {
         let mut shard = self.enter(entry.shard() as usize)?;
@@ -52,13 +52,13 @@ impl<T> SharedDelayQueue<T> {
     /// - `WasCancelled` if a handle cancelled the entry.
     ///
     /// ```
-    /// use hontkhale::shards::{QueueConfig, SharedDelayQueue};
+    /// use hontkhale::parts::shards::{QueueConfig, SharedDelayQueue};
     ///
     /// let queue = SharedDelayQueue::new(QueueConfig::of(8, 1_000))?;
     /// let key = queue.insert_or_drop(3, "value", 100)?;
     /// let removed = queue.remove(&key.entry())?;
     /// assert_eq!((removed.value, removed.deadline), ("value", 100));
-    /// # Ok::<(), hontkhale::shards::QueueError>(())
+    /// # Ok::<(), hontkhale::parts::shards::QueueError>(())
     /// ```
     pub fn remove(&self, entry: &EntryId) -> Result<Removed<T>, QueueError> {
         let mut shard = self.enter(entry.shard() as usize)?;

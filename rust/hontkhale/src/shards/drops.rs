@@ -56,8 +56,8 @@ impl<T> SharedDelayQueue<T> {
     /// - `Full` if that shard has no free slot. It tells how many entries are linked and how many slots are worn.
     ///
     /// ```
-    /// use hontkhale::owner::CoreError;
-    /// use hontkhale::shards::{QueueConfig, QueueError, SharedDelayQueue};
+    /// use hontkhale::parts::owner::CoreError;
+    /// use hontkhale::parts::shards::{QueueConfig, QueueError, SharedDelayQueue};
     ///
     /// let queue = SharedDelayQueue::new(QueueConfig::of(8, 1)).unwrap();
     /// let key = queue.insert(3, "value", 100).unwrap();
@@ -113,8 +113,8 @@ impl<T> SharedDelayQueue<T> {
     /// Each call takes the shard's lock. [`SharedDelayQueue::lend`] polls in a loop under one lock:
     ///
     /// ```
-    /// use hontkhale::owner::Turn;
-    /// use hontkhale::shards::{QueueConfig, SharedDelayQueue};
+    /// use hontkhale::parts::owner::Turn;
+    /// use hontkhale::parts::shards::{QueueConfig, SharedDelayQueue};
     ///
     /// let queue = SharedDelayQueue::new(QueueConfig::of(1, 100))?;
     /// for number in 0..10 {
@@ -128,7 +128,7 @@ impl<T> SharedDelayQueue<T> {
     ///     out
     /// })?;
     /// assert_eq!(out, 10);
-    /// # Ok::<(), hontkhale::shards::QueueError>(())
+    /// # Ok::<(), hontkhale::parts::shards::QueueError>(())
     /// ```
     pub fn poll(&self, shard: usize, tick: u64) -> Result<Turn<T>, QueueError> {
         let mut locked = self.enter(shard)?;
@@ -157,8 +157,8 @@ impl<T> SharedDelayQueue<T> {
     /// - `TickTooLarge` if `tick` is beyond the last tick. It isn't noted then.
     ///
     /// ```
-    /// use hontkhale::owner::{Piece, Turn};
-    /// use hontkhale::shards::{QueueConfig, SharedDelayQueue};
+    /// use hontkhale::parts::owner::{Piece, Turn};
+    /// use hontkhale::parts::shards::{QueueConfig, SharedDelayQueue};
     ///
     /// let queue = SharedDelayQueue::new(QueueConfig::of(1, 100))?;
     /// queue.insert_or_drop(0, "value", 100_000)?;
@@ -169,7 +169,7 @@ impl<T> SharedDelayQueue<T> {
     ///     }
     /// };
     /// assert!(matches!(turn, Turn::Out(expired) if expired.value == "value"));
-    /// # Ok::<(), hontkhale::shards::QueueError>(())
+    /// # Ok::<(), hontkhale::parts::shards::QueueError>(())
     /// ```
     pub fn poll_some(&self, shard: usize, tick: u64, most: u32) -> Result<Piece<T>, QueueError> {
         let mut locked = self.enter(shard)?;
@@ -196,8 +196,8 @@ impl<T> SharedDelayQueue<T> {
     /// - `TickTooLarge` if `tick` is beyond the last tick. It isn't noted then.
     ///
     /// ```
-    /// use hontkhale::owner::Turn;
-    /// use hontkhale::shards::{QueueConfig, SharedDelayQueue};
+    /// use hontkhale::parts::owner::Turn;
+    /// use hontkhale::parts::shards::{QueueConfig, SharedDelayQueue};
     /// use std::num::NonZeroU32;
     ///
     /// let queue = SharedDelayQueue::new(QueueConfig::of(1, 1_000))?;
@@ -205,7 +205,7 @@ impl<T> SharedDelayQueue<T> {
     /// let steps = NonZeroU32::new(64).expect("some");
     /// let turn = queue.poll_through(0, 100_000, steps)?;
     /// assert!(matches!(turn, Turn::Out(expired) if expired.value == "value"));
-    /// # Ok::<(), hontkhale::shards::QueueError>(())
+    /// # Ok::<(), hontkhale::parts::shards::QueueError>(())
     /// ```
     pub fn poll_through(&self, shard: usize, tick: u64, most: NonZeroU32) -> Result<Turn<T>, QueueError> {
         loop {
@@ -230,8 +230,8 @@ impl<T> SharedDelayQueue<T> {
     /// - `TickTooLarge` if `tick` is beyond the last tick.
     ///
     /// ```
-    /// use hontkhale::owner::ManyTurn;
-    /// use hontkhale::shards::{QueueConfig, SharedDelayQueue};
+    /// use hontkhale::parts::owner::ManyTurn;
+    /// use hontkhale::parts::shards::{QueueConfig, SharedDelayQueue};
     ///
     /// let queue = SharedDelayQueue::new(QueueConfig::of(1, 1_000))?;
     /// for number in 0..100 {
@@ -242,7 +242,7 @@ impl<T> SharedDelayQueue<T> {
     /// assert_eq!(row.drain(..).count(), 64);
     /// assert_eq!(queue.poll_many(0, 5, &mut row), Ok(ManyTurn::Idle));
     /// assert_eq!(row.len(), 36);
-    /// # Ok::<(), hontkhale::shards::QueueError>(())
+    /// # Ok::<(), hontkhale::parts::shards::QueueError>(())
     /// ```
     pub fn poll_many(&self, shard: usize, tick: u64, row: &mut Vec<Expired<T>>) -> Result<ManyTurn, QueueError> {
         let before = row.len();
@@ -281,14 +281,14 @@ impl<T> SharedDelayQueue<T> {
     /// A shard is swept in pieces, and other threads may take its lock between them:
     ///
     /// ```
-    /// use hontkhale::shards::{QueueConfig, SharedDelayQueue};
+    /// use hontkhale::parts::shards::{QueueConfig, SharedDelayQueue};
     ///
     /// let queue: SharedDelayQueue<u8> = SharedDelayQueue::new(QueueConfig::of(1, 100))?;
     /// let mut next = Some(0);
     /// while let Some(from) = next {
     ///     next = queue.sweep_some(0, from, 64)?.next;
     /// }
-    /// # Ok::<(), hontkhale::shards::QueueError>(())
+    /// # Ok::<(), hontkhale::parts::shards::QueueError>(())
     /// ```
     pub fn sweep_some(&self, shard: usize, from: usize, count: usize) -> Result<Swept, QueueError> {
         let mut locked = self.enter(shard)?;
@@ -340,7 +340,7 @@ impl<T> SharedDelayQueue<T> {
     /// [`SharedDelayQueue::enter`] asks [`ShardState::aside`] before the lock is released.
     ///
     /// ```
-    /// use hontkhale::shards::{QueueConfig, SharedDelayQueue};
+    /// use hontkhale::parts::shards::{QueueConfig, SharedDelayQueue};
     ///
     /// let queue: SharedDelayQueue<String> = SharedDelayQueue::new(QueueConfig::of(1, 100))?;
     /// let mut state = queue.enter(0)?;
@@ -348,7 +348,7 @@ impl<T> SharedDelayQueue<T> {
     /// let aside = state.aside();
     /// drop(state);
     /// queue.drop_aside(0, aside);
-    /// # Ok::<(), hontkhale::shards::QueueError>(())
+    /// # Ok::<(), hontkhale::parts::shards::QueueError>(())
     /// ```
     #[inline(always)]
     pub fn drop_aside(&self, shard: usize, most: usize) {
@@ -369,7 +369,7 @@ impl<T> SharedDelayQueue<T> {
     /// `Unknown` if there is no such shard. `f` isn't called then.
     ///
     /// ```
-    /// use hontkhale::shards::{QueueConfig, SharedDelayQueue};
+    /// use hontkhale::parts::shards::{QueueConfig, SharedDelayQueue};
     ///
     /// let queue = SharedDelayQueue::new(QueueConfig::of(1, 100))?;
     /// let last = queue.lend(0, |state| {
@@ -380,7 +380,7 @@ impl<T> SharedDelayQueue<T> {
     ///     last
     /// })?;
     /// assert_eq!(queue.deadline(&last.expect("there is room").entry()), Ok(109));
-    /// # Ok::<(), hontkhale::shards::QueueError>(())
+    /// # Ok::<(), hontkhale::parts::shards::QueueError>(())
     /// ```
     pub fn lend<O, F: FnOnce(&mut ShardState<T>) -> O>(&self, shard: usize, f: F) -> Result<O, QueueError> {
         // requires F.IsAlwaysCallable f

@@ -12,7 +12,7 @@ pub const SHARD_LIMIT: usize = 64;
 pub struct QueueConfig {
     /// The number of shards, from 1 to [`SHARD_LIMIT`].
     pub shards: usize,
-    /// The number of slots of each shard, from 1 to [`CAPACITY_LIMIT`](crate::owner::CAPACITY_LIMIT).
+    /// The number of slots of each shard, from 1 to [`CAPACITY_LIMIT`](crate::parts::owner::CAPACITY_LIMIT).
     pub capacity: usize,
     /// The stamp after which a slot is worn, from 1 to [`LAST_STAMP`].
     pub last_stamp: u32,

@@ -14,8 +14,8 @@ use alloc::vec::Vec;
 /// A handle that is dropped counts as out for good: [`Handle::give_back`] tells why that matters.
 ///
 /// ```
-/// use hontkhale::owner::{CallError, Look};
-/// use hontkhale::shards::{QueueConfig, SharedDelayQueue};
+/// use hontkhale::parts::owner::{CallError, Look};
+/// use hontkhale::parts::shards::{QueueConfig, SharedDelayQueue};
 ///
 /// let queue = SharedDelayQueue::new(QueueConfig::of(1, 100))?;
 /// let mut handle = queue.handle()?;
@@ -24,7 +24,7 @@ use alloc::vec::Vec;
 /// assert_eq!(handle.cancel(&key), Ok(150));
 /// assert_eq!(handle.extend(&key, 200), Err(CallError::Ended { how: Look::LookCancelled }));
 /// assert_eq!(handle.give_back(), 1);
-/// # Ok::<(), hontkhale::shards::QueueError>(())
+/// # Ok::<(), hontkhale::parts::shards::QueueError>(())
 /// ```
 pub struct Handle {
     callers: Vec<Caller>,

@@ -9,15 +9,15 @@ use crate::shards::state::ShardState;
 /// the lock of one shard. Ticks are of one millisecond, and the program passes them in: the queue reads no clock.
 ///
 /// ```
-/// use hontkhale::owner::Turn;
-/// use hontkhale::shards::{QueueConfig, SharedDelayQueue};
+/// use hontkhale::parts::owner::Turn;
+/// use hontkhale::parts::shards::{QueueConfig, SharedDelayQueue};
 ///
 /// let queue = SharedDelayQueue::new(QueueConfig::of(8, 1_000))?;
 /// let key = queue.insert_or_drop(3, "value", 100)?;
 /// let later = queue.reset(&key.entry(), 200)?;
 /// assert_eq!(queue.deadline(&later.entry()), Ok(200));
 /// assert!(matches!(queue.poll(3, 200)?, Turn::Out(expired) if expired.value == "value"));
-/// # Ok::<(), hontkhale::shards::QueueError>(())
+/// # Ok::<(), hontkhale::parts::shards::QueueError>(())
 /// ```
 ///
 /// # Entries
@@ -46,7 +46,7 @@ pub struct SharedDelayQueue<T> {
 }
 
 impl<T> SharedDelayQueue<T> {
-    /// Returns the number of shards, from 1 to [`SHARD_LIMIT`](crate::shards::SHARD_LIMIT).
+    /// Returns the number of shards, from 1 to [`SHARD_LIMIT`](crate::parts::shards::SHARD_LIMIT).
     pub fn shards(&self) -> usize {
         self.row.len()
     }
@@ -72,7 +72,7 @@ impl<T> SharedDelayQueue<T> {
     /// `Unknown` if there is no such shard.
     ///
     /// ```
-    /// use hontkhale::shards::{QueueConfig, SharedDelayQueue};
+    /// use hontkhale::parts::shards::{QueueConfig, SharedDelayQueue};
     ///
     /// let queue = SharedDelayQueue::new(QueueConfig::of(1, 100))?;
     /// let mut state = queue.enter(0)?;
@@ -81,7 +81,7 @@ impl<T> SharedDelayQueue<T> {
     /// drop(state);
     /// assert_eq!(queue.deadline(&first.entry()), Ok(100));
     /// assert_eq!(queue.deadline(&second.entry()), Ok(200));
-    /// # Ok::<(), hontkhale::shards::QueueError>(())
+    /// # Ok::<(), hontkhale::parts::shards::QueueError>(())
     /// ```
     #[inline(always)]
     pub fn enter(&self, shard: usize) -> Result<MutexGuard<'_, ShardState<T>>, QueueError> {

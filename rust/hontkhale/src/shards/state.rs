@@ -7,8 +7,8 @@ use crate::words::{Caller, Keeper, ManyTurn, WordsError};
 use alloc::vec::Vec;
 
 /// The state of a shard behind its lock: a queue over words that handles share, and the task that is parked there. A
-/// program gets it by [`SharedDelayQueue::enter`](crate::shards::SharedDelayQueue::enter) and
-/// [`SharedDelayQueue::lend`](crate::shards::SharedDelayQueue::lend).
+/// program gets it by [`SharedDelayQueue::enter`](crate::parts::shards::SharedDelayQueue::enter) and
+/// [`SharedDelayQueue::lend`](crate::parts::shards::SharedDelayQueue::lend).
 ///
 /// A task is parked until a tick that isn't after the shard's next wake. A call that makes the next wake come sooner,
 /// or after which nothing is left to wait for, takes the task out and wakes it at once, under the lock. A call of the

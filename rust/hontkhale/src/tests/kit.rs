@@ -1,10 +1,9 @@
 //! What the tests are given in the place of the kit that they are proved with: tasks and executors, threads that are
 //! joined, values whose memory is counted, and numbers from a fixed generator.
 
-pub use crate::AllocError;
+pub use crate::parts::AllocError;
 use crate::core::Expired;
-use crate::lasting::LastingStream;
-use crate::streams::{ExpiredStream, PacedStream, StreamFault, TickSource};
+use crate::parts::streams::{ExpiredStream, PacedStream, StreamFault, TickSource};
 use std::cell::Cell;
 use std::error::Error;
 use std::fmt;
@@ -200,7 +199,6 @@ macro_rules! streams {
 streams! {
     ExpiredStream,
     PacedStream,
-    LastingStream,
 }
 
 /// Either of two futures of one output.

@@ -4,7 +4,6 @@
 mod apps_checks;
 mod checks;
 mod kit;
-mod lasting_checks;
 mod owned;
 mod scripts;
 mod shard_checks;

@@ -8,13 +8,13 @@ const HALF_UNIT: u64 = 4294967296;
 /// An entry: its shard, its index there, and the stamp of its birth. Calls of a queue take it from a [`Key`].
 ///
 /// ```
-/// use hontkhale::owner::{DelayCore, EntryId};
+/// use hontkhale::parts::owner::{DelayCore, EntryId};
 ///
 /// let mut queue = DelayCore::with_capacity(4)?;
 /// let key = queue.insert_or_drop("value", 10)?;
 /// assert_eq!(key.entry(), EntryId::new(0, 0, 1));
 /// assert_eq!(queue.get(&key.entry()), Some(&"value"));
-/// # Ok::<(), hontkhale::owner::CoreError>(())
+/// # Ok::<(), hontkhale::parts::owner::CoreError>(())
 /// ```
 #[derive(Clone, Copy, PartialEq, Eq, PartialOrd, Ord, Hash)]
 pub struct EntryId {
@@ -73,14 +73,14 @@ impl Debug for EntryId {
 /// stale.
 ///
 /// ```
-/// use hontkhale::owner::{CallError, DelayCore};
+/// use hontkhale::parts::owner::{CallError, DelayCore};
 ///
 /// let mut queue = DelayCore::with_capacity(4)?;
 /// let old = queue.insert_or_drop("value", 10)?;
 /// let new = queue.reset(&old.entry(), 5)?;
 /// assert_eq!(new.entry(), old.entry());
 /// assert_eq!(queue.extend(&old, 20), Err(CallError::Stale { seen: new.stamp() }));
-/// # Ok::<(), hontkhale::owner::CoreError>(())
+/// # Ok::<(), hontkhale::parts::owner::CoreError>(())
 /// ```
 #[derive(Clone, Copy, PartialEq, Eq, PartialOrd, Ord, Hash)]
 pub struct Key {

@@ -22,7 +22,7 @@ pub enum Mark {
 /// The parts of a word.
 #[derive(Clone, Copy, PartialEq, Eq, Debug)]
 pub struct Parts {
-    /// At most [`LAST_STAMP`](crate::owner::LAST_STAMP) in a word.
+    /// At most [`LAST_STAMP`](crate::parts::owner::LAST_STAMP) in a word.
     pub stamp: u32,
     pub mark: Mark,
     /// A tick of one millisecond, at most `LAST_FIELD` in a word.

@@ -196,7 +196,7 @@ impl Wheel {
 
     /// Files a loose index at a tick from the wheel's own on, at most [`REACH`] ticks ahead. It has not moved then.
     ///
-    /// [`REACH`]: crate::wheel::REACH
+    /// [`REACH`]: crate::parts::wheel::REACH
     pub fn link(&mut self, index: usize, filed: u64) {
         // requires index < length self.old.filing.filed
         // requires filed_at self.old.filing.filed index ≡ None

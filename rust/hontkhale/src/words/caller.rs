@@ -8,7 +8,7 @@ use crate::words::seated::Seated;
 /// Extends and cancels entries, and looks at them, without a lock.
 ///
 /// ```
-/// use hontkhale::owner::{shared_queue, Look, Turn};
+/// use hontkhale::parts::owner::{shared_queue, Look, Turn};
 /// use std::thread;
 ///
 /// let mut queue = shared_queue(1_000)?;
@@ -22,7 +22,7 @@ use crate::words::seated::Seated;
 /// worker.join().unwrap();
 /// assert!(matches!(queue.poll(249)?, Turn::Waiting { .. }));
 /// assert!(matches!(queue.poll(250)?, Turn::Out(expired) if expired.value == "lease"));
-/// # Ok::<(), hontkhale::owner::CoreError>(())
+/// # Ok::<(), hontkhale::parts::owner::CoreError>(())
 /// ```
 ///
 /// Each call makes one load and at most one atomic step, waits for nobody and takes no memory. A caller that is

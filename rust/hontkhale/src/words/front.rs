@@ -8,7 +8,7 @@ use crate::words::keeper::Keeper;
 /// Later only `issue` takes memory.
 ///
 /// # Errors
-/// - `BadConfig` if `capacity` isn't 1 to [`CAPACITY_LIMIT`](crate::owner::CAPACITY_LIMIT).
+/// - `BadConfig` if `capacity` isn't 1 to [`CAPACITY_LIMIT`](crate::parts::owner::CAPACITY_LIMIT).
 /// - `NoMemory` if memory is refused.
 pub fn shared_queue<T>(capacity: usize) -> Result<DelayCore<T, Keeper>, CoreError> {
     numbered_queue(CoreConfig::of(capacity))
@@ -22,8 +22,8 @@ pub fn shared_queue<T>(capacity: usize) -> Result<DelayCore<T, Keeper>, CoreErro
 /// - `BadConfig` if the capacity isn't 1 to [`CAPACITY_LIMIT`], or the last stamp isn't 1 to [`LAST_STAMP`].
 /// - `NoMemory` if memory is refused.
 ///
-/// [`CAPACITY_LIMIT`]: crate::owner::CAPACITY_LIMIT
-/// [`LAST_STAMP`]: crate::owner::LAST_STAMP
+/// [`CAPACITY_LIMIT`]: crate::parts::owner::CAPACITY_LIMIT
+/// [`LAST_STAMP`]: crate::parts::owner::LAST_STAMP
 pub fn numbered_queue<T>(config: CoreConfig) -> Result<DelayCore<T, Keeper>, CoreError> {
     if config.check().is_err() {
         return Err(CoreError::BadConfig);

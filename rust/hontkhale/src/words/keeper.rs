@@ -1,6 +1,6 @@
 //! The one seat that begins and ends entries.
 
-use crate::core::{Settled, SharedWords, Words};
+use crate::core::{Settled, SharedWords, Steps};
 use crate::memory::AllocError;
 use crate::ticks::{unpack, Parts, CAPACITY_LIMIT};
 use crate::words::caller::Caller;
@@ -41,7 +41,7 @@ impl fmt::Display for WordsError {
 impl std::error::Error for WordsError {}
 
 /// Begins and ends the entries of a row of words, and issues the callers that extend and cancel them. A queue that
-/// [`shared_queue`](crate::owner::shared_queue) makes has one.
+/// [`shared_queue`](crate::parts::owner::shared_queue) makes has one.
 ///
 /// Where it is dropped, what is live by its words is ended as removed, and its callers are refused from then on. That
 /// takes a load a slot, and two atomic steps or more for each live one.
@@ -121,7 +121,7 @@ impl Drop for Keeper {
     }
 }
 
-impl Words for Keeper {
+impl Steps for Keeper {
     fn rows(&self) -> usize {
         self.seat.rows()
     }

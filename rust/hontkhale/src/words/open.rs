@@ -41,11 +41,6 @@ impl OpenWords {
     /// - `Stale` if the slot has a later stamp: the entry was reset, or the slot has another entry.
     /// - `Ended` if the entry came out, was removed or was cancelled. It tells which.
     pub fn extend(&self, key: &Key, when: u64) -> Result<u64, CallError> {
-        self.raise(key, when)
-    }
-
-    // An extend with its receipt.
-    pub(crate) fn raise(&self, key: &Key, when: u64) -> Result<u64, CallError> {
         if when > LAST_TICK {
             return Err(CallError::TooFar { limit: LAST_TICK });
         }
@@ -73,11 +68,6 @@ impl OpenWords {
     /// - `Stale` if the slot has a later stamp: the entry was reset, or the slot has another entry.
     /// - `Ended` if the entry came out, was removed or was cancelled. It tells which.
     pub fn cancel(&self, key: &Key) -> Result<u64, CallError> {
-        self.withdraw(key)
-    }
-
-    // A cancel with its receipt.
-    pub(crate) fn withdraw(&self, key: &Key) -> Result<u64, CallError> {
         let Some(index) = self.slot(key) else {
             return Err(CallError::Unknown);
         };

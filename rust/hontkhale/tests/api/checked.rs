@@ -1,9 +1,9 @@
 //! What the proofs ask of the queue's own calls is checked in every build where a program makes such a call: it
 //! panics, in words, and what it was called on stays as it was.
 
-use hontkhale::owner::{Caller, CoreConfig, DelayCore, Keeper, VecWords, LAST_STAMP, LAST_TICK};
-use hontkhale::shards::{QueueConfig, SharedDelayQueue};
-use hontkhale::wheel::{Wheel, REACH};
+use hontkhale::parts::owner::{Caller, CoreConfig, DelayCore, Keeper, VecWords, LAST_STAMP, LAST_TICK};
+use hontkhale::parts::shards::{QueueConfig, SharedDelayQueue};
+use hontkhale::parts::wheel::{Wheel, REACH};
 use std::fmt::Debug;
 use std::panic::{catch_unwind, AssertUnwindSafe};
 use std::task::Waker;

@@ -1,8 +1,7 @@
 //! Ticks by std's clock: whole milliseconds since an instant, which never go back.
 
-use hontkhale::lasting::{LastingConfig, LastingQueue, LastingStream};
-use hontkhale::shards::{QueueConfig, SharedDelayQueue};
-use hontkhale::streams::{ExpiredStream, MillisecondTicks, TickSource};
+use hontkhale::parts::shards::{QueueConfig, SharedDelayQueue};
+use hontkhale::parts::streams::{ExpiredStream, MillisecondTicks, TickSource};
 use std::task::{Context, Poll, Waker};
 use std::time::{Duration, Instant};
 
@@ -71,20 +70,6 @@ fn stream_by_a_clock() {
     queue.insert_or_drop(0, 'v', 2).expect("room");
     let ticks = MillisecondTicks::since(ago(Duration::from_millis(3)));
     let mut stream = ExpiredStream::new(&queue, 0, ticks).ok().expect("a stream");
-    match stream.poll_next(&mut Context::from_waker(Waker::noop())) {
-        Poll::Ready(Some(Ok(expired))) => assert_eq!((expired.value, expired.deadline), ('v', 2)),
-        _ => panic!("nothing came out"),
-    }
-}
-
-// The same source serves the stream of a lasting queue.
-// promise: parking.source-serves
-#[test]
-fn a_lasting_stream_by_a_clock() {
-    let queue = LastingQueue::new(LastingConfig::of(2, 8)).expect("a queue");
-    queue.insert_or_drop(1, 'v', 2).expect("room");
-    let ticks = MillisecondTicks::since(ago(Duration::from_millis(3)));
-    let mut stream = LastingStream::new(&queue, 1, ticks).ok().expect("a stream");
     match stream.poll_next(&mut Context::from_waker(Waker::noop())) {
         Poll::Ready(Some(Ok(expired))) => assert_eq!((expired.value, expired.deadline), ('v', 2)),
         _ => panic!("nothing came out"),

@@ -1,11 +1,11 @@
 //! Refusals that carry back what was handed in, by `?`.
 
-use hontkhale::cache::TtlCache;
-use hontkhale::lasting::{LastingConfig, LastingError, LastingQueue};
-use hontkhale::owner::{shared_queue, CoreError, DelayCore, Keeper, Key, RenewError, VecWords, LAST_TICK};
-use hontkhale::shards::{QueueConfig, QueueError, SharedDelayQueue};
-use hontkhale::streams::{ExpiredStream, MillisecondTicks};
-use hontkhale::{DelayQueue, Refused};
+use hontkhale::parts::cache::TtlCache;
+use hontkhale::parts::owner::{shared_queue, CoreError, DelayCore, Keeper, Key, RenewError, VecWords, LAST_TICK};
+use hontkhale::parts::shards::{QueueConfig, QueueError, SharedDelayQueue};
+use hontkhale::parts::streams::{ExpiredStream, MillisecondTicks};
+use hontkhale::parts::Refused;
+use hontkhale::DelayQueue;
 use std::error::Error;
 use std::time::Duration;
 
@@ -29,10 +29,6 @@ fn into_a_shard_in_hand(queue: &SharedDelayQueue<Mute>) -> Result<Key, Refused<M
     Ok(queue.enter(0).unwrap().insert(Mute(3), FAR)?)
 }
 
-fn into_a_lasting_queue(queue: &LastingQueue<Mute>) -> Result<Key, Refused<Mute, LastingError>> {
-    Ok(queue.insert(0, Mute(4), FAR)?)
-}
-
 fn into_a_cache(cache: &mut TtlCache<char, Mute>) -> Result<Option<Mute>, Refused<(char, Mute)>> {
     Ok(cache.put('k', Mute(5), FAR, 0)?)
 }
@@ -47,9 +43,6 @@ fn a_value_comes_back_by_the_question_mark() {
     assert!(refused.error == QueueError::Core(TOO_FAR) && refused.value == Mute(2));
     let refused = into_a_shard_in_hand(&queue).unwrap_err();
     assert!(refused.error == TOO_FAR && refused.value == Mute(3));
-    let queue = LastingQueue::new(LastingConfig::of(2, 1)).unwrap();
-    let refused = into_a_lasting_queue(&queue).unwrap_err();
-    assert!(refused.error == LastingError::Core(TOO_FAR) && refused.value == Mute(4));
     let mut cache = TtlCache::with_capacity(1).unwrap();
     let refused = into_a_cache(&mut cache).map(drop).unwrap_err();
     assert!(refused.error == TOO_FAR && refused.value == ('k', Mute(5)));
@@ -117,10 +110,6 @@ fn a_source_is_the_error_within() {
     let source = refused.source().and_then(|source| source.downcast_ref::<CoreError>());
     assert_eq!(source, Some(&TOO_FAR));
     assert!(QueueError::Unknown.source().is_none());
-    assert_eq!(
-        LastingError::Core(TOO_FAR).source().map(|it| it.to_string()),
-        Some(TOO_FAR.to_string())
-    );
     // Of a refusal it is the same.
     assert!(Refused::from((refused, Mute(1))).source().is_some());
 }

@@ -1,14 +1,13 @@
 //! Which types go to another thread, and which of them threads may share: both where their values do.
 
-use hontkhale::cache::{CountedCache, Seen, TtlCache};
-use hontkhale::lasting::{LastingError, LastingHandle, LastingPacedStream, LastingQueue, LastingStream};
-use hontkhale::owner::{
+use hontkhale::parts::cache::{CountedCache, Seen, TtlCache};
+use hontkhale::parts::owner::{
     CallError, Caller, CoreError, DelayCore, Entries, EntryId, Expired, Keeper, Key, LiveEntry, OpenWords, Piece,
     PlainQueue, PlainTurn, Removed, Turn, VecWords, WordsError,
 };
-use hontkhale::sessions::IdleSessions;
-use hontkhale::shards::{Handle, QueueConfig, QueueError, SharedDelayQueue};
-use hontkhale::streams::{ExpiredStream, MillisecondTicks, PacedStream, TickSource};
+use hontkhale::parts::sessions::IdleSessions;
+use hontkhale::parts::shards::{Handle, QueueConfig, QueueError, SharedDelayQueue};
+use hontkhale::parts::streams::{ExpiredStream, MillisecondTicks, PacedStream, TickSource};
 use hontkhale::DelayQueue;
 
 // A value that may be sent and not shared.
@@ -35,7 +34,6 @@ fn what_is_sent() {
     sends::<DelayCore<Sent, Keeper>>();
     sends::<Caller>();
     sends::<Handle>();
-    sends::<LastingHandle>();
     sends::<TtlCache<char, Sent>>();
     sends::<CountedCache<char, Sent>>();
     sends::<Expired<Sent>>();
@@ -50,13 +48,10 @@ fn what_is_sent() {
 #[test]
 fn what_is_shared() {
     shares::<SharedDelayQueue<Sent>>();
-    shares::<LastingQueue<Sent>>();
     shares::<DelayQueue<Sent>>();
     shares::<IdleSessions>();
     shares::<ExpiredStream<'_, Sent, At>>();
     shares::<PacedStream<'_, Sent, At>>();
-    shares::<LastingStream<'_, Sent, At>>();
-    shares::<LastingPacedStream<'_, Sent, At>>();
     shares::<OpenWords>();
     shares::<DelayCore<Shared, VecWords>>();
     shares::<Entries<'_, Shared>>();
@@ -68,7 +63,6 @@ fn what_is_shared() {
     shares::<CoreError>();
     shares::<CallError>();
     shares::<QueueError>();
-    shares::<LastingError>();
     shares::<WordsError>();
     shares::<MillisecondTicks>();
 }

@@ -1,8 +1,7 @@
 //! The ends of receivers: with the last clone, and once nothing waits.
 
 use crate::kit::{ms, within_the_limit, Drops, FAR};
-use hontkhale::delay_queue::{Handle, InsertErrorKind, Key, ManualClock, Receiver, TryRecvError};
-use hontkhale::DelayQueue;
+use hontkhale::{DelayQueue, Handle, InsertErrorKind, Key, ManualClock, Receiver, TryRecvError};
 use std::hint;
 use std::panic::{catch_unwind, AssertUnwindSafe};
 use std::sync::atomic::{AtomicUsize, Ordering::SeqCst};

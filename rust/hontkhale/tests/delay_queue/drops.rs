@@ -1,8 +1,7 @@
 //! Whose call drops a value: no insert that has room does, and a queue's values aren't kept by another queue's drop.
 
 use crate::kit::{ms, within_the_limit, Drops, Value, FAR};
-use hontkhale::delay_queue::{ManualClock, Timeout};
-use hontkhale::DelayQueue;
+use hontkhale::{DelayQueue, ManualClock, Timeout};
 use std::panic::{catch_unwind, AssertUnwindSafe};
 use std::sync::mpsc::channel;
 use std::sync::{Arc, Mutex};
@@ -96,16 +95,15 @@ fn an_insert_that_has_room_drops_nothing() {
     assert_eq!((dropped(&drops, 1_000), queue.stats().cancelled), (1_000, 0));
 }
 
-/// Puts as many values in as there are slots at first, and takes them out again: the first and the last three, which are
-/// of different shards, by cancels.
-fn uses_each_slot(queue: &DelayQueue<Value>, drops: &Drops) {
+/// Fills the first core, so that there is another one, and ends what is in it, the last three by cancels.
+fn fills_a_core(queue: &DelayQueue<Value>, drops: &Drops) {
     let insert = |number| queue.insert(drops.value(number), FAR).expect("room");
-    let keys: Vec<_> = (0..128).map(insert).collect();
+    let keys: Vec<_> = (0..66).map(insert).collect();
     for (number, key) in keys.iter().enumerate() {
-        if (3..125).contains(&number) {
-            drop(queue.remove(key).expect("it waits"));
-        } else {
+        if (61..64).contains(&number) {
             queue.cancel(key).expect("it waits");
+        } else {
+            drop(queue.remove(key).expect("it waits"));
         }
     }
 }
@@ -115,30 +113,19 @@ fn uses_a_slot(queue: &DelayQueue<Value>, drops: &Drops, number: u64) {
     drop(queue.remove(&key).expect("it waits"));
 }
 
-/// A shard is renewed by inserts, while the queue has room in another.
+/// The thousandth insert moves the last entries of a core that drains, and frees what was cancelled there.
 #[test]
-fn an_insert_that_renews_a_shard_drops_nothing() {
-    let (clock, drops) = (ManualClock::new(), Drops::default());
-    let queue = DelayQueue::builder().clock(&clock).shards(2).last_stamp(2).build();
-    uses_each_slot(&queue, &drops);
-    let uses = |number: u64| {
-        uses_a_slot(&queue, &drops, number);
-        clock.advance(ms(100));
-    };
+fn an_insert_that_empties_a_core_drops_nothing() {
+    let drops = Drops::default();
+    let queue = DelayQueue::builder().shards(1).build();
+    fills_a_core(&queue, &drops);
     let memory = queue.stats().memory;
-    // Each wears a slot. A shard of which half are worn is closed, and what was cancelled there is freed.
-    (128..208).for_each(uses);
-    assert_eq!(
-        (dropped(&drops, 128), queue.stats().cancelled, queue.stats().memory),
-        (122, 6, memory)
-    );
-    // Whoever receives drops the values, and goes on with the renewal.
-    while dropped(&drops, 128) < 128 {
-        assert!(queue.try_recv().is_err());
-    }
-    assert_eq!(queue.stats().cancelled, 0);
-    (208..5_000).for_each(uses);
-    assert!(queue.stats().memory == memory && drops.are_once(5_000));
+    (66..2_000).for_each(|number| uses_a_slot(&queue, &drops, number));
+    assert_eq!((dropped(&drops, 66), queue.stats().cancelled), (63, 3));
+    // Whoever receives drops the values, and gives the core's memory back.
+    assert!(queue.try_recv().is_err());
+    assert!(queue.try_recv().is_err() && queue.stats().memory < memory);
+    assert_eq!((queue.stats().cancelled, drops.are_once(2_000)), (0, true));
 }
 
 /// Nothing else is due.
@@ -146,15 +133,14 @@ fn an_insert_that_renews_a_shard_drops_nothing() {
 fn a_receiver_that_sleeps_drops_what_an_insert_set_aside() {
     within_the_limit(|| {
         let drops = Drops::default();
-        let queue = DelayQueue::builder().shards(2).last_stamp(2).build();
+        let queue = DelayQueue::builder().shards(1).build();
         let receiver = queue.clone();
         let receives = thread::spawn(move || assert!(receiver.recv().is_none()));
         // It most likely sleeps by then.
         thread::sleep(ms(50));
-        uses_each_slot(&queue, &drops);
-        (128..208).for_each(|number| uses_a_slot(&queue, &drops, number));
-        // The three of the shard that is renewed.
-        while dropped(&drops, 128) < 125 {
+        fills_a_core(&queue, &drops);
+        (66..2_000).for_each(|number| uses_a_slot(&queue, &drops, number));
+        while dropped(&drops, 66) < 66 {
             thread::sleep(ms(1));
         }
         queue.close();
@@ -211,7 +197,7 @@ fn a_drop_within_another_queues_call_inserts() {
         let drops = Drops::default();
         let queue = DelayQueue::builder().shards(2).build();
         // As many as there are slots at first.
-        for number in 0..128 {
+        for number in 0..64 {
             let key = queue.insert(drops.value(number), FAR).expect("room");
             queue.cancel(&key).expect("it waits");
         }
@@ -219,10 +205,10 @@ fn a_drop_within_another_queues_call_inserts() {
         let other = DelayQueue::new();
         let (clone, counts) = (queue.clone(), drops.clone());
         let value = Drops::default().value(0).then(move || {
-            clone.insert(counts.value(128), FAR).expect("room");
+            clone.insert(counts.value(64), FAR).expect("room");
         });
         other.insert(value, FAR).expect("room");
-        assert_eq!((other.clear(), queue.len(), dropped(&drops, 128)), (1, 1, 128));
+        assert_eq!((other.clear(), queue.len(), dropped(&drops, 64)), (1, 1, 64));
         assert_eq!((queue.stats().cancelled, queue.stats().memory), (0, memory));
     });
 }

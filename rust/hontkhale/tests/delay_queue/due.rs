@@ -1,8 +1,7 @@
 //! The end of an entry by whoever comes upon it: where it is due, and not where it was extended meanwhile.
 
 use crate::kit::{ms, within_the_limit, Drops, FAR};
-use hontkhale::delay_queue::{InsertErrorKind, Key, KeyError, ManualClock};
-use hontkhale::DelayQueue;
+use hontkhale::{DelayQueue, InsertErrorKind, Key, KeyError, ManualClock};
 use std::panic::{catch_unwind, AssertUnwindSafe};
 use std::sync::atomic::{AtomicBool, Ordering::SeqCst};
 use std::sync::Mutex;
@@ -69,7 +68,7 @@ fn a_moved_entry_is_taken_out_by_its_first_key() {
     }
 }
 
-/// A queue that is full takes no memory for it: the slot that the entry leaves is the one that it would go on in.
+/// It takes no memory, wherever the entry is.
 #[test]
 fn a_full_queue_does_not_grow_by_it() {
     let queue = DelayQueue::builder().shards(2).build();
@@ -80,7 +79,7 @@ fn a_full_queue_does_not_grow_by_it() {
     for (number, key) in (0..).zip(&keys) {
         assert_eq!(queue.remove_if_due(key), Ok(Some(number)));
     }
-    assert_eq!((queue.len(), queue.stats().memory), (0, memory));
+    assert!(queue.is_empty() && queue.stats().memory <= memory);
 }
 
 /// An extend takes no lock, so that it may come at any step of the call.

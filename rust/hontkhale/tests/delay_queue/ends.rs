@@ -1,8 +1,7 @@
 //! The ends of a queue: cleared, drained, dropped, and many queues in one thread.
 
 use crate::kit::{ms, Drops, FAR};
-use hontkhale::delay_queue::{Key, KeyError, ManualClock};
-use hontkhale::DelayQueue;
+use hontkhale::{DelayQueue, Key, KeyError, ManualClock};
 use std::cell::RefCell;
 use std::collections::HashMap;
 use std::thread;

@@ -1,11 +1,11 @@
 //! A queue grows as entries come, up to its bound, and uses again what has ended.
 
-use crate::kit::{ms, Drops, FAR};
-use hontkhale::delay_queue::{InsertErrorKind, ManualClock};
-use hontkhale::DelayQueue;
-use std::sync::Barrier;
+use crate::kit::{ms, within_the_limit, Drops, FAR};
+use hontkhale::{DelayQueue, InsertErrorKind, ManualClock};
+use std::cell::Cell;
+use std::sync::{Barrier, OnceLock};
 use std::thread;
-use std::time::Duration;
+use std::time::{Duration, Instant};
 
 #[test]
 fn an_empty_queue_takes_little_and_grows_as_entries_come() {
@@ -21,14 +21,15 @@ fn an_empty_queue_takes_little_and_grows_as_entries_come() {
     for number in 0..100_000_u64 {
         queue.insert(number, FAR).expect("room");
     }
-    assert_eq!(queue.stats().memory, memory);
+    let memory = queue.stats().memory;
+    assert!(memory < 3 * 64 * 100_000, "{memory}");
 }
 
-/// No segment is made where another thread has just made one that has room.
+/// No core is made where another thread has just made one that has room.
 #[test]
-fn eight_threads_take_no_more_memory_than_one() {
+fn eight_threads_take_little_more_memory_than_one() {
     let memory_of = |threads: u64| {
-        let queue = DelayQueue::builder().shards(2).build();
+        let queue = DelayQueue::builder().shards(1).build();
         let begins = Barrier::new(threads as usize);
         let inserts = || {
             begins.wait();
@@ -39,7 +40,8 @@ fn eight_threads_take_no_more_memory_than_one() {
     };
     let memory = memory_of(1);
     for _ in 0..100 {
-        assert_eq!(memory_of(8), memory);
+        // The next core may be made ahead a little later, and twice as large then.
+        assert!(memory_of(8) <= 2 * memory);
     }
 }
 
@@ -239,4 +241,36 @@ fn the_lateness_is_told_by_powers_of_two_until_it_is_reset() {
         (stats.latest, stats.lateness.iter().sum::<u64>(), stats.expired),
         (ms(0), 0, 12)
     );
+}
+
+static ASKED: OnceLock<DelayQueue<u64>> = OnceLock::new();
+
+thread_local! {
+    static ASKS: Cell<bool> = const { Cell::new(false) };
+}
+
+/// A clock that asks for the queue's first deadline, which takes locks, and makes room there.
+fn asks_and_tells() -> Instant {
+    if let Some(queue) = ASKED.get().filter(|_| !ASKS.with(|asks| asks.replace(true))) {
+        let _ = (queue.next_deadline(), queue.reserve(queue.len()));
+        ASKS.with(|asks| asks.set(false));
+    }
+    Instant::now()
+}
+
+/// No lock is held while a program's clock is read.
+#[test]
+fn a_clock_that_calls_its_queue_never_hangs() {
+    within_the_limit(|| {
+        let queue = DelayQueue::builder().shards(2).read_clock(asks_and_tells).build();
+        assert!(ASKED.set(queue.clone()).is_ok());
+        let keys: Vec<_> = (0..5_000)
+            .map(|number| queue.insert(number, FAR).expect("room"))
+            .collect();
+        assert!(queue.try_recv().is_err() && queue.reserve(20_000).is_ok());
+        for key in &keys {
+            assert!(queue.reset(key, FAR / 2).is_ok() && queue.remove(key).is_ok());
+        }
+        assert!(queue.try_recv().is_err() && queue.wait_empty(Duration::ZERO));
+    });
 }

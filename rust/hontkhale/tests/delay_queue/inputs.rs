@@ -1,8 +1,7 @@
 //! What the docs tell of odd input, line by line.
 
 use crate::kit::{ms, within_the_limit, FAR};
-use hontkhale::delay_queue::{InsertErrorKind, Key, KeyError, ManualClock, RecvTimeoutError, TryRecvError};
-use hontkhale::DelayQueue;
+use hontkhale::{DelayQueue, InsertErrorKind, Key, KeyError, ManualClock, RecvTimeoutError, TryRecvError};
 use std::time::{Duration, Instant};
 
 fn queue() -> (ManualClock, DelayQueue<u64>, Key) {

@@ -1,8 +1,7 @@
 //! A key names its entry for as long as that lives, and nothing else.
 
 use crate::kit::{ms, Drops, Value, FAR};
-use hontkhale::delay_queue::{Handle, Key, KeyError, ManualClock, Timeout};
-use hontkhale::DelayQueue;
+use hontkhale::{DelayQueue, Handle, Key, KeyError, ManualClock, Timeout};
 use std::cell::Cell;
 use std::collections::{BTreeSet, HashMap};
 use std::mem::size_of;

@@ -3,8 +3,7 @@
 
 use crate::draw::Draw;
 use crate::kit::ms;
-use hontkhale::delay_queue::{Key, ManualClock};
-use hontkhale::DelayQueue;
+use hontkhale::{DelayQueue, Key, ManualClock};
 use std::collections::VecDeque;
 use std::env;
 use std::time::Instant;

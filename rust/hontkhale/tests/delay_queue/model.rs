@@ -3,8 +3,7 @@
 
 use crate::draw::{calls, Draw};
 use crate::kit::{ms, Drops, Value};
-use hontkhale::delay_queue::{Handle, InsertErrorKind, Key, KeyError, ManualClock};
-use hontkhale::DelayQueue;
+use hontkhale::{DelayQueue, Handle, InsertErrorKind, Key, KeyError, ManualClock};
 use std::collections::HashMap;
 use std::panic::{catch_unwind, set_hook, take_hook, AssertUnwindSafe};
 use std::thread;
@@ -178,7 +177,7 @@ impl Run {
         caught(|| drop(made));
     }
 
-    fn came_out(&mut self, expired: hontkhale::delay_queue::Expired<Value>) {
+    fn came_out(&mut self, expired: hontkhale::Expired<Value>) {
         let (deadline, number) = self.waits.remove(&expired.key).expect("an entry that waits");
         assert_eq!((expired.deadline, expired.value.number), (deadline, number));
         assert!(deadline <= self.clock.now());

@@ -1,8 +1,7 @@
 //! An entry that is moved while other threads reach for it, as worn slots and shards are left: no slot has a second stamp here.
 
 use crate::kit::{ms, within_the_limit, FAR};
-use hontkhale::delay_queue::{Key, ManualClock};
-use hontkhale::DelayQueue;
+use hontkhale::{DelayQueue, Key, ManualClock};
 use std::sync::atomic::{AtomicBool, Ordering::SeqCst};
 use std::sync::{Barrier, Mutex};
 use std::thread;

@@ -1,8 +1,7 @@
 //! Threads that receive: each is woken in time, and what comes out comes out once.
 
 use crate::kit::{ms, within_the_limit, FAR};
-use hontkhale::delay_queue::{InsertErrorKind, ManualClock, RecvTimeoutError, TryRecvError};
-use hontkhale::DelayQueue;
+use hontkhale::{DelayQueue, InsertErrorKind, ManualClock, RecvTimeoutError, TryRecvError};
 use std::sync::mpsc::channel;
 use std::thread;
 use std::time::{Duration, Instant};

@@ -1,8 +1,7 @@
 //! What has put servers out of order: a test for each.
 
 use crate::kit::{ms, within_the_limit, FAR};
-use hontkhale::delay_queue::{KeyError, ManualClock};
-use hontkhale::DelayQueue;
+use hontkhale::{DelayQueue, KeyError, ManualClock};
 use std::error::Error;
 use std::thread;
 use std::time::{Duration, Instant};

@@ -1,8 +1,7 @@
 //! Tasks that receive, in the place of threads.
 
 use crate::kit::FAR;
-use hontkhale::delay_queue::{Expired, ManualClock, Receiver};
-use hontkhale::DelayQueue;
+use hontkhale::{DelayQueue, Expired, ManualClock, Receiver};
 use std::panic::{catch_unwind, panic_any, AssertUnwindSafe};
 use std::sync::atomic::{AtomicUsize, Ordering::SeqCst};
 use std::sync::Arc;
@@ -184,31 +183,26 @@ fn a_waker_that_panics_keeps_no_other_task_asleep() {
     }
 }
 
-/// The renewal wakes a receiver, which is to drop what was set aside. Whether an insert renews depends on the shard in which its
-/// thread inserts: some do.
+/// The thousandth insert frees what was cancelled in a core that drains, and wakes a receiver, which is to drop it.
 #[test]
-fn an_insert_that_renews_a_shard_has_its_entry_in_though_a_waker_panics() {
-    assert!((0..16).any(|_| thread::spawn(an_insert_panics_by_a_waker).join().expect("no other panic")));
-}
-
-fn an_insert_panics_by_a_waker() -> bool {
-    let queue = DelayQueue::builder().shards(2).last_stamp(2).build();
+fn an_insert_that_empties_a_core_has_its_entry_in_though_a_waker_panics() {
+    let queue = DelayQueue::builder().shards(1).build();
     let insert = |after| queue.insert("a value".to_string(), after).expect("room");
-    let keys: Vec<_> = (0..128).map(|_| insert(FAR)).collect();
+    // The first core is full, and there is another one.
+    let keys: Vec<_> = (0..66).map(|_| insert(FAR)).collect();
     let mut receiver = queue.receiver();
     let panics = Waker::from(Arc::new(Panics));
     assert!(receiver.poll_recv(&mut Context::from_waker(&panics)).is_pending());
     let (cancelled, removed) = keys.split_at(3);
     cancelled.iter().for_each(|key| assert!(queue.cancel(key).is_ok()));
     removed.iter().for_each(|key| assert!(queue.remove(key).is_ok()));
-    // Each wears a slot, and comes later than what the task waits for.
-    let panics_or_goes = |_| match catch_unwind(AssertUnwindSafe(|| insert(2 * FAR))) {
+    // Each comes later than what the task waits for.
+    let panics_or_goes = |_: &i32| match catch_unwind(AssertUnwindSafe(|| insert(2 * FAR))) {
         Ok(key) => queue.remove(&key).is_err(),
         Err(_) => true,
     };
-    let panicked = (0..2_000).any(panics_or_goes);
-    assert_eq!(queue.len(), usize::from(panicked));
-    panicked
+    assert!((0..2_000).any(|number| panics_or_goes(&number)));
+    assert_eq!(queue.len(), 1);
 }
 
 #[test]

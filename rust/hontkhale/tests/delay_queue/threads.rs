@@ -3,8 +3,7 @@
 
 use crate::draw::{calls, Draw};
 use crate::kit::{ms, within_the_limit, Drops, Value};
-use hontkhale::delay_queue::{Expired, Key, ManualClock};
-use hontkhale::DelayQueue;
+use hontkhale::{DelayQueue, Expired, Key, ManualClock};
 use std::collections::HashMap;
 use std::sync::atomic::{AtomicBool, AtomicU64, AtomicU8, Ordering::SeqCst};
 use std::sync::Arc;

@@ -1,8 +1,7 @@
 //! What a value's drop may do: it calls the queue, and it panics, while no lock is held.
 
 use crate::kit::{ms, within_the_limit, Drops, Value, FAR};
-use hontkhale::delay_queue::{ManualClock, Timeout};
-use hontkhale::DelayQueue;
+use hontkhale::{DelayQueue, ManualClock, Timeout};
 use std::panic::{catch_unwind, AssertUnwindSafe};
 use std::thread;
 
@@ -90,13 +89,13 @@ fn an_insert_that_meets_a_drop_that_panics_puts_nothing_in() {
         let drops = Drops::default();
         let queue = DelayQueue::builder().shards(2).build();
         // As many as there are slots at first.
-        for number in 0..128 {
+        for number in 0..64 {
             let value = drops.value(number).then(|| panic!("a drop that panics"));
             let key = queue.insert(value, FAR).expect("room");
             queue.cancel(&key).expect("it waits");
         }
         let (mut inserted, mut panicked) = (0, 0);
-        for number in 128..1_128 {
+        for number in 64..1_064 {
             match catch_unwind(AssertUnwindSafe(|| queue.insert(drops.value(number), FAR))) {
                 Ok(key) => {
                     key.expect("room");
@@ -105,9 +104,9 @@ fn an_insert_that_meets_a_drop_that_panics_puts_nothing_in() {
                 Err(_panic) => panicked += 1,
             }
         }
-        assert_eq!((panicked, inserted, queue.len()), (128, 872, 872));
+        assert_eq!((panicked, inserted, queue.len()), (64, 936, 936));
         queue.clear();
-        assert!(drops.are_once(1_128));
+        assert!(drops.are_once(1_064));
     });
 }
 

@@ -1,8 +1,7 @@
 //! What is done with a value where it is, under its shard's lock.
 
 use crate::kit::{ms, within_the_limit, Drops, Value, FAR};
-use hontkhale::delay_queue::{InsertErrorKind, Key, KeyError, ManualClock};
-use hontkhale::DelayQueue;
+use hontkhale::{DelayQueue, InsertErrorKind, Key, KeyError, ManualClock};
 use std::panic::{catch_unwind, AssertUnwindSafe};
 use std::thread;
 use std::time::Duration;
@@ -109,7 +108,7 @@ fn a_closure_that_calls_its_queue_never_hangs() {
     within_the_limit(|| {
         let wants_the_lock: [Calls; 9] = [
             |queue, key| _ = queue.remove(key),
-            |queue, key| _ = queue.reset(key, FAR),
+            |queue, key| _ = queue.reset(key, FAR / 2),
             |queue, key| _ = queue.get(key, |value| *value),
             |queue, _| _ = queue.insert(1, FAR),
             |queue, _| _ = queue.insert_with(|_| 1, FAR),

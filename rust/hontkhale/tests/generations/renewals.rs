@@ -1,7 +1,7 @@
 //! A queue that goes on for years: it is renewed over fresh words each time that its slots are worn.
 
 use super::Fail;
-use hontkhale::owner::{CoreConfig, CoreError, DelayCore, Keeper, Key, RenewError, VecWords};
+use hontkhale::parts::owner::{CoreConfig, CoreError, DelayCore, Keeper, Key, RenewError, VecWords};
 
 // The slots of a queue.
 const CAPACITY: usize = 2;

@@ -3,8 +3,8 @@
 use super::join::join;
 use super::numbers::{insert, pause, Gate, Numbers, ONE_AND_FOUR, TURNS};
 use super::Fail;
-use hontkhale::owner::{Key, Look};
-use hontkhale::shards::{Handle, QueueError, SharedDelayQueue};
+use hontkhale::parts::owner::{Key, Look};
+use hontkhale::parts::shards::{Handle, QueueError, SharedDelayQueue};
 
 // The extends of each of the two threads at an entry.
 const LINKS: u64 = 200;

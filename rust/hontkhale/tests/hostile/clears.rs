@@ -3,8 +3,8 @@
 use super::join::join;
 use super::numbers::{fill, Gate, Numbers, ONE_AND_FOUR, ROUNDS, TURNS};
 use super::Fail;
-use hontkhale::owner::Key;
-use hontkhale::shards::{Handle, QueueConfig, QueueError, SharedDelayQueue, Totals};
+use hontkhale::parts::owner::Key;
+use hontkhale::parts::shards::{Handle, QueueConfig, QueueError, SharedDelayQueue, Totals};
 
 // How many cancels of those keys are accepted. None where no other thread comes.
 fn cancel_all(handle: &mut Handle, keys: &[Key], gate: &Gate) -> Option<u64> {

@@ -5,8 +5,8 @@ use super::numbers::{Gate, Numbers};
 use super::owners::Owner;
 use super::strangers::Stranger;
 use super::Fail;
-use hontkhale::owner::{Turn, LAST_TICK};
-use hontkhale::shards::{Handle, SharedDelayQueue, Totals};
+use hontkhale::parts::owner::{Turn, LAST_TICK};
+use hontkhale::parts::shards::{Handle, SharedDelayQueue, Totals};
 use std::sync::atomic::AtomicU64;
 use std::thread;
 

@@ -3,8 +3,8 @@
 use super::join::join;
 use super::numbers::{fill, Gate, Numbers, ENTRIES, ONE_AND_FOUR, ROUNDS};
 use super::Fail;
-use hontkhale::owner::{Key, Turn};
-use hontkhale::shards::{Handle, QueueConfig, SharedDelayQueue, Totals};
+use hontkhale::parts::owner::{Key, Turn};
+use hontkhale::parts::shards::{Handle, QueueConfig, SharedDelayQueue, Totals};
 
 // The tick at which each entry is due, extended or not.
 const LATE: u64 = 2000;

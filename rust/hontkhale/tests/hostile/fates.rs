@@ -1,7 +1,7 @@
 //! What a crowd's threads are told of the stamps of a queue's slots, and what they count.
 
-use hontkhale::owner::{EntryId, Key};
-use hontkhale::shards::QueueConfig;
+use hontkhale::parts::owner::{EntryId, Key};
+use hontkhale::parts::shards::QueueConfig;
 
 const SHARDS: usize = 4;
 

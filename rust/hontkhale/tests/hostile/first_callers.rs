@@ -1,6 +1,6 @@
 //! Callers that come and go while their queue's owner works.
 
-use hontkhale::owner::{shared_queue, Caller, CoreError, DelayCore, Keeper, Key};
+use hontkhale::parts::owner::{shared_queue, Caller, CoreError, DelayCore, Keeper, Key};
 use std::sync::atomic::{AtomicBool, Ordering::SeqCst};
 use std::sync::Mutex;
 use std::thread;

@@ -1,7 +1,7 @@
 //! Callers beside an owner that folds and unfolds its queue: a key from before a fold serves nobody after it.
 
 use super::draw::{calls, Draw};
-use hontkhale::owner::{shared_queue, Caller, DelayCore, Keeper, Key, Turn};
+use hontkhale::parts::owner::{shared_queue, Caller, DelayCore, Keeper, Key, Turn};
 use std::sync::atomic::{AtomicBool, Ordering::SeqCst};
 use std::sync::Mutex;
 use std::thread;

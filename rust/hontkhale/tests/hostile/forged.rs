@@ -2,8 +2,8 @@
 
 use super::numbers::{fill, insert, made, Numbers, ONE_AND_FOUR};
 use super::Fail;
-use hontkhale::owner::{CallError, CoreError, EntryId, Key, Look, Turn, LAST_STAMP, LAST_TICK};
-use hontkhale::shards::{Handle, QueueConfig, QueueError, SharedDelayQueue, Totals};
+use hontkhale::parts::owner::{CallError, CoreError, EntryId, Key, Look, Turn, LAST_STAMP, LAST_TICK};
+use hontkhale::parts::shards::{Handle, QueueConfig, QueueError, SharedDelayQueue, Totals};
 
 const GREATEST: u32 = 4294967295;
 

@@ -1,9 +1,9 @@
 //! Threads that make the calls by name of a queue of named shards, beside extends and cancels without a lock.
 
 use super::draw::Draw;
-use hontkhale::owner::{CoreError, Expired, Key, Turn, LAST_TICK};
-use hontkhale::shards::by::{NamedCaller, NamedQueue, Rooms};
-use hontkhale::shards::QueueConfig;
+use hontkhale::parts::owner::{CoreError, Expired, Key, Turn, LAST_TICK};
+use hontkhale::parts::shards::by::{NamedCaller, NamedQueue, Rooms};
+use hontkhale::parts::shards::QueueConfig;
 use std::collections::{HashMap, HashSet};
 use std::sync::atomic::{AtomicU64, Ordering::SeqCst};
 use std::sync::Mutex;

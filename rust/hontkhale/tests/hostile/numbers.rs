@@ -1,8 +1,8 @@
 //! Queues of numbers, and how the threads of a race wait for one another.
 
 use super::Fail;
-use hontkhale::owner::{Key, LAST_STAMP};
-use hontkhale::shards::{Handle, QueueConfig, QueueError, SharedDelayQueue};
+use hontkhale::parts::owner::{Key, LAST_STAMP};
+use hontkhale::parts::shards::{Handle, QueueConfig, QueueError, SharedDelayQueue};
 use std::hint::spin_loop;
 use std::sync::atomic::AtomicU64;
 use std::sync::atomic::Ordering::SeqCst;

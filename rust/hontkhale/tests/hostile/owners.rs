@@ -3,8 +3,8 @@
 use super::draw::Draw;
 use super::fates::{count, Counts, Fates};
 use super::numbers::Numbers;
-use hontkhale::owner::{CoreError, Key, Turn};
-use hontkhale::shards::QueueError;
+use hontkhale::parts::owner::{CoreError, Key, Turn};
+use hontkhale::parts::shards::QueueError;
 use std::sync::atomic::AtomicU64;
 use std::sync::atomic::Ordering::SeqCst;
 

@@ -3,8 +3,8 @@
 use super::join::join;
 use super::numbers::ROUNDS;
 use super::Fail;
-use hontkhale::owner::{Key, Piece, Turn};
-use hontkhale::shards::{Handle, QueueConfig, SharedDelayQueue};
+use hontkhale::parts::owner::{Key, Piece, Turn};
+use hontkhale::parts::shards::{Handle, QueueConfig, SharedDelayQueue};
 use std::hint;
 use std::sync::atomic::{AtomicBool, Ordering};
 

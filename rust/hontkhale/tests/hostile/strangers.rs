@@ -2,8 +2,8 @@
 
 use super::draw::Draw;
 use super::fates::{count, key_at, Counts, Fates, SLOTS};
-use hontkhale::owner::CallError;
-use hontkhale::shards::Handle;
+use hontkhale::parts::owner::CallError;
+use hontkhale::parts::shards::Handle;
 use std::sync::atomic::AtomicU64;
 use std::sync::atomic::Ordering::SeqCst;
 

@@ -2,8 +2,8 @@
 
 use super::numbers::{insert, made, Numbers};
 use super::Fail;
-use hontkhale::owner::{CallError, CoreError, Key, Look, Turn};
-use hontkhale::shards::{Handle, QueueConfig, QueueError, ShardState};
+use hontkhale::parts::owner::{CallError, CoreError, Key, Look, Turn};
+use hontkhale::parts::shards::{Handle, QueueConfig, QueueError, ShardState};
 
 // What a new entry is refused with where the one slot is worn.
 const FULL: QueueError = QueueError::Core(CoreError::Full { linked: 0, worn: 1 });

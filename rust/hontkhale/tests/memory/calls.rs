@@ -1,14 +1,13 @@
 //! The calls that take no memory: each is made where every allocation would be seen.
 
 use super::refusing::without_memory;
-use hontkhale::cache::TtlCache;
-use hontkhale::directory::{Clerk, MOST};
-use hontkhale::lasting::{LastingConfig, LastingHandle, LastingQueue};
-use hontkhale::owner::{
-    numbered_queue, CoreConfig, CoreError, DelayCore, Key, Look, PlainQueue, PlainTurn, Turn, HANDLE_LIMIT,
+use hontkhale::parts::cache::TtlCache;
+use hontkhale::parts::directory::{Clerk, MOST};
+use hontkhale::parts::owner::{
+    numbered_queue, CoreConfig, CoreError, DelayCore, Look, PlainQueue, PlainTurn, Turn, HANDLE_LIMIT,
 };
-use hontkhale::shards::{Handle, QueueConfig, SharedDelayQueue};
-use hontkhale::streams::{ExpiredStream, TickSource};
+use hontkhale::parts::shards::{Handle, QueueConfig, SharedDelayQueue};
+use hontkhale::parts::streams::{ExpiredStream, TickSource};
 use std::task::{Context, Waker};
 
 type Boxes = SharedDelayQueue<Box<u64>>;
@@ -30,7 +29,7 @@ macro_rules! calls_of_an_owner {
         assert!(matches!(queue.poll(600), Ok(Turn::Waiting { .. })));
         while queue
             .poll_some(800, 1)
-            .is_ok_and(|piece| matches!(piece, hontkhale::owner::Piece::Working))
+            .is_ok_and(|piece| matches!(piece, hontkhale::parts::owner::Piece::Working))
         {}
         assert!(queue.peek().is_some() && queue.next_wake().is_some());
         assert_eq!((queue.sweep(), queue.sweep_some(0, 9).reaped), (0, 0));
@@ -147,32 +146,6 @@ fn issued_callers_take_no_memory() {
         }
     });
     assert!(queue.handle().is_err());
-}
-
-fn calls_of_a_lasting_queue(queue: &LastingQueue<Box<u64>>, hand: &mut LastingHandle, values: [Box<u64>; 5]) {
-    let [first, second, third, ..] = values;
-    let insert = |value, when| queue.insert(0, value, when).map_err(|refused| refused.0);
-    let first: Key = insert(first, 5).expect("room");
-    let second = insert(second, 90).expect("room");
-    let third = insert(third, 900).expect("room");
-    assert_eq!(queue.reset(&first.entry(), 7).map(|key| key.stamp()), Ok(2));
-    assert_eq!((hand.extend(&second, 100), hand.cancel(&third)), (Ok(100), Ok(900)));
-    assert!(matches!(queue.poll(0, 7), Ok(Turn::Out(_))));
-    assert!(queue
-        .poll_or_park(0, 8, &mut Context::from_waker(Waker::noop()))
-        .is_pending());
-    assert_eq!((queue.ring(0, 100), queue.sweep(0)), (Ok(true), Ok(1)));
-    assert_eq!(queue.remove(&second.entry()).map(|removed| removed.deadline), Ok(100));
-    assert_eq!((queue.clear(0), queue.close(1)), (Ok(0), Ok(())));
-    assert_eq!((queue.audit().inserted, hand.renew(queue)), (3, Ok(0)));
-}
-
-#[test]
-fn calls_of_a_lasting_queue_take_no_memory() {
-    let queue = LastingQueue::new(LastingConfig::of(2, 4)).expect("a queue");
-    let mut hand = queue.handle().expect("a handle");
-    let values = boxes();
-    without_memory(|| calls_of_a_lasting_queue(&queue, &mut hand, values));
 }
 
 #[test]

@@ -1,17 +1,17 @@
 //! The calls that take memory, a row for each: how many allocations it has, and which of them can't be refused.
 
 use super::refusing::{refusing, used};
-use hontkhale::cache::TtlCache;
-use hontkhale::directory::{AddError, Clerk};
-use hontkhale::lasting::{HandleError, HandleRenewError, Kept, LastingConfig, LastingQueue, OpenError, ReopenError};
-use hontkhale::owner::{
+use hontkhale::parts::cache::TtlCache;
+use hontkhale::parts::directory::{AddError, Clerk};
+use hontkhale::parts::growing::{Cores, Folds, TakeError};
+use hontkhale::parts::owner::{
     numbered_queue, CoreConfig, CoreError, DelayCore, Folded, Keeper, PlainQueue, Turn, WordsError, LAST_STAMP,
 };
-use hontkhale::replay::{run, ReplayFault};
-use hontkhale::sessions::IdleSessions;
-use hontkhale::shards::{QueueConfig, QueueError, SharedDelayQueue};
-use hontkhale::wheel::WheelError;
-use hontkhale::AllocError;
+use hontkhale::parts::replay::{run, ReplayFault};
+use hontkhale::parts::sessions::IdleSessions;
+use hontkhale::parts::shards::{QueueConfig, QueueError, SharedDelayQueue};
+use hontkhale::parts::wheel::WheelError;
+use hontkhale::parts::AllocError;
 
 #[derive(Clone, Copy, Debug, PartialEq)]
 struct NoMemory;
@@ -37,10 +37,6 @@ no_memory! {
     WheelError: WheelError::NoMemory,
     WordsError: WordsError::NoMemory,
     QueueError: QueueError::Core(CoreError::NoMemory),
-    HandleError: HandleError::NoMemory,
-    HandleRenewError: HandleRenewError { why: HandleError::NoMemory, .. },
-    OpenError: OpenError::NoMemory,
-    ReopenError: ReopenError::NoMemory,
     ReplayFault: ReplayFault::NoMemory,
     AddError: AddError::NoMemory,
 }
@@ -53,8 +49,6 @@ fn asks<T, E: Into<NoMemory>>(grants: u64, call: impl FnOnce() -> Result<T, E>) 
 }
 
 type Boxes = SharedDelayQueue<Box<u64>>;
-
-type Lasting = LastingQueue<Box<u64>>;
 
 // A queue is unfolded, and where memory was refused it is unfolded once more: each slot goes on with its next stamp.
 fn unfold(grants: u64) -> (Answer, u64) {
@@ -78,58 +72,40 @@ fn unfold(grants: u64) -> (Answer, u64) {
     (answer, asked)
 }
 
+// A core that doesn't come in comes back, and comes in where there is memory.
+fn core_taken_in(grants: u64) -> (Answer, u64) {
+    let mut cores = Cores::new();
+    let core = numbered_queue::<Box<u64>>(CoreConfig::of(4)).expect("a core");
+    let (answer, asked) = refusing(grants, || cores.take_in(core));
+    let answer = answer.map_err(|(error, core)| {
+        assert_eq!((error, cores.count()), (TakeError::NoMemory, 0));
+        assert!(cores.take_in(core).is_ok());
+        NoMemory
+    });
+    assert!(cores.insert(Box::new(1), 5).0.is_ok());
+    (answer, asked)
+}
+
+// A folded core that isn't kept comes back, and is kept where there is memory.
+fn folded_core_kept(grants: u64) -> (Answer, u64) {
+    let mut folds = Folds::new();
+    let core = numbered_queue::<Box<u64>>(CoreConfig::of(4)).expect("a core");
+    let folded = core.fold().expect("an empty core");
+    let (answer, asked) = refusing(grants, || folds.keep(folded));
+    let answer = answer.map_err(|folded| {
+        assert!(folds.take(4).is_none());
+        assert!(folds.keep(folded).is_ok());
+        NoMemory
+    });
+    assert!(folds.take(4).is_some_and(|folded| folded.unfold::<Box<u64>>().is_ok()));
+    (answer, asked)
+}
+
 fn handle_of_a_queue(grants: u64) -> (Answer, u64) {
     let queue = Boxes::new(QueueConfig::of(3, 4)).expect("a queue");
     let answer = asks(grants, || queue.handle().map(|handle| handle.give_back()));
     assert_eq!(queue.audit().map(|totals| totals.inserted), Ok(0), "no caller is out");
     answer
-}
-
-fn handle_of_a_lasting_queue(grants: u64) -> (Answer, u64) {
-    let queue = Lasting::new(LastingConfig::of(3, 4)).expect("a queue");
-    asks(grants, || queue.handle().map(|handle| handle.give_back()))
-}
-
-fn states_of_a_lasting_queue(grants: u64) -> (Answer, u64) {
-    let queue = Lasting::new(LastingConfig::of(3, 4)).expect("a queue");
-    asks(grants, || queue.states().map(|states| assert_eq!(states.len(), 3)))
-}
-
-// A shard that is closed and empty is opened again; where memory is refused it stays closed, and the other takes what
-// comes.
-fn opening_of_a_shard(grants: u64) -> (Answer, u64) {
-    let queue = Lasting::new(LastingConfig::of(2, 4)).expect("a queue");
-    queue.close(0).expect("a shard");
-    let answer = asks(grants, || {
-        queue
-            .keep_going()
-            .map(|kept| assert_eq!(kept, Kept::Reopened { place: 0 }))
-    });
-    let key = queue
-        .insert(0, Box::new(1), 5)
-        .map_err(|refused| refused.0)
-        .expect("a key");
-    assert_eq!(key.entry().shard(), if answer.0.is_ok() { 2 } else { 1 });
-    answer
-}
-
-// A shard goes on with another number of slots; where memory is refused it keeps those that it has.
-fn opening_with_more_slots(grants: u64) -> (Answer, u64) {
-    let queue = Lasting::new(LastingConfig::of(2, 4)).expect("a queue");
-    let answer = asks(grants, || queue.open_place(0, 6, true));
-    let capacity = queue.state(0).expect("a shard").capacity;
-    assert_eq!(capacity, if answer.0.is_ok() { 6 } else { 4 });
-    answer
-}
-
-// A handle takes the callers of both shards on, and gives the old ones back with their words.
-fn renewal_of_a_handle(grants: u64) -> (Answer, u64) {
-    let queue = Lasting::new(LastingConfig::of(2, 4)).expect("a queue");
-    let mut handle = queue.handle().expect("a handle");
-    for place in 0..2 {
-        queue.open_place(place, 4, true).expect("memory");
-    }
-    asks(grants, || handle.renew(&queue).map(|taken| assert_eq!(taken, 2)))
 }
 
 // A put is refused with its key and its value, and no key is kept more.
@@ -241,6 +217,18 @@ const ROWS: &[Row] = &[
         makes: unfold,
     },
     Row {
+        name: "a core taken in",
+        allocations: 1,
+        aborting: &[],
+        makes: core_taken_in,
+    },
+    Row {
+        name: "a folded core kept",
+        allocations: 1,
+        aborting: &[],
+        makes: folded_core_kept,
+    },
+    Row {
         name: "a queue over shared words",
         allocations: 8,
         aborting: &[1],
@@ -276,42 +264,6 @@ const ROWS: &[Row] = &[
         allocations: 1,
         aborting: &[],
         makes: handle_of_a_queue,
-    },
-    Row {
-        name: "a lasting queue",
-        allocations: 18,
-        aborting: &[2, 10],
-        makes: |grants| asks(grants, || Lasting::new(LastingConfig::of(2, 4))),
-    },
-    Row {
-        name: "a handle of a lasting queue",
-        allocations: 1,
-        aborting: &[],
-        makes: handle_of_a_lasting_queue,
-    },
-    Row {
-        name: "the states of a lasting queue",
-        allocations: 1,
-        aborting: &[],
-        makes: states_of_a_lasting_queue,
-    },
-    Row {
-        name: "the opening of a shard",
-        allocations: 8,
-        aborting: &[1],
-        makes: opening_of_a_shard,
-    },
-    Row {
-        name: "the opening of a shard with more slots",
-        allocations: 8,
-        aborting: &[1],
-        makes: opening_with_more_slots,
-    },
-    Row {
-        name: "the renewal of a handle",
-        allocations: 0,
-        aborting: &[],
-        makes: renewal_of_a_handle,
     },
     Row {
         name: "a cache",
@@ -393,7 +345,7 @@ fn each_is_refused(row: &Row) {
     }
 }
 
-// promise: core.fold
+// promise: core.fold growing.take-in growing.folds
 #[test]
 fn each_allocation_is_refused() {
     ROWS.iter().for_each(each_is_refused);

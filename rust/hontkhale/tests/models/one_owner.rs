@@ -4,11 +4,11 @@ use super::draw::{calls, Draw};
 use super::shard::Shard;
 use super::ticks::{deadline, key, tick, Round, ROUND};
 use super::value::{Living, Value};
-use hontkhale::owner::{
+use hontkhale::parts::owner::{
     numbered_queue, CallError, Caller, CoreConfig, CoreError, DelayCore, EntryId, Keeper, Key, Look, Piece, ReapError,
     Removed, Swept, Tally, Turn, VecWords, LAST_STAMP, LAST_TICK,
 };
-use hontkhale::wheel::Place;
+use hontkhale::parts::wheel::Place;
 
 type Over<W> = DelayCore<Value, W>;
 

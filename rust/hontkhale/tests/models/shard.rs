@@ -1,7 +1,9 @@
 //! What one shard's queue answers, by a map of its slots. It is given each call and each answer, and compares.
 
 use super::value::Value;
-use hontkhale::owner::{CallError, CoreError, EntryId, Expired, Key, Look, ReapError, Swept, Tally, Turn, LAST_TICK};
+use hontkhale::parts::owner::{
+    CallError, CoreError, EntryId, Expired, Key, Look, ReapError, Swept, Tally, Turn, LAST_TICK,
+};
 use std::collections::BTreeMap;
 
 /// An entry that is linked: its birth stamp and its value.
@@ -139,10 +141,6 @@ impl Shard {
     pub fn worn(&self) -> usize {
         let is_worn = |slot: &&Slot| slot.linked.is_none() && slot.stamp == self.last_stamp;
         self.row.slots.values().filter(is_worn).count()
-    }
-
-    pub fn capacity(&self) -> usize {
-        self.row.capacity
     }
 
     pub fn tally(&self) -> Tally {
@@ -384,16 +382,5 @@ impl Shard {
         let least = self.least_deadline().unwrap_or(LAST_TICK);
         assert!(self.tick <= tick && tick <= self.noted.min(least), "it works at {tick}");
         self.tick = tick;
-    }
-
-    /// Goes on under another number over so many fresh slots. All have ended. The wheel comes to the noted tick.
-    pub fn opens(&mut self, number: u32, capacity: usize) {
-        assert_eq!(self.len(), 0);
-        let fresh = Shard::new(number, capacity, self.last_stamp);
-        *self = Shard {
-            tick: self.noted,
-            noted: self.noted,
-            ..fresh
-        };
     }
 }

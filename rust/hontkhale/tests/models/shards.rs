@@ -5,9 +5,9 @@ use super::shard::Shard;
 use super::ticks::{deadline, key, tick, Round, ROUND};
 use super::value::{Living, Value};
 use super::wakes::Poller;
-use hontkhale::owner::{CallError, CoreError, EntryId, Expired, Key, Piece, Removed, Tally, LAST_TICK};
-use hontkhale::shards::{Handle, HandlesOut, QueueConfig, QueueError, SharedDelayQueue, Totals};
-use hontkhale::streams::{ExpiredStream, StreamFault, TickSource};
+use hontkhale::parts::owner::{CallError, CoreError, EntryId, Expired, Key, Piece, Removed, Tally, LAST_TICK};
+use hontkhale::parts::shards::{Handle, HandlesOut, QueueConfig, QueueError, SharedDelayQueue, Totals};
+use hontkhale::parts::streams::{ExpiredStream, StreamFault, TickSource};
 use std::num::NonZeroU32;
 use std::task::{Context, Poll};
 

@@ -1,7 +1,7 @@
 //! The ticks, deadlines and keys that a model's test draws.
 
 use super::draw::Draw;
-use hontkhale::owner::{EntryId, Key, LAST_TICK};
+use hontkhale::parts::owner::{EntryId, Key, LAST_TICK};
 
 /// What a round of calls is drawn by: its queue is fresh, and of these numbers.
 #[derive(Clone, Copy, Debug)]

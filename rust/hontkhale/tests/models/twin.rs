@@ -3,9 +3,9 @@
 use super::ticks::Round;
 use super::value::{Living, Value};
 use super::wakes::Poller;
-use hontkhale::owner::{CallError, Expired, Key, Look, Piece, Removed, Tally, Turn};
-use hontkhale::shards::{Handle, HandlesOut, QueueConfig, QueueError, ShardState, SharedDelayQueue, Totals};
-use hontkhale::streams::{ExpiredStream, TickSource};
+use hontkhale::parts::owner::{CallError, Expired, Key, Look, Piece, Removed, Tally, Turn};
+use hontkhale::parts::shards::{Handle, HandlesOut, QueueConfig, QueueError, ShardState, SharedDelayQueue, Totals};
+use hontkhale::parts::streams::{ExpiredStream, TickSource};
 use std::fmt::Debug;
 use std::num::NonZeroU32;
 use std::task::{Context, Poll};

@@ -6,7 +6,7 @@ use super::draw::{calls, Draw};
 use super::ends::ends;
 use super::ticks::{deadline, key, tick, Round, ROUND};
 use super::twin::{Call, Twin};
-use hontkhale::owner::LAST_TICK;
+use hontkhale::parts::owner::LAST_TICK;
 
 const SHARDS: usize = 6;
 

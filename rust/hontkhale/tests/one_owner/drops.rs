@@ -1,6 +1,6 @@
 //! Values whose drop panics or calls their own queue: what safe Rust allows leaves the queue whole.
 
-use hontkhale::owner::{shared_queue, Caller, DelayCore, Expired, Keeper, Key, Look, Piece, Turn, VecWords};
+use hontkhale::parts::owner::{shared_queue, Caller, DelayCore, Expired, Keeper, Key, Look, Piece, Turn, VecWords};
 use std::panic::{catch_unwind, AssertUnwindSafe};
 use std::sync::atomic::{AtomicBool, AtomicUsize, Ordering::SeqCst};
 use std::sync::{Arc, Mutex, Weak};

@@ -1,6 +1,6 @@
 //! Keys that no queue gave, or another one.
 
-use hontkhale::owner::{
+use hontkhale::parts::owner::{
     numbered_queue, CallError, CoreConfig, CoreError, DelayCore, EntryId, Key, ReapError, VecWords, WordsError,
 };
 use std::mem;
@@ -40,7 +40,7 @@ fn forged_keys_are_refused_by_name() {
     assert_eq!((queue.deadline(&key.entry()), queue.len()), (Ok(10), 1));
 }
 
-fn numbered(shard: u32) -> DelayCore<&'static str, hontkhale::owner::Keeper> {
+fn numbered(shard: u32) -> DelayCore<&'static str, hontkhale::parts::owner::Keeper> {
     numbered_queue(CoreConfig {
         shard,
         ..CoreConfig::of(2)
@@ -108,7 +108,7 @@ fn errors_print_what_they_carry() {
         "the queue is full: 3 entries are linked and 1 slots are worn"
     );
     let ended = CallError::Ended {
-        how: hontkhale::owner::Look::LookExpired(5),
+        how: hontkhale::parts::owner::Look::LookExpired(5),
     };
     assert_eq!(told(&ended), "the entry expired at 5");
     assert_eq!(

@@ -1,6 +1,6 @@
 //! A poll in pieces beside a whole one, a sweep of some slots, and a reap of one entry, with values that are counted.
 
-use hontkhale::owner::{
+use hontkhale::parts::owner::{
     shared_queue, Caller, CoreError, DelayCore, Expired, Keeper, Key, Piece, ReapError, Turn, LAST_TICK,
 };
 use std::collections::BTreeSet;
@@ -138,7 +138,7 @@ fn a_piece_makes_so_many_steps() {
     assert!(steps > ENTRIES);
     // Few steps first: a look that leaves all as it was would make one call of many go on for ever.
     for most in [2, 3, 7, 64, 500] {
-        assert_eq!(calls_of(most), (steps + most as usize - 1) / most as usize, "{most}");
+        assert_eq!(calls_of(most), steps.div_ceil(most as usize), "{most}");
     }
     assert_eq!(calls_of(u32::MAX), 1);
 }

@@ -1,6 +1,6 @@
 //! Each value is dropped once, whatever became of its entry.
 
-use hontkhale::owner::{shared_queue, DelayCore, Key, Turn};
+use hontkhale::parts::owner::{shared_queue, DelayCore, Key, Turn};
 use std::any::Any;
 use std::cell::Cell;
 use std::fmt::Debug;

@@ -1,7 +1,7 @@
 //! The calls of one owner's queue.
 
 use super::kit::{deadline_of, key, panics_in_turn, Keys, Subject, Value, CAPACITY};
-use hontkhale::owner::{DelayCore, Key, Piece, Tally, VecWords};
+use hontkhale::parts::owner::{DelayCore, Key, Piece, Tally, VecWords};
 
 type Queue = DelayCore<Value, VecWords>;
 

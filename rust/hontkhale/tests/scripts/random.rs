@@ -2,7 +2,7 @@
 
 use super::draw::{calls, Draw};
 use super::model::Model;
-use hontkhale::replay::run;
+use hontkhale::parts::replay::run;
 
 /// A script and its answers, byte for byte.
 pub struct Script {

@@ -5,7 +5,7 @@
 //! open: the model takes one of the greatest stamp that is left, so the tests see to it that the free slots are alike
 //! or far from worn.
 
-use hontkhale::owner::CoreError;
+use hontkhale::parts::owner::CoreError;
 
 /// The last tick, as the tests' tables have it.
 pub const LAST: u64 = 4398046511103;

@@ -3,7 +3,7 @@
 use super::cache::{SlowCache, LAST};
 use super::draw::{calls, Draw};
 use super::Fail;
-use hontkhale::cache::TtlCache;
+use hontkhale::parts::cache::TtlCache;
 use std::ops::Range;
 
 // A cache and its model, and how many keys they are asked for.

@@ -3,7 +3,7 @@
 use super::draw::{calls, Draw};
 use super::queue::{Expected, SlowQueue};
 use super::Fail;
-use hontkhale::owner::{PlainQueue, PlainTurn};
+use hontkhale::parts::owner::{PlainQueue, PlainTurn};
 
 // The model and the plain queue answer a poll alike.
 fn poll_both(slow: &mut SlowQueue, plain: &mut PlainQueue<u64>, tick: u64) -> bool {

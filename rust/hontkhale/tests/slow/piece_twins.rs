@@ -4,8 +4,8 @@
 use super::draw::{calls, Draw};
 use super::value::{Living, Value};
 use super::Fail;
-use hontkhale::owner::{Key, Piece, Turn};
-use hontkhale::shards::{Handle, QueueConfig, QueueError, SharedDelayQueue};
+use hontkhale::parts::owner::{Key, Piece, Turn};
+use hontkhale::parts::shards::{Handle, QueueConfig, QueueError, SharedDelayQueue};
 
 // The calls of a round, which is over fresh queues. A deadline is told from the others by its call.
 const TURNS: u64 = 400;
@@ -100,7 +100,7 @@ fn give_the_same(one: &mut Side, other: &mut Side, draw: &mut Draw) -> Result<()
     Ok(())
 }
 
-fn end(side: Side) -> Result<(u64, hontkhale::shards::Totals), Fail> {
+fn end(side: Side) -> Result<(u64, hontkhale::parts::shards::Totals), Fail> {
     let cancels = side.handle.give_back();
     Ok((cancels, side.queue.audit()?))
 }

@@ -4,7 +4,7 @@ use super::draw::{calls, Draw};
 use super::queue::LAST;
 use super::same_calls::Both;
 use super::Fail;
-use hontkhale::owner::{Piece, Turn};
+use hontkhale::parts::owner::{Piece, Turn};
 
 impl Both {
     // The model is told which entries were reaped, and where the others are filed.

@@ -5,7 +5,7 @@
 //! there were reaped or filed anew before it. Of a poll in pieces it is told how far the wheel came and where each entry
 //! is filed then.
 
-use hontkhale::owner::{CallError, CoreError, EntryId, Key, Look};
+use hontkhale::parts::owner::{CallError, CoreError, EntryId, Key, Look};
 
 /// The last tick, as the tests' tables have it.
 pub const LAST: u64 = 4398046511103;

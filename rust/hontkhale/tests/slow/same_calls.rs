@@ -3,7 +3,7 @@
 use super::draw::{calls, Draw};
 use super::queue::{Expected, SlowQueue, LAST};
 use super::Fail;
-use hontkhale::owner::{CoreConfig, DelayCore, EntryId, Key, PlainQueue, PlainTurn, Turn, VecWords};
+use hontkhale::parts::owner::{CoreConfig, DelayCore, EntryId, Key, PlainQueue, PlainTurn, Turn, VecWords};
 
 /// A queue, its model, and the keys that were given out, the eldest of them forgotten.
 pub struct Both {

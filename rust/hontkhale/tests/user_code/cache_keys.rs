@@ -2,7 +2,7 @@
 //! what was kept before or what would be kept after, nothing panics later, and honest keys are served.
 
 use super::kit::within_the_limit;
-use hontkhale::cache::{CountedCache, TtlCache};
+use hontkhale::parts::cache::{CountedCache, TtlCache};
 use std::hash::{Hash, Hasher};
 use std::panic::{catch_unwind, AssertUnwindSafe};
 use std::sync::atomic::{AtomicU64, Ordering::SeqCst};

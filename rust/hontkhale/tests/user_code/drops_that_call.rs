@@ -1,11 +1,7 @@
 //! A value's drop calls the queue: by name, as a session does that removes its other timer, or by a handle.
 
-use super::kit::{
-    insert, insert_cancelled, insert_lasting, insert_lasting_cancelled, is_whole, is_whole_lasting, lasting, queue,
-    within_the_limit, Drops, Lasting, Queue,
-};
-use hontkhale::lasting::{Kept, LastingError};
-use hontkhale::shards::QueueError;
+use super::kit::{insert, insert_cancelled, is_whole, queue, within_the_limit, Drops, Queue};
+use hontkhale::parts::shards::QueueError;
 use std::sync::atomic::{AtomicBool, Ordering};
 use std::sync::Arc;
 
@@ -47,7 +43,7 @@ fn a_drop_removes_another_in_sweep_some() {
 #[test]
 fn a_drop_removes_another_in_reap() {
     removes_another(true, |queue| {
-        let cancelled = hontkhale::owner::EntryId::new(0, 1, 1);
+        let cancelled = hontkhale::parts::owner::EntryId::new(0, 1, 1);
         assert_eq!(queue.reap(&cancelled), Ok(Ok(())));
     });
 }
@@ -73,75 +69,6 @@ fn a_drop_calls_by_name_in_clear() {
         assert_eq!(queue.clear(0), Ok(2));
         assert_eq!(drops.count(), 2);
         is_whole(&queue, &drops);
-    });
-}
-
-// A value of a lasting queue whose drop removes another entry of its shard.
-fn removes_another_lasting<T>(call: impl FnOnce(&Lasting) -> T + Send + 'static) {
-    removes_another_behind(|_| (), call);
-}
-
-// The same behind another call.
-fn removes_another_behind<T>(
-    first: impl FnOnce(&Lasting) + Send + 'static,
-    call: impl FnOnce(&Lasting) -> T + Send + 'static,
-) {
-    within_the_limit(move || {
-        let (queue, drops) = (lasting(), Drops::default());
-        first(&queue);
-        let other = insert_lasting(&queue, drops.value(), 500);
-        let by_drop = queue.clone();
-        let value = drops.value_that(move || {
-            assert!(by_drop.remove(&other.entry()).is_ok());
-        });
-        insert_lasting_cancelled(&queue, value, 10);
-        call(&queue);
-        assert_eq!(drops.count(), 2, "both values are dropped");
-        for _ in 0..3 {
-            queue.keep_going().expect("memory");
-        }
-        is_whole_lasting(&queue, &drops);
-    });
-}
-
-#[test]
-fn a_drop_removes_another_in_a_sweep_of_a_lasting_queue() {
-    removes_another_lasting(|queue| queue.sweep(0));
-}
-
-// What a shard does with the values that it lets go of outlasts its renewal.
-#[test]
-fn a_drop_removes_another_in_a_sweep_of_a_shard_that_was_opened_again() {
-    let opens_again = |queue: &Lasting| {
-        queue.close(0).expect("a shard");
-        assert_eq!(queue.keep_going(), Ok(Kept::Reopened { place: 0 }));
-    };
-    removes_another_behind(opens_again, |queue| queue.sweep(0));
-}
-
-#[test]
-fn a_drop_removes_another_in_a_poll_of_a_lasting_queue() {
-    removes_another_lasting(|queue| queue.poll(0, 10));
-}
-
-#[test]
-fn a_drop_removes_another_in_keep_going() {
-    removes_another_lasting(|queue| {
-        queue.close(0).expect("a shard");
-        queue.keep_going().expect("memory")
-    });
-}
-
-#[test]
-fn a_drop_calls_by_name_in_a_clear_of_a_lasting_queue() {
-    within_the_limit(|| {
-        let (queue, drops) = (lasting(), Drops::default());
-        let by_drop = queue.clone();
-        insert_lasting(&queue, drops.value_that(move || assert!(by_drop.tally(0).is_ok())), 10);
-        insert_lasting(&queue, drops.value(), 500);
-        assert_eq!(queue.clear(0), Ok(2));
-        assert_eq!(drops.count(), 2);
-        is_whole_lasting(&queue, &drops);
     });
 }
 
@@ -220,18 +147,5 @@ fn what_is_refused_may_call_by_name_where_it_is_dropped() {
         assert!(matches!(refused, Err(QueueError::Core(_))));
         assert_eq!(drops.count(), 1);
         is_whole(&queue, &drops);
-    });
-}
-
-#[test]
-fn what_a_lasting_queue_refuses_may_call_by_name_where_it_is_dropped() {
-    within_the_limit(|| {
-        let (queue, drops) = (lasting(), Drops::default());
-        let by_drop = queue.clone();
-        let value = drops.value_that(move || assert!(by_drop.tally(0).is_ok()));
-        let refused = queue.insert(0, value, u64::MAX).map_err(|refused| refused.0);
-        assert!(matches!(refused, Err(LastingError::Core(_))));
-        assert_eq!(drops.count(), 1);
-        is_whole_lasting(&queue, &drops);
     });
 }

@@ -1,11 +1,7 @@
 //! A value's drop panics inside a call: the panic comes out of the call, and the shard is whole.
 
-use super::kit::{
-    insert, insert_cancelled, insert_lasting, insert_lasting_cancelled, is_whole, is_whole_lasting, lasting, panics,
-    park, queue, within_the_limit, Drops, Lasting, Queue, Task,
-};
-use hontkhale::lasting::LastingStream;
-use hontkhale::streams::{ExpiredStream, TickSource};
+use super::kit::{insert, insert_cancelled, is_whole, panics, park, queue, within_the_limit, Drops, Queue, Task};
+use hontkhale::parts::streams::{ExpiredStream, TickSource};
 use std::num::NonZeroU32;
 use std::panic::{catch_unwind, AssertUnwindSafe};
 use std::sync::Arc;
@@ -62,44 +58,6 @@ fn a_drop_panics_in_reap() {
 }
 
 #[test]
-fn a_drop_panics_in_a_sweep_of_a_lasting_queue() {
-    reaps_whole_lasting(|queue| queue.sweep(0));
-}
-
-#[test]
-fn a_drop_panics_in_a_poll_of_a_lasting_queue() {
-    reaps_whole_lasting(|queue| queue.poll(0, 10));
-}
-
-#[test]
-fn a_drop_panics_in_keep_going() {
-    reaps_whole_lasting(|queue| {
-        queue.close(0).expect("a shard");
-        queue.keep_going()
-    });
-}
-
-fn reaps_whole_lasting<T>(call: impl FnOnce(&Lasting) -> T + Send + 'static) {
-    within_the_limit(move || {
-        let (queue, drops) = (lasting(), Drops::default());
-        insert_lasting_cancelled(&queue, drops.value(), 10);
-        insert_lasting_cancelled(&queue, drops.value_that_panics(), 10);
-        insert_lasting_cancelled(&queue, drops.value(), 10);
-        assert_eq!(panics(|| call(&queue)), "a value's drop");
-        is_whole_lasting_or_closed(&queue, &drops);
-    });
-}
-
-// Where the call closed the shard it is opened again first.
-fn is_whole_lasting_or_closed(queue: &Lasting, drops: &Drops) {
-    for _ in 0..3 {
-        queue.keep_going().expect("memory");
-    }
-    is_whole_lasting(queue, drops);
-    assert_eq!(drops.count(), 4, "each value is dropped once");
-}
-
-#[test]
 fn a_drop_panics_in_clear() {
     within_the_limit(|| {
         let (queue, drops, task) = (queue(), Drops::default(), Task::that_counts());
@@ -111,20 +69,6 @@ fn a_drop_panics_in_clear() {
         is_whole(&queue, &drops);
         assert_eq!((task.wakes(), drops.count()), (1, 4));
         assert_eq!(queue.tally(0).expect("a shard").removed, 4);
-    });
-}
-
-#[test]
-fn a_drop_panics_in_a_clear_of_a_lasting_queue() {
-    within_the_limit(|| {
-        let (queue, drops) = (lasting(), Drops::default());
-        insert_lasting(&queue, drops.value(), 10);
-        insert_lasting(&queue, drops.value_that_panics(), 10);
-        insert_lasting(&queue, drops.value(), 10);
-        assert_eq!(panics(|| queue.clear(0)), "a value's drop");
-        is_whole_lasting(&queue, &drops);
-        assert_eq!(drops.count(), 4);
-        assert_eq!(queue.tally(0).expect("a shard").present.removed, 4);
     });
 }
 
@@ -163,22 +107,5 @@ fn a_drop_that_panics_behind_a_piece_of_a_stream_leaves_its_task_woken() {
         let mut stream = stream.paced(NonZeroU32::MIN);
         is_woken_in_each_poll(&task, |cx| stream.poll_next(cx).is_pending());
         is_whole(&queue, &drops);
-    });
-}
-
-#[test]
-fn a_drop_that_panics_behind_a_piece_of_a_stream_of_a_place_leaves_its_task_woken() {
-    within_the_limit(|| {
-        let (queue, drops, task) = (lasting(), Drops::default(), Task::that_counts());
-        insert_lasting_cancelled(&queue, drops.value_that_panics(), 1);
-        for when in 2..9 {
-            insert_lasting_cancelled(&queue, drops.value(), when);
-        }
-        let Ok(stream) = LastingStream::new(&queue, 0, Ten) else {
-            panic!("a stream")
-        };
-        let mut stream = stream.paced(NonZeroU32::MIN);
-        is_woken_in_each_poll(&task, |cx| stream.poll_next(cx).is_pending());
-        is_whole_lasting(&queue, &drops);
     });
 }

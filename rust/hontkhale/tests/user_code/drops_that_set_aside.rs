@@ -2,100 +2,69 @@
 //! drop runs inside another, each value is dropped once, and no key is lost.
 
 use super::kit::{panics, within_the_limit};
-use hontkhale::lasting::{LastingConfig, LastingQueue};
-use hontkhale::owner::{Expired, Key, ManyTurn, Turn};
-use hontkhale::shards::{QueueConfig, SharedDelayQueue};
+use hontkhale::parts::owner::{Expired, Key, Turn};
+use hontkhale::parts::shards::{QueueConfig, SharedDelayQueue};
 use std::panic::{catch_unwind, AssertUnwindSafe};
 use std::sync::atomic::{AtomicBool, AtomicU64, Ordering::SeqCst};
 use std::sync::mpsc::channel;
 use std::sync::Arc;
 use std::thread;
 
-/// A queue's calls at its first shard, by the names that both queues have.
-trait Calls: Send + Sync {
-    fn insert(&self, value: Node, when: u64) -> Key;
-    fn cancel_all(&self, keys: &[Key]);
-    fn sweep(&self) -> usize;
-    fn sweep_one(&self, slot: usize);
-    fn reap(&self, key: &Key);
-    fn poll(&self, tick: u64) -> Option<Expired<Node>>;
-    fn poll_many(&self, tick: u64, row: &mut Vec<Expired<Node>>);
-    fn clear(&self) -> usize;
-    fn close(&self);
-    fn aside(&self) -> usize;
-    fn linked(&self) -> u64;
-}
+/// A queue, by its calls at its first shard.
+struct Queue(SharedDelayQueue<Node>);
 
-macro_rules! calls {
-    ($queue:ty, $closes:expr, $aside:expr, $linked:expr) => {
-        impl Calls for $queue {
-            fn insert(&self, value: Node, when: u64) -> Key {
-                <$queue>::insert(self, 0, value, when).unwrap_or_else(|_| panic!("room"))
-            }
-            fn cancel_all(&self, keys: &[Key]) {
-                let mut handle = self.handle().expect("a handle");
-                keys.iter().for_each(|key| assert!(handle.cancel(key).is_ok()));
-                handle.give_back();
-            }
-            fn sweep(&self) -> usize {
-                <$queue>::sweep(self, 0).expect("a shard")
-            }
-            fn sweep_one(&self, slot: usize) {
-                self.sweep_some(0, slot, 1).expect("a shard");
-            }
-            fn reap(&self, key: &Key) {
-                let _ = <$queue>::reap(self, &key.entry());
-            }
-            fn poll(&self, tick: u64) -> Option<Expired<Node>> {
-                match <$queue>::poll(self, 0, tick).expect("a shard") {
-                    Turn::Out(expired) => Some(expired),
-                    _ => None,
-                }
-            }
-            fn poll_many(&self, tick: u64, row: &mut Vec<Expired<Node>>) {
-                let turn: ManyTurn = <$queue>::poll_many(self, 0, tick, row).expect("a shard");
-                let _ = turn;
-            }
-            fn clear(&self) -> usize {
-                <$queue>::clear(self, 0).expect("a shard")
-            }
-            fn close(&self) {
-                $closes(self)
-            }
-            fn aside(&self) -> usize {
-                $aside(self)
-            }
-            fn linked(&self) -> u64 {
-                $linked(self)
-            }
+impl Queue {
+    fn of(capacity: usize) -> Arc<Queue> {
+        Arc::new(Queue(
+            SharedDelayQueue::new(QueueConfig::of(2, capacity)).expect("a queue"),
+        ))
+    }
+
+    fn insert(&self, value: Node, when: u64) -> Key {
+        self.0.insert(0, value, when).unwrap_or_else(|_| panic!("room"))
+    }
+
+    fn cancel_all(&self, keys: &[Key]) {
+        let mut handle = self.0.handle().expect("a handle");
+        keys.iter().for_each(|key| assert!(handle.cancel(key).is_ok()));
+        handle.give_back();
+    }
+
+    fn sweep(&self) -> usize {
+        self.0.sweep(0).expect("a shard")
+    }
+
+    fn sweep_one(&self, slot: usize) {
+        self.0.sweep_some(0, slot, 1).expect("a shard");
+    }
+
+    fn reap(&self, key: &Key) {
+        let _ = self.0.reap(&key.entry());
+    }
+
+    fn poll(&self, tick: u64) -> Option<Expired<Node>> {
+        match self.0.poll(0, tick).expect("a shard") {
+            Turn::Out(expired) => Some(expired),
+            _ => None,
         }
-    };
+    }
+
+    fn poll_many(&self, tick: u64, row: &mut Vec<Expired<Node>>) {
+        let _turn = self.0.poll_many(0, tick, row).expect("a shard");
+    }
+
+    fn clear(&self) -> usize {
+        self.0.clear(0).expect("a shard")
+    }
+
+    fn aside(&self) -> usize {
+        self.0.enter(0).expect("a shard").aside()
+    }
+
+    fn linked(&self) -> u64 {
+        self.0.tally(0).expect("a shard").linked
+    }
 }
-
-calls!(
-    SharedDelayQueue<Node>,
-    |_: &Self| (),
-    |queue: &Self| queue.enter(0).expect("a shard").aside(),
-    |queue: &Self| queue.tally(0).expect("a shard").linked
-);
-calls!(
-    LastingQueue<Node>,
-    |queue: &Self| queue.close(0).expect("a shard"),
-    |queue: &Self| LastingQueue::aside(queue, 0).expect("a shard"),
-    |queue: &Self| queue.tally(0).expect("a shard").present.linked
-);
-
-type AnyQueue = Arc<dyn Calls>;
-
-fn shared(capacity: usize) -> AnyQueue {
-    Arc::new(SharedDelayQueue::new(QueueConfig::of(2, capacity)).expect("a queue"))
-}
-
-fn lasting(capacity: usize) -> AnyQueue {
-    Arc::new(LastingQueue::new(LastingConfig::of(2, capacity)).expect("a queue"))
-}
-
-const QUEUES: [fn(usize) -> AnyQueue; 2] = [shared, lasting];
 
 /// How deep drops are nested, how deep they ever were, and how many there were.
 #[derive(Default)]
@@ -171,28 +140,26 @@ fn on_a_small_stack(test: impl FnOnce() + Send + 'static) {
 }
 
 // Cancelled entries, of which each one's drop makes this call with its number, and one call that lets them go.
-fn each_drop_calls(inner: fn(&AnyQueue, usize), outer: fn(&AnyQueue, &[Key])) {
-    for queue_of in QUEUES {
-        within_the_limit(move || {
-            on_a_small_stack(move || {
-                let (queue, depth) = (queue_of(MANY), Arc::<Depth>::default());
-                let keys: Vec<_> = (0..MANY)
-                    .map(|at| {
-                        let by_drop = queue.clone();
-                        queue.insert(Node::that(&depth, move || inner(&by_drop, at)), 10 + at as u64)
-                    })
-                    .collect();
-                queue.cancel_all(&keys);
-                outer(&queue, &keys);
-                assert_eq!(depth.seen(), (MANY as u64, 1));
-                assert_eq!((queue.aside(), queue.linked()), (0, 0));
-            });
+fn each_drop_calls(inner: fn(&Queue, usize), outer: fn(&Queue, &[Key])) {
+    within_the_limit(move || {
+        on_a_small_stack(move || {
+            let (queue, depth) = (Queue::of(MANY), Arc::<Depth>::default());
+            let keys: Vec<_> = (0..MANY)
+                .map(|at| {
+                    let by_drop = queue.clone();
+                    queue.insert(Node::that(&depth, move || inner(&by_drop, at)), 10 + at as u64)
+                })
+                .collect();
+            queue.cancel_all(&keys);
+            outer(&queue, &keys);
+            assert_eq!(depth.seen(), (MANY as u64, 1));
+            assert_eq!((queue.aside(), queue.linked()), (0, 0));
         });
-    }
+    });
 }
 
 // The slots are given out in order, so the next slot has the next entry.
-fn sweeps_the_next(queue: &AnyQueue, at: usize) {
+fn sweeps_the_next(queue: &Queue, at: usize) {
     queue.sweep_one((at + 1) % MANY);
 }
 
@@ -231,49 +198,45 @@ fn drops_that_sweep_in_a_clear() {
 // The first of a drop's calls that leaves its value to the thread that drops doesn't end the dropping.
 #[test]
 fn drops_that_sweep_twice_in_a_sweep() {
-    for queue_of in QUEUES {
-        within_the_limit(move || {
-            let (queue, depth) = (queue_of(4), Arc::<Depth>::default());
-            let by_drop = queue.clone();
-            let sweeps = Node::that(&depth, move || (1..3).for_each(|slot| by_drop.sweep_one(slot)));
-            let keys = [sweeps, Node::quiet(&depth), Node::quiet(&depth)].map(|value| queue.insert(value, 10));
-            queue.cancel_all(&keys);
-            queue.sweep_one(0);
-            assert_eq!((depth.seen(), queue.aside()), ((3, 1), 0));
-        });
-    }
+    within_the_limit(move || {
+        let (queue, depth) = (Queue::of(4), Arc::<Depth>::default());
+        let by_drop = queue.clone();
+        let sweeps = Node::that(&depth, move || (1..3).for_each(|slot| by_drop.sweep_one(slot)));
+        let keys = [sweeps, Node::quiet(&depth), Node::quiet(&depth)].map(|value| queue.insert(value, 10));
+        queue.cancel_all(&keys);
+        queue.sweep_one(0);
+        assert_eq!((depth.seen(), queue.aside()), ((3, 1), 0));
+    });
 }
 
 // A thread finds another one at it, and leaves its value to that one.
 #[test]
 fn another_threads_values_are_left_to_the_thread_that_drops() {
-    for queue_of in QUEUES {
-        within_the_limit(move || {
-            let (queue, depth) = (queue_of(8), Arc::<Depth>::default());
-            let (entered, waits) = channel();
-            let (goes_on, may_go_on) = channel::<()>();
-            let may_go_on = std::sync::Mutex::new(may_go_on);
-            let slow = Node::that(&depth, move || {
-                entered.send(()).expect("a test");
-                may_go_on.lock().expect("a lock").recv().expect("a test");
-            });
-            let keys = [queue.insert(slow, 10), queue.insert(Node::quiet(&depth), 10)];
-            queue.cancel_all(&keys);
-            let other = queue.clone();
-            let first = keys[0];
-            let runs = thread::spawn(move || other.reap(&first));
-            waits.recv().expect("a drop");
-            queue.reap(&keys[1]);
-            assert_eq!((depth.drops.load(SeqCst), queue.aside()), (1, 1), "it is left");
-            goes_on.send(()).expect("a thread");
-            runs.join().expect("a thread");
-            assert_eq!((depth.drops.load(SeqCst), queue.aside()), (2, 0));
+    within_the_limit(move || {
+        let (queue, depth) = (Queue::of(8), Arc::<Depth>::default());
+        let (entered, waits) = channel();
+        let (goes_on, may_go_on) = channel::<()>();
+        let may_go_on = std::sync::Mutex::new(may_go_on);
+        let slow = Node::that(&depth, move || {
+            entered.send(()).expect("a test");
+            may_go_on.lock().expect("a lock").recv().expect("a test");
         });
-    }
+        let keys = [queue.insert(slow, 10), queue.insert(Node::quiet(&depth), 10)];
+        queue.cancel_all(&keys);
+        let other = queue.clone();
+        let first = keys[0];
+        let runs = thread::spawn(move || other.reap(&first));
+        waits.recv().expect("a drop");
+        queue.reap(&keys[1]);
+        assert_eq!((depth.drops.load(SeqCst), queue.aside()), (1, 1), "it is left");
+        goes_on.send(()).expect("a thread");
+        runs.join().expect("a thread");
+        assert_eq!((depth.drops.load(SeqCst), queue.aside()), (2, 0));
+    });
 }
 
 /// Calls that let go of what was cancelled.
-const LETS_GO: [fn(&AnyQueue); 3] = [
+const LETS_GO: [fn(&Queue); 3] = [
     |queue| assert_eq!(queue.sweep(), 40),
     |queue| assert_eq!(queue.clear(), 0),
     |queue| assert!(queue.poll(10).is_none()),
@@ -282,26 +245,24 @@ const LETS_GO: [fn(&AnyQueue); 3] = [
 // Where a drop panics what was taken out with it is dropped too, once each, and a later call drops what is left.
 #[test]
 fn a_drop_panics_among_many() {
-    for queue_of in QUEUES {
-        for lets_go in LETS_GO {
-            for panicking in [0, 5, 15, 16, 39] {
-                within_the_limit(move || {
-                    let (queue, depth) = (queue_of(64), Arc::<Depth>::default());
-                    let keys: Vec<_> = (0..40)
-                        .map(|at| match at == panicking {
-                            true => queue.insert(Node::that_panics(&depth), 5),
-                            false => queue.insert(Node::quiet(&depth), 5),
-                        })
-                        .collect();
-                    queue.cancel_all(&keys);
-                    assert_eq!(panics(|| lets_go(&queue)), "a value's drop");
-                    let (dropped, left) = (depth.drops.load(SeqCst), queue.aside() as u64);
-                    assert_eq!(dropped + left, 40, "none is lost");
-                    queue.sweep();
-                    assert!(queue.poll(10).is_none());
-                    assert_eq!((depth.drops.load(SeqCst), queue.aside()), (40, 0));
-                });
-            }
+    for lets_go in LETS_GO {
+        for panicking in [0, 5, 15, 16, 39] {
+            within_the_limit(move || {
+                let (queue, depth) = (Queue::of(64), Arc::<Depth>::default());
+                let keys: Vec<_> = (0..40)
+                    .map(|at| match at == panicking {
+                        true => queue.insert(Node::that_panics(&depth), 5),
+                        false => queue.insert(Node::quiet(&depth), 5),
+                    })
+                    .collect();
+                queue.cancel_all(&keys);
+                assert_eq!(panics(|| lets_go(&queue)), "a value's drop");
+                let (dropped, left) = (depth.drops.load(SeqCst), queue.aside() as u64);
+                assert_eq!(dropped + left, 40, "none is lost");
+                queue.sweep();
+                assert!(queue.poll(10).is_none());
+                assert_eq!((depth.drops.load(SeqCst), queue.aside()), (40, 0));
+            });
         }
     }
 }
@@ -309,29 +270,27 @@ fn a_drop_panics_among_many() {
 // A value's drop panics while another call has left its own to it: a later call drops that one.
 #[test]
 fn a_later_call_drops_what_was_left_to_a_drop_that_panicked() {
-    for queue_of in QUEUES {
-        within_the_limit(move || {
-            let (queue, depth) = (queue_of(8), Arc::<Depth>::default());
-            let other = queue.insert(Node::quiet(&depth), 10);
-            let by_drop = queue.clone();
-            let first = queue.insert(
-                Node::that(&depth, move || {
-                    by_drop.reap(&other);
-                    panic!("a value's drop");
-                }),
-                10,
-            );
-            queue.cancel_all(&[other, first]);
-            assert_eq!(panics(|| queue.reap(&first)), "a value's drop");
-            assert_eq!((depth.drops.load(SeqCst), queue.aside()), (1, 1));
-            assert!(queue.poll(10).is_none());
-            assert_eq!((depth.drops.load(SeqCst), queue.aside()), (2, 0));
-        });
-    }
+    within_the_limit(move || {
+        let (queue, depth) = (Queue::of(8), Arc::<Depth>::default());
+        let other = queue.insert(Node::quiet(&depth), 10);
+        let by_drop = queue.clone();
+        let first = queue.insert(
+            Node::that(&depth, move || {
+                by_drop.reap(&other);
+                panic!("a value's drop");
+            }),
+            10,
+        );
+        queue.cancel_all(&[other, first]);
+        assert_eq!(panics(|| queue.reap(&first)), "a value's drop");
+        assert_eq!((depth.drops.load(SeqCst), queue.aside()), (1, 1));
+        assert!(queue.poll(10).is_none());
+        assert_eq!((depth.drops.load(SeqCst), queue.aside()), (2, 0));
+    });
 }
 
 /// A value is set aside in a shard of two slots, and no place is known for it but its own: a poll left it that gave an entry.
-fn one_aside(queue: &AnyQueue, value: Node, depth: &Arc<Depth>) {
+fn one_aside(queue: &Queue, value: Node, depth: &Arc<Depth>) {
     let cancelled = queue.insert(value, 5);
     queue.cancel_all(&[cancelled]);
     queue.insert(Node::quiet(depth), 10);
@@ -342,86 +301,65 @@ fn one_aside(queue: &AnyQueue, value: Node, depth: &Arc<Depth>) {
 // An insert may drop another value, whose slot it takes: a drop that panics loses no key and neither value.
 #[test]
 fn a_drop_panics_in_an_insert() {
-    for queue_of in QUEUES {
-        within_the_limit(move || {
-            let (queue, depth) = (queue_of(2), Arc::<Depth>::default());
-            one_aside(&queue, Node::that_panics(&depth), &depth);
-            let mut panics = 0;
-            for when in [30, 31] {
-                let (linked, is_dropped) = (queue.linked(), Arc::new(AtomicBool::new(false)));
-                let was_dropped = is_dropped.clone();
-                let value = Node::that(&depth, move || was_dropped.store(true, SeqCst));
-                if catch_unwind(AssertUnwindSafe(|| queue.insert(value, when))).is_ok() {
-                    assert_eq!(queue.linked(), linked + 1);
-                    continue;
-                }
-                panics += 1;
-                assert_eq!(queue.linked(), linked, "nothing is in without a key");
-                assert!(is_dropped.load(SeqCst), "the new value is dropped as any argument is");
+    within_the_limit(move || {
+        let (queue, depth) = (Queue::of(2), Arc::<Depth>::default());
+        one_aside(&queue, Node::that_panics(&depth), &depth);
+        let mut panics = 0;
+        for when in [30, 31] {
+            let (linked, is_dropped) = (queue.linked(), Arc::new(AtomicBool::new(false)));
+            let was_dropped = is_dropped.clone();
+            let value = Node::that(&depth, move || was_dropped.store(true, SeqCst));
+            if catch_unwind(AssertUnwindSafe(|| queue.insert(value, when))).is_ok() {
+                assert_eq!(queue.linked(), linked + 1);
+                continue;
             }
-            assert_eq!((panics, queue.linked(), queue.aside()), (1, 1, 0));
-            let key = queue.insert(Node::quiet(&depth), 30);
-            queue.cancel_all(&[key]);
-            assert_eq!((queue.sweep(), queue.linked(), queue.aside()), (1, 1, 0));
-        });
-    }
+            panics += 1;
+            assert_eq!(queue.linked(), linked, "nothing is in without a key");
+            assert!(is_dropped.load(SeqCst), "the new value is dropped as any argument is");
+        }
+        assert_eq!((panics, queue.linked(), queue.aside()), (1, 1, 0));
+        let key = queue.insert(Node::quiet(&depth), 30);
+        queue.cancel_all(&[key]);
+        assert_eq!((queue.sweep(), queue.linked(), queue.aside()), (1, 1, 0));
+    });
 }
 
 // The drop of the value in whose slot an insert goes leaves another one there, in a shard that is full again. That one
 // is dropped before the insert too: where it panics, nothing is in without a key.
 #[test]
 fn a_drop_leaves_another_value_where_an_insert_goes() {
-    for queue_of in QUEUES {
-        within_the_limit(move || {
-            let (queue, depth) = (queue_of(2), Arc::<Depth>::default());
-            let (by_drop, nested) = (queue.clone(), depth.clone());
-            let leaves_another = Node::that(&depth, move || {
-                let cancelled = by_drop.insert(Node::that_panics(&nested), 20);
-                by_drop.cancel_all(&[cancelled]);
-                drop(by_drop.poll(30).expect("an entry is due"));
-                by_drop.insert(Node::quiet(&nested), 100);
-            });
-            one_aside(&queue, leaves_another, &depth);
-            queue.insert(Node::quiet(&depth), 30);
-            assert_eq!(panics(|| queue.insert(Node::quiet(&depth), 101)), "a value's drop");
-            assert_eq!((queue.aside(), queue.linked()), (0, 1));
-            let key = queue.insert(Node::quiet(&depth), 101);
-            queue.cancel_all(&[key]);
-            assert_eq!((queue.sweep(), queue.linked(), queue.aside()), (1, 1, 0));
+    within_the_limit(move || {
+        let (queue, depth) = (Queue::of(2), Arc::<Depth>::default());
+        let (by_drop, nested) = (queue.clone(), depth.clone());
+        let leaves_another = Node::that(&depth, move || {
+            let cancelled = by_drop.insert(Node::that_panics(&nested), 20);
+            by_drop.cancel_all(&[cancelled]);
+            drop(by_drop.poll(30).expect("an entry is due"));
+            by_drop.insert(Node::quiet(&nested), 100);
         });
-    }
-}
-
-// A shard that is closed drops nobody's value: the value comes back.
-#[test]
-fn an_insert_at_a_closed_shard_drops_nothing() {
-    within_the_limit(|| {
-        let (queue, depth) = (lasting(2), Arc::<Depth>::default());
-        one_aside(&queue, Node::that_panics(&depth), &depth);
-        // The only slot that is free is the value's then.
+        one_aside(&queue, leaves_another, &depth);
         queue.insert(Node::quiet(&depth), 30);
-        queue.close();
-        queue.insert(Node::quiet(&depth), 30);
-        assert_eq!((depth.drops.load(SeqCst), queue.aside()), (1, 1));
-        assert_eq!(panics(|| queue.sweep()), "a value's drop");
+        assert_eq!(panics(|| queue.insert(Node::quiet(&depth), 101)), "a value's drop");
+        assert_eq!((queue.aside(), queue.linked()), (0, 1));
+        let key = queue.insert(Node::quiet(&depth), 101);
+        queue.cancel_all(&[key]);
+        assert_eq!((queue.sweep(), queue.linked(), queue.aside()), (1, 1, 0));
     });
 }
 
 // What came out of a poll for many isn't lost by a drop that panics.
 #[test]
 fn a_poll_for_many_that_gives_drops_nothing() {
-    for queue_of in QUEUES {
-        within_the_limit(move || {
-            let (queue, depth) = (queue_of(8), Arc::<Depth>::default());
-            let cancelled = [queue.insert(Node::that_panics(&depth), 5)];
-            queue.cancel_all(&cancelled);
-            queue.insert(Node::quiet(&depth), 10);
-            let mut row = Vec::with_capacity(4);
-            queue.poll_many(10, &mut row);
-            assert_eq!((row.len(), depth.drops.load(SeqCst), queue.aside()), (1, 0, 1));
-            row.clear();
-            assert_eq!(panics(|| queue.poll_many(10, &mut row)), "a value's drop");
-            assert_eq!((depth.drops.load(SeqCst), queue.aside()), (2, 0));
-        });
-    }
+    within_the_limit(move || {
+        let (queue, depth) = (Queue::of(8), Arc::<Depth>::default());
+        let cancelled = [queue.insert(Node::that_panics(&depth), 5)];
+        queue.cancel_all(&cancelled);
+        queue.insert(Node::quiet(&depth), 10);
+        let mut row = Vec::with_capacity(4);
+        queue.poll_many(10, &mut row);
+        assert_eq!((row.len(), depth.drops.load(SeqCst), queue.aside()), (1, 0, 1));
+        row.clear();
+        assert_eq!(panics(|| queue.poll_many(10, &mut row)), "a value's drop");
+        assert_eq!((depth.drops.load(SeqCst), queue.aside()), (2, 0));
+    });
 }

@@ -1,11 +1,10 @@
-//! What is let go in a shard is dropped by the call that let it go, or by a later one where a drop panics: at each shard and
-//! each place, the last one too.
+//! What is let go in a shard is dropped by the call that let it go, or by a later one where a drop panics: at each shard, the
+//! last one too.
 
 use super::kit::{panics, within_the_limit, Drops, Value};
-use hontkhale::lasting::{LastingConfig, LastingQueue, LastingStream, OpenError};
-use hontkhale::owner::{Expired, Key, Piece, Turn};
-use hontkhale::shards::{QueueConfig, SharedDelayQueue};
-use hontkhale::streams::{ExpiredStream, TickSource};
+use hontkhale::parts::owner::{Expired, Key, Piece, Turn};
+use hontkhale::parts::shards::{QueueConfig, SharedDelayQueue};
+use hontkhale::parts::streams::{ExpiredStream, TickSource};
 use std::num::NonZeroU32;
 use std::task::{Context, Poll, Waker};
 
@@ -13,14 +12,8 @@ const PLACES: usize = 3;
 
 type Shared = SharedDelayQueue<Value>;
 
-type Lasting = LastingQueue<Value>;
-
 fn shared() -> Shared {
     Shared::new(QueueConfig::of(PLACES, 8)).expect("a queue")
-}
-
-fn lasting() -> Lasting {
-    Lasting::new(LastingConfig::of(PLACES, 8)).expect("a queue")
 }
 
 // A cancelled entry at a place, with this value.
@@ -32,6 +25,10 @@ macro_rules! cancelled {
         handle.give_back();
         key
     }};
+}
+
+fn aside(queue: &Shared, place: usize) -> usize {
+    queue.enter(place).expect("a shard").aside()
 }
 
 fn steps() -> NonZeroU32 {
@@ -49,8 +46,8 @@ impl TickSource for Ten {
 
 // Whether a stream of a place gives an entry.
 macro_rules! polls {
-    ($stream:ident, $queue:expr, $place:expr, $paced:ident) => {{
-        let Ok(stream) = $stream::new($queue, $place, Ten) else {
+    ($queue:expr, $place:expr, $paced:ident) => {{
+        let Ok(stream) = ExpiredStream::new($queue, $place, Ten) else {
             panic!("a stream")
         };
         let mut stream = $paced!(stream);
@@ -83,23 +80,23 @@ fn row_of_one() -> Vec<Expired<Value>> {
 
 // Each call lets two cancelled entries of a place go. Then the drop of one of three panics in a sweep of it.
 macro_rules! lets_go {
-    ($made:ident, $aside:expr, $($call:expr,)*) => {
+    ($($call:expr,)*) => {
         for place in 0..PLACES {
             $({
-                let (queue, drops) = ($made(), Drops::default());
+                let (queue, drops) = (shared(), Drops::default());
                 let keys = [0, 1].map(|_| cancelled!(queue, place, drops.value()));
                 $call(&queue, place, keys);
-                let seen = (drops.count(), $aside(&queue, place));
+                let seen = (drops.count(), aside(&queue, place));
                 assert_eq!(seen, (2, 0), "place {place}: {}", stringify!($call));
             })*
-            let (queue, drops) = ($made(), Drops::default());
+            let (queue, drops) = (shared(), Drops::default());
             cancelled!(queue, place, drops.value_that_panics());
             cancelled!(queue, place, drops.value());
             cancelled!(queue, place, drops.value());
             assert_eq!(panics(|| queue.sweep(place)), "a value's drop");
-            assert_eq!(drops.count() + $aside(&queue, place) as u64, 3, "none is lost");
+            assert_eq!(drops.count() + aside(&queue, place) as u64, 3, "none is lost");
             assert_eq!(queue.sweep(place), Ok(0));
-            assert_eq!((drops.count(), $aside(&queue, place)), (3, 0), "place {place}");
+            assert_eq!((drops.count(), aside(&queue, place)), (3, 0), "place {place}");
         }
     };
 }
@@ -109,8 +106,6 @@ macro_rules! lets_go {
 fn each_shard_drops_what_it_lets_go() {
     within_the_limit(|| {
         lets_go!(
-            shared,
-            |queue: &Shared, place| queue.enter(place).expect("a shard").aside(),
             |queue: &Shared, place, _| assert!(matches!(queue.poll(place, 10), Ok(Turn::Idle))),
             |queue: &Shared, place, _| assert!(matches!(queue.poll_some(place, 10, 100), Ok(Piece::Answer(_)))),
             |queue: &Shared, place, _| assert!(matches!(queue.poll_through(place, 10, steps()), Ok(Turn::Idle))),
@@ -120,48 +115,22 @@ fn each_shard_drops_what_it_lets_go() {
             |queue: &Shared, place, _| assert_eq!(queue.sweep_some(place, 0, 8).map(|swept| swept.reaped), Ok(2)),
             |queue: &Shared, place, _| assert_eq!(queue.clear(place), Ok(0)),
             |queue: &Shared, _, keys: [Key; 2]| keys.iter().for_each(|key| assert!(queue.reap(&key.entry()).is_ok())),
-            |queue: &Shared, place, _| assert!(!polls!(ExpiredStream, queue, place, whole)),
-            |queue: &Shared, place, _| assert!(!polls!(ExpiredStream, queue, place, paced)),
-        );
-    });
-}
-
-// promise: lasting.name-drops
-#[test]
-fn each_place_drops_what_it_lets_go() {
-    within_the_limit(|| {
-        lets_go!(
-            lasting,
-            |queue: &Lasting, place| queue.aside(place).expect("a place"),
-            |queue: &Lasting, place, _| assert!(matches!(queue.poll(place, 10), Ok(Turn::Idle))),
-            |queue: &Lasting, place, _| assert!(matches!(queue.poll_some(place, 10, 100), Ok(Piece::Answer(_)))),
-            |queue: &Lasting, place, _| assert!(matches!(queue.poll_through(place, 10, steps()), Ok(Turn::Idle))),
-            |queue: &Lasting, place, _| assert!(queue.poll_many(place, 10, &mut Vec::with_capacity(4)).is_ok()),
-            |queue: &Lasting, place, _| assert!(queue.poll_many(place, 10, &mut row_of_one()).is_ok()),
-            |queue: &Lasting, place, _| assert_eq!(queue.sweep(place), Ok(2)),
-            |queue: &Lasting, place, _| assert_eq!(queue.sweep_some(place, 0, 8).map(|swept| swept.reaped), Ok(2)),
-            |queue: &Lasting, place, _| assert_eq!(queue.clear(place), Ok(0)),
-            |queue: &Lasting, _, keys: [Key; 2]| keys.iter().for_each(|key| assert!(queue.reap(&key.entry()).is_ok())),
-            |queue: &Lasting, place, _| {
-                queue.close(place).expect("a place");
-                queue.keep_going().expect("memory");
-            },
-            |queue: &Lasting, place, _| assert!(!polls!(LastingStream, queue, place, whole)),
-            |queue: &Lasting, place, _| assert!(!polls!(LastingStream, queue, place, paced)),
+            |queue: &Shared, place, _| assert!(!polls!(queue, place, whole)),
+            |queue: &Shared, place, _| assert!(!polls!(queue, place, paced)),
         );
     });
 }
 
 // Each call gives an entry, and reaps a value before whose drop panics: it would lose the entry.
 macro_rules! gives {
-    ($made:ident, $aside:expr, $($call:expr,)*) => {
+    ($($call:expr,)*) => {
         for place in 0..PLACES {
             $({
-                let (queue, drops) = ($made(), Drops::default());
+                let (queue, drops) = (shared(), Drops::default());
                 cancelled!(queue, place, drops.value_that_panics());
                 queue.insert_or_drop(place as u64, drops.value(), 10).expect("room");
                 assert!($call(&queue, place), "place {place}: {}", stringify!($call));
-                let seen = (drops.count(), $aside(&queue, place));
+                let seen = (drops.count(), aside(&queue, place));
                 assert_eq!(seen, (1, 1), "place {place}: {}", stringify!($call));
                 (0..PLACES + 2).filter(|other| *other != place).for_each(|other| queue.drop_aside(other, 1));
                 queue.drop_aside(place, 0);
@@ -175,67 +144,24 @@ macro_rules! gives {
 fn a_poll_of_each_shard_that_gives_an_entry_drops_nothing() {
     within_the_limit(|| {
         gives!(
-            shared,
-            |queue: &Shared, place| queue.enter(place).expect("a shard").aside(),
             |queue: &Shared, place| matches!(queue.poll(place, 10), Ok(Turn::Out(_))),
             |queue: &Shared, place| matches!(queue.poll_some(place, 10, 100), Ok(Piece::Answer(Turn::Out(_)))),
             |queue: &Shared, place| matches!(queue.poll_through(place, 10, steps()), Ok(Turn::Out(_))),
-            |queue: &Shared, place| polls!(ExpiredStream, queue, place, whole),
-            |queue: &Shared, place| polls!(ExpiredStream, queue, place, paced),
+            |queue: &Shared, place| polls!(queue, place, whole),
+            |queue: &Shared, place| polls!(queue, place, paced),
         );
     });
-}
-
-#[test]
-fn a_poll_of_each_place_that_gives_an_entry_drops_nothing() {
-    within_the_limit(|| {
-        gives!(
-            lasting,
-            |queue: &Lasting, place| queue.aside(place).expect("a place"),
-            |queue: &Lasting, place| matches!(queue.poll(place, 10), Ok(Turn::Out(_))),
-            |queue: &Lasting, place| matches!(queue.poll_some(place, 10, 100), Ok(Piece::Answer(Turn::Out(_)))),
-            |queue: &Lasting, place| matches!(queue.poll_through(place, 10, steps()), Ok(Turn::Out(_))),
-            |queue: &Lasting, place| polls!(LastingStream, queue, place, whole),
-            |queue: &Lasting, place| polls!(LastingStream, queue, place, paced),
-        );
-    });
-}
-
-// A piece that has more to do drops what it reaped. At the end an entry is given.
-macro_rules! works {
-    ($made:ident, $aside:expr) => {
-        for place in 0..PLACES {
-            let (queue, drops) = ($made(), Drops::default());
-            cancelled!(queue, place, drops.value());
-            queue.insert_or_drop(place as u64, drops.value(), 10).expect("room");
-            let mut pieces = 0;
-            while matches!(queue.poll_some(place, 10, 1), Ok(Piece::Working)) {
-                assert_eq!($aside(&queue, place), 0, "place {place}");
-                pieces += 1;
-            }
-            assert!(pieces > 1 && queue.clear(place) == Ok(0));
-            assert_eq!(drops.count(), 2);
-        }
-    };
-}
-
-#[test]
-fn a_piece_of_a_poll_drops_what_it_reaps() {
-    within_the_limit(|| {
-        works!(shared, |queue: &Shared, place| queue
-            .enter(place)
-            .expect("a shard")
-            .aside())
-    });
-    within_the_limit(|| works!(lasting, |queue: &Lasting, place| queue.aside(place).expect("a place")));
 }
 
 // A place is full but for one slot, in which a value waits whose drop panics: an insert anywhere else drops it not, and one
 // there drops it before its own entry is in.
-macro_rules! makes_room {
-    ($made:ident, $aside:expr, $linked:expr) => {
+// promise: shards.name-drops
+#[test]
+fn an_insert_makes_room_in_its_own_shard() {
+    let seen = |queue: &Shared, place| (aside(queue, place), queue.tally(place).expect("a shard").linked);
+    within_the_limit(move || {
         for place in 0..PLACES {
-            let (queue, drops) = ($made(), Drops::default());
+            let (queue, drops) = (shared(), Drops::default());
             cancelled!(queue, place, drops.value_that_panics());
             queue.insert_or_drop(place as u64, drops.value(), 10).expect("room");
             assert!(matches!(queue.poll(place, 10), Ok(Turn::Out(_))));
@@ -245,35 +171,30 @@ macro_rules! makes_room {
             for other in (0..PLACES as u64).filter(|other| *other != place as u64) {
                 assert!(queue.insert_or_drop(other, drops.value(), 20).is_ok());
             }
-            assert_eq!(($aside(&queue, place), $linked(&queue, place)), (1, 7), "place {place}");
+            assert_eq!(seen(&queue, place), (1, 7), "place {place}");
             let refused = panics(|| queue.insert_or_drop(place as u64, drops.value(), 20));
             assert_eq!(refused, "a value's drop");
-            assert_eq!(($aside(&queue, place), $linked(&queue, place)), (0, 7), "place {place}");
+            assert_eq!(seen(&queue, place), (0, 7), "place {place}");
         }
-    };
-}
-
-// promise: shards.name-drops
-#[test]
-fn an_insert_makes_room_in_its_own_shard() {
-    within_the_limit(|| {
-        makes_room!(
-            shared,
-            |queue: &Shared, place| queue.enter(place).expect("a shard").aside(),
-            |queue: &Shared, place| queue.tally(place).expect("a shard").linked
-        );
     });
 }
 
-// promise: lasting.name-drops
+// A piece that has more to do drops what it reaped. At the end an entry is given.
 #[test]
-fn an_insert_makes_room_at_its_own_place() {
+fn a_piece_of_a_poll_drops_what_it_reaps() {
     within_the_limit(|| {
-        makes_room!(
-            lasting,
-            |queue: &Lasting, place| queue.aside(place).expect("a place"),
-            |queue: &Lasting, place| queue.state(place).expect("a place").linked
-        );
+        for place in 0..PLACES {
+            let (queue, drops) = (shared(), Drops::default());
+            cancelled!(queue, place, drops.value());
+            queue.insert_or_drop(place as u64, drops.value(), 10).expect("room");
+            let mut pieces = 0;
+            while matches!(queue.poll_some(place, 10, 1), Ok(Piece::Working)) {
+                assert_eq!(aside(&queue, place), 0, "place {place}");
+                pieces += 1;
+            }
+            assert!(pieces > 1 && queue.clear(place) == Ok(0));
+            assert_eq!(drops.count(), 2);
+        }
     });
 }
 
@@ -281,21 +202,5 @@ fn an_insert_makes_room_at_its_own_place() {
 fn an_insert_or_drop_that_is_refused_drops_its_value() {
     let drops = Drops::default();
     assert!(shared().insert_or_drop(0, drops.value(), u64::MAX).is_err());
-    assert!(lasting().insert_or_drop(0, drops.value(), u64::MAX).is_err());
-    assert_eq!(drops.count(), 2);
-}
-
-#[test]
-fn an_opening_drops_what_is_set_aside_where_it_is_refused() {
-    for place in 0..PLACES {
-        let (queue, drops) = (lasting(), Drops::default());
-        cancelled!(queue, place, drops.value());
-        for when in [10, 20] {
-            queue.insert_or_drop(place as u64, drops.value(), when).expect("room");
-        }
-        assert!(matches!(queue.poll(place, 10), Ok(Turn::Out(_))));
-        let refused = Err(OpenError::StillLinked { linked: 1 });
-        assert_eq!(queue.open_place(place, 4, true), refused);
-        assert_eq!((drops.count(), queue.aside(place)), (2, Ok(0)));
-    }
+    assert_eq!(drops.count(), 1);
 }

@@ -1,9 +1,8 @@
 //! A time limit, values and wakers that run code of a test, and queues of such values.
 
-use hontkhale::lasting::{LastingConfig, LastingQueue};
-use hontkhale::owner::{Key, Tally};
-use hontkhale::shards::{QueueConfig, SharedDelayQueue};
-use hontkhale::streams::{ExpiredStream, TickSource};
+use hontkhale::parts::owner::{Key, Tally};
+use hontkhale::parts::shards::{QueueConfig, SharedDelayQueue};
+use hontkhale::parts::streams::{ExpiredStream, TickSource};
 use std::any::Any;
 use std::mem::ManuallyDrop;
 use std::panic::{catch_unwind, AssertUnwindSafe};
@@ -15,8 +14,6 @@ use std::thread;
 use std::time::Duration;
 
 pub type Queue = SharedDelayQueue<Value>;
-
-pub type Lasting = LastingQueue<Value>;
 
 /// Far more than any of these tests takes on a machine under load.
 const LIMIT: Duration = Duration::from_secs(20);
@@ -166,11 +163,6 @@ pub fn queue() -> Arc<Queue> {
     Arc::new(Queue::new(QueueConfig::of(2, 8)).expect("a queue"))
 }
 
-/// A lasting queue of two shards with room for eight entries each.
-pub fn lasting() -> Arc<Lasting> {
-    Arc::new(Lasting::new(LastingConfig::of(2, 8)).expect("a queue"))
-}
-
 /// An insert into shard 0.
 pub fn insert(queue: &Queue, value: Value, when: u64) -> Key {
     queue.insert_or_drop(0, value, when).expect("room")
@@ -179,20 +171,6 @@ pub fn insert(queue: &Queue, value: Value, when: u64) -> Key {
 /// An insert into shard 0 that a handle cancels at once.
 pub fn insert_cancelled(queue: &Queue, value: Value, when: u64) -> Key {
     let key = insert(queue, value, when);
-    let mut handle = queue.handle().expect("a handle");
-    assert_eq!(handle.cancel(&key), Ok(when));
-    handle.give_back();
-    key
-}
-
-/// An insert into shard 0 of a lasting queue.
-pub fn insert_lasting(queue: &Lasting, value: Value, when: u64) -> Key {
-    queue.insert(0, value, when).unwrap_or_else(|_| panic!("room"))
-}
-
-/// An insert into shard 0 of a lasting queue that a handle cancels at once.
-pub fn insert_lasting_cancelled(queue: &Lasting, value: Value, when: u64) -> Key {
-    let key = insert_lasting(queue, value, when);
     let mut handle = queue.handle().expect("a handle");
     assert_eq!(handle.cancel(&key), Ok(when));
     handle.give_back();
@@ -214,11 +192,6 @@ pub fn park(queue: &Queue, waker: &Waker) {
         panic!("a stream")
     };
     assert!(stream.poll_next(&mut Context::from_waker(waker)).is_pending());
-}
-
-/// A task parks in shard 0 of a lasting queue at tick 0.
-pub fn park_lasting(queue: &Lasting, waker: &Waker) {
-    assert!(queue.poll_or_park(0, 0, &mut Context::from_waker(waker)).is_pending());
 }
 
 /// What was inserted has ended or is linked.
@@ -245,16 +218,6 @@ pub fn is_whole(queue: &Queue, drops: &Drops) {
     let key = insert(queue, drops.value(), 1_000);
     assert_eq!(queue.remove(&key.entry()).expect("an entry").deadline, 1_000);
     adds_up(&queue.tally(0).expect("a shard"));
-}
-
-/// Shard 0 of a lasting queue is whole.
-pub fn is_whole_lasting(queue: &Lasting, drops: &Drops) {
-    adds_up(&queue.tally(0).expect("a shard").present);
-    queue.clear(0).expect("a shard");
-    assert_eq!(queue.tally(0).expect("a shard").present.linked, 0);
-    let key = insert_lasting(queue, drops.value(), 1_000);
-    assert_eq!(queue.remove(&key.entry()).expect("an entry").deadline, 1_000);
-    adds_up(&queue.tally(0).expect("a shard").present);
 }
 
 type Call = dyn Fn() + Send + Sync;

@@ -2,7 +2,7 @@
 //! is lost by it, and the queue goes on.
 
 use super::kit::{adds_up, panics, within_the_limit, Drops, Value};
-use hontkhale::owner::{DelayCore, Key, Piece, Turn, VecWords};
+use hontkhale::parts::owner::{DelayCore, Key, Piece, Turn, VecWords};
 use std::panic::{catch_unwind, AssertUnwindSafe};
 
 const ROOM: usize = 5;

@@ -1,13 +1,9 @@
 //! Values that were let go under a lock and wait to be dropped: each is dropped once, behind the lock, and shows nowhere.
 
-use super::kit::{
-    adds_up, insert, insert_cancelled, insert_lasting, insert_lasting_cancelled, is_whole, lasting, panics, queue,
-    within_the_limit, Drops, Lasting, Queue, Value,
-};
-use hontkhale::lasting::LastingStream;
-use hontkhale::owner::{CoreConfig, CoreError, DelayCore, Piece, Turn, VecWords, CAPACITY_LIMIT};
-use hontkhale::shards::{QueueConfig, SharedDelayQueue};
-use hontkhale::streams::ExpiredStream;
+use super::kit::{adds_up, insert, insert_cancelled, is_whole, panics, queue, within_the_limit, Drops, Queue, Value};
+use hontkhale::parts::owner::{CoreConfig, CoreError, DelayCore, Piece, Turn, VecWords, CAPACITY_LIMIT};
+use hontkhale::parts::shards::{QueueConfig, SharedDelayQueue};
+use hontkhale::parts::streams::ExpiredStream;
 use std::num::NonZeroU32;
 use std::sync::atomic::{AtomicUsize, Ordering};
 use std::sync::Arc;
@@ -58,7 +54,7 @@ fn what_is_set_aside_shows_nowhere() {
             .lend(0, |shard| {
                 assert_eq!((shard.len(), shard.peek()), (0, None));
                 (0..8).for_each(|index| {
-                    let entry = hontkhale::owner::EntryId::new(0, index, 1);
+                    let entry = hontkhale::parts::owner::EntryId::new(0, index, 1);
                     assert!(shard.place(&entry).is_none() && shard.remove(&entry).is_err());
                 });
             })
@@ -193,57 +189,6 @@ fn each_call_by_name_drops_what_it_reaps() {
     lets_go_in_hand(|queue, _| assert_eq!(queue.clear(0), Ok(0)));
 }
 
-// Three cancelled values of a lasting queue, whose drops call it by name. Whatever reaps them drops each behind the lock.
-fn lets_go_at_a_place(call: impl FnOnce(&Lasting) + Send + 'static) {
-    within_the_limit(|| {
-        let (queue, drops) = (lasting(), Drops::default());
-        for when in 0..3 {
-            let by_drop = queue.clone();
-            insert_lasting_cancelled(
-                &queue,
-                drops.value_that(move || assert!(by_drop.tally(0).is_ok())),
-                when,
-            );
-        }
-        call(&queue);
-        assert_eq!((drops.count(), queue.aside(0)), (3, Ok(0)));
-    });
-}
-
-fn polls_a_stream(queue: &Lasting) {
-    let Ok(mut stream) = LastingStream::new(queue, 0, Late) else {
-        panic!("a stream")
-    };
-    assert!(stream
-        .poll_next(&mut Context::from_waker(std::task::Waker::noop()))
-        .is_pending());
-}
-
-fn polls_a_paced_stream(queue: &Lasting) {
-    let Ok(stream) = LastingStream::new(queue, 0, Late) else {
-        panic!("a stream")
-    };
-    let mut stream = stream.paced(NonZeroU32::new(100).expect("some"));
-    assert!(stream
-        .poll_next(&mut Context::from_waker(std::task::Waker::noop()))
-        .is_pending());
-}
-
-// promise: lasting.name-drops
-#[test]
-fn each_call_of_a_lasting_queue_drops_what_it_reaps() {
-    let steps = NonZeroU32::new(100).expect("some");
-    lets_go_at_a_place(polls_a_stream);
-    lets_go_at_a_place(polls_a_paced_stream);
-    lets_go_at_a_place(|queue| assert!(matches!(queue.poll(0, 10), Ok(Turn::Idle))));
-    lets_go_at_a_place(|queue| assert!(matches!(queue.poll_some(0, 10, 100), Ok(Piece::Answer(Turn::Idle)))));
-    lets_go_at_a_place(move |queue| assert!(matches!(queue.poll_through(0, 10, steps), Ok(Turn::Idle))));
-    lets_go_at_a_place(|queue| assert!(queue.poll_many(0, 10, &mut Vec::with_capacity(4)).is_ok()));
-    lets_go_at_a_place(|queue| assert_eq!(queue.sweep(0), Ok(3)));
-    lets_go_at_a_place(|queue| assert_eq!(queue.sweep_some(0, 0, 8).map(|swept| swept.reaped), Ok(3)));
-    lets_go_at_a_place(|queue| assert_eq!(queue.clear(0), Ok(0)));
-}
-
 // Seven values are set aside behind one whose drop panicked. An insert that finds no other slot drops one, and its drop
 // may call the queue: the lock is free.
 // promise: shards.name-drops
@@ -266,47 +211,10 @@ fn an_insert_drops_behind_its_lock() {
     });
 }
 
-// promise: lasting.name-drops
-#[test]
-fn an_insert_into_a_lasting_queue_drops_behind_its_lock() {
-    within_the_limit(|| {
-        let (queue, drops) = (lasting(), Drops::default());
-        insert_lasting_cancelled(&queue, drops.value_that_panics(), 10);
-        for _ in 0..7 {
-            let by_drop = queue.clone();
-            insert_lasting_cancelled(&queue, drops.value_that(move || assert!(by_drop.tally(0).is_ok())), 10);
-        }
-        assert_eq!(panics(|| queue.sweep(0)), "a value's drop");
-        let live = Drops::default();
-        for when in 0..8 {
-            insert_lasting(&queue, live.value(), 100 + when);
-        }
-        assert_eq!((drops.count(), live.count(), queue.aside(0)), (8, 0, Ok(0)));
-    });
-}
-
-// What a drop that panicked has left set aside goes with the slots of a place that opens with others. Each is dropped once,
-// and its drop may call the queue: the lock is free.
-// promise: lasting.place-opens
-#[test]
-fn a_place_that_opens_drops_behind_its_lock() {
-    within_the_limit(|| {
-        let (queue, drops) = (lasting(), Drops::default());
-        insert_lasting_cancelled(&queue, drops.value_that_panics(), 10);
-        for _ in 0..7 {
-            let by_drop = queue.clone();
-            insert_lasting_cancelled(&queue, drops.value_that(move || assert!(by_drop.tally(0).is_ok())), 10);
-        }
-        assert_eq!(panics(|| queue.sweep(0)), "a value's drop");
-        assert_eq!(queue.open_place(0, 1, true), Ok(()));
-        assert_eq!((drops.count(), queue.aside(0)), (8, Ok(0)));
-    });
-}
-
 // Always tells tick 10.
 struct Late;
 
-impl hontkhale::streams::TickSource for Late {
+impl hontkhale::parts::streams::TickSource for Late {
     fn now(&mut self) -> u64 {
         10
     }
@@ -346,19 +254,6 @@ fn a_drop_that_panics_loses_no_entry_that_came_out() {
         drop(out);
         is_whole(&queue, &drops);
         assert_eq!(drops.count(), 3);
-    });
-}
-
-#[test]
-fn a_lasting_queue_renews_a_shard_beside_what_is_set_aside() {
-    within_the_limit(|| {
-        let (queue, drops) = (lasting(), Drops::default());
-        insert_lasting_cancelled(&queue, drops.value_that_panics(), 10);
-        insert_lasting_cancelled(&queue, drops.value(), 10);
-        queue.close(0).expect("a shard");
-        assert_eq!(panics(|| queue.keep_going()), "a value's drop");
-        queue.keep_going().expect("memory");
-        assert_eq!(drops.count(), 2, "a shard that is opened again lets go of the rest");
     });
 }
 

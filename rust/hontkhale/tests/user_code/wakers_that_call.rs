@@ -2,11 +2,9 @@
 //! shard's lock.
 
 use super::kit::{
-    insert, insert_cancelled, insert_lasting, insert_lasting_cancelled, is_whole, is_whole_lasting, lasting, panics,
-    park, park_lasting, queue, waker_that, within_the_limit, Drops, Lasting, Queue, Task, Zero,
+    insert, insert_cancelled, is_whole, panics, park, queue, waker_that, within_the_limit, Drops, Queue, Task,
 };
-use hontkhale::lasting::LastingStream;
-use hontkhale::streams::{ExpiredStream, TickSource};
+use hontkhale::parts::streams::{ExpiredStream, TickSource};
 use std::num::NonZeroU32;
 use std::sync::atomic::{AtomicU64, Ordering::SeqCst};
 use std::sync::Arc;
@@ -28,20 +26,9 @@ fn of_shard<S: TickSource>(queue: &Queue, source: S) -> ExpiredStream<'_, super:
     ExpiredStream::new(queue, 0, source).ok().expect("a shard")
 }
 
-fn of_place<S: TickSource>(queue: &Lasting, source: S) -> LastingStream<'_, super::kit::Value, S> {
-    LastingStream::new(queue, 0, source).ok().expect("a place")
-}
-
 const POLLS: &[Polls<Queue>] = &[
     |queue, cx| drop(of_shard(queue, Ten).poll_next(cx)),
     |queue, cx| drop(of_shard(queue, Ten).paced(NonZeroU32::MIN).poll_next(cx)),
-];
-
-const LASTING_POLLS: &[Polls<Lasting>] = &[
-    |queue, cx| drop(queue.poll_or_park(0, 10, cx)),
-    |queue, cx| drop(queue.poll_some_or_park(0, 10, 1, cx)),
-    |queue, cx| drop(of_place(queue, Ten).poll_next(cx)),
-    |queue, cx| drop(of_place(queue, Ten).paced(NonZeroU32::MIN).poll_next(cx)),
 ];
 
 /// Polls twice by each of two wakers that call: where an entry is due, where there is more to do, where nothing is due,
@@ -74,29 +61,6 @@ fn a_waker_calls_in_each_stream() {
             polls(&calls, &wakers, |cx| poll(&queue, cx));
             drop(wakers);
             is_whole(&queue, &drops);
-        });
-    }
-}
-
-#[test]
-fn a_waker_calls_in_each_poll_of_a_place() {
-    for poll in LASTING_POLLS {
-        within_the_limit(move || {
-            let (queue, drops, calls) = (lasting(), Drops::default(), Arc::<AtomicU64>::default());
-            let wakers = [(); 2].map(|()| {
-                let (by_waker, calls) = (queue.clone(), calls.clone());
-                waker_that(move || {
-                    calls.fetch_add(1, SeqCst);
-                    assert!(by_waker.tally(0).is_ok());
-                })
-            });
-            insert_lasting(&queue, drops.value(), 5);
-            insert_lasting_cancelled(&queue, drops.value(), 6);
-            insert_lasting_cancelled(&queue, drops.value(), 7);
-            insert_lasting(&queue, drops.value(), 500);
-            polls(&calls, &wakers, |cx| poll(&queue, cx));
-            drop(wakers);
-            is_whole_lasting(&queue, &drops);
         });
     }
 }
@@ -134,31 +98,6 @@ fn a_dropped_waker_calls_where_a_source_panics() {
     }
 }
 
-#[test]
-fn a_dropped_waker_calls_where_a_source_of_a_place_panics() {
-    let polls: [Polls<Lasting>; 2] = [
-        |queue, cx| drop(of_place(queue, Broken).poll_next(cx)),
-        |queue, cx| drop(of_place(queue, Broken).paced(NonZeroU32::MIN).poll_next(cx)),
-    ];
-    for poll in polls {
-        within_the_limit(move || {
-            let (queue, drops) = (lasting(), Drops::default());
-            let key = insert_lasting(&queue, drops.value(), 10);
-            let by_drop = queue.clone();
-            park_lasting(
-                &queue,
-                &Task::dropped_by(move || assert!(by_drop.remove(&key.entry()).is_ok())),
-            );
-            let woken = Task::that_counts().waker();
-            assert_eq!(panics(|| poll(&queue, &mut Context::from_waker(&woken))), "a source");
-            assert_eq!(drops.count(), 0, "who was parked stays parked");
-            assert_eq!(queue.unpark(0), Ok(true));
-            assert_eq!(drops.count(), 1);
-            is_whole_lasting(&queue, &drops);
-        });
-    }
-}
-
 // A waker's clone panics while another task is parked, whose last waker removes its own entry where it is dropped.
 fn panics_at_its_clone() -> Waker {
     let clones = AtomicU64::new(0);
@@ -189,26 +128,6 @@ fn a_dropped_waker_calls_where_a_clone_panics() {
     }
 }
 
-#[test]
-fn a_dropped_waker_calls_where_a_clone_panics_in_a_poll_of_a_place() {
-    for poll in LASTING_POLLS {
-        within_the_limit(move || {
-            let (queue, drops) = (lasting(), Drops::default());
-            let key = insert_lasting(&queue, drops.value(), 20);
-            let by_drop = queue.clone();
-            park_lasting(
-                &queue,
-                &Task::dropped_by(move || assert!(by_drop.remove(&key.entry()).is_ok())),
-            );
-            let waker = panics_at_its_clone();
-            assert_eq!(panics(|| poll(&queue, &mut Context::from_waker(&waker))), "a clone");
-            assert_eq!(queue.unpark(0), Ok(true), "who was parked stays");
-            assert_eq!(drops.count(), 1);
-            is_whole_lasting(&queue, &drops);
-        });
-    }
-}
-
 // A task that has more to do is woken behind the lock, and polls again at once.
 #[test]
 fn a_wake_polls_in_a_poll_in_pieces() {
@@ -224,25 +143,6 @@ fn a_wake_polls_in_a_poll_in_pieces() {
         assert!(stream.poll_next(&mut Context::from_waker(&waker)).is_pending());
         assert_eq!(task.wakes(), 1);
         is_whole(&queue, &drops);
-    });
-}
-
-#[test]
-fn a_wake_polls_in_a_poll_in_pieces_of_a_place() {
-    within_the_limit(|| {
-        let (queue, drops) = (lasting(), Drops::default());
-        for when in 1..5 {
-            insert_lasting_cancelled(&queue, drops.value(), when);
-        }
-        let by_wake = queue.clone();
-        let task = Task::that(move || drop(by_wake.poll_some(0, 10, 1)));
-        let waker = task.waker();
-        assert!(queue
-            .poll_some_or_park(0, 10, 1, &mut Context::from_waker(&waker))
-            .is_pending());
-        assert_eq!(task.wakes(), 1);
-        let _ = of_place(&queue, Zero);
-        is_whole_lasting(&queue, &drops);
     });
 }
 
@@ -265,39 +165,13 @@ fn a_stream_that_is_polled_on_a_shard_in_hand_wakes_nobody() {
     });
 }
 
-/// Asks the queue by name, and tells tick 10.
-struct Asks<'q>(&'q Lasting);
-
-impl TickSource for Asks<'_> {
-    fn now(&mut self) -> u64 {
-        assert!(self.0.tally(0).is_ok());
-        10
-    }
-}
-
-// A stream of a place asks its source before it takes the lock.
-#[test]
-fn a_source_of_a_place_calls_the_queue() {
-    within_the_limit(|| {
-        let (queue, drops) = (lasting(), Drops::default());
-        insert_lasting(&queue, drops.value(), 20);
-        let mut cx = Context::from_waker(Waker::noop());
-        let mut stream = of_place(&queue, Asks(&queue));
-        assert!(stream.poll_next(&mut cx).is_pending());
-        assert!(stream.paced(NonZeroU32::MIN).poll_next(&mut cx).is_pending());
-    });
-}
-
 #[test]
 fn who_is_taken_out_is_not_woken() {
     within_the_limit(|| {
-        let (shared, lasting, drops, task) = (queue(), lasting(), Drops::default(), Task::that_counts());
-        insert(&shared, drops.value(), 20);
-        insert_lasting(&lasting, drops.value(), 20);
-        park(&shared, &task.waker());
-        park_lasting(&lasting, &task.waker());
-        assert!(shared.enter(0).expect("a shard").unpark());
-        assert_eq!(lasting.unpark(0), Ok(true));
+        let (queue, drops, task) = (queue(), Drops::default(), Task::that_counts());
+        insert(&queue, drops.value(), 20);
+        park(&queue, &task.waker());
+        assert!(queue.enter(0).expect("a shard").unpark());
         assert_eq!(task.wakes(), 0);
     });
 }

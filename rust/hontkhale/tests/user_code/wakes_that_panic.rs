@@ -1,10 +1,7 @@
 //! A wake panics inside a call: the panic comes out of the call, whose work is done, and the shard is whole.
 
-use super::kit::{
-    insert, insert_lasting, is_whole, is_whole_lasting, lasting, panics, park, park_lasting, queue, within_the_limit,
-    Drops, Lasting, Queue, Task,
-};
-use hontkhale::owner::Tally;
+use super::kit::{insert, is_whole, panics, park, queue, within_the_limit, Drops, Queue, Task};
+use hontkhale::parts::owner::Tally;
 
 // Shard 0 has an entry that is due at 10, and a poller whose wake panics inside a call. What the shard tells then.
 fn is_done<T>(call: impl FnOnce(&Queue, &Drops) -> T + Send + 'static, tells: impl FnOnce(Tally) + Send + 'static) {
@@ -36,7 +33,7 @@ fn a_wake_panics_in_insert() {
 
 #[test]
 fn a_wake_panics_in_remove() {
-    let first = hontkhale::owner::EntryId::new(0, 0, 1);
+    let first = hontkhale::parts::owner::EntryId::new(0, 0, 1);
     is_done(
         move |queue, _| queue.remove(&first),
         |tally| assert_eq!((tally.linked, tally.removed), (0, 1)),
@@ -45,7 +42,7 @@ fn a_wake_panics_in_remove() {
 
 #[test]
 fn a_wake_panics_in_reset() {
-    let first = hontkhale::owner::EntryId::new(0, 0, 1);
+    let first = hontkhale::parts::owner::EntryId::new(0, 0, 1);
     is_done(
         move |queue, _| queue.reset(&first, 3),
         |tally| assert_eq!(tally.linked, 1),
@@ -66,42 +63,4 @@ fn a_wake_panics_in_poll() {
         |queue, _| queue.poll(0, 10),
         |tally| assert_eq!((tally.linked, tally.expired), (0, 1)),
     );
-}
-
-// Likewise of a lasting queue.
-fn is_done_lasting<T>(
-    call: impl FnOnce(&Lasting, &Drops) -> T + Send + 'static,
-    tells: impl FnOnce(Tally) + Send + 'static,
-) {
-    within_the_limit(move || {
-        let (queue, drops, task) = (lasting(), Drops::default(), Task::that_panics());
-        insert_lasting(&queue, drops.value(), 10);
-        park_lasting(&queue, &task.waker());
-        assert_eq!(panics(|| call(&queue, &drops)), "a wake");
-        tells(queue.tally(0).expect("a shard").present);
-        queue.clear(0).expect("a shard");
-        for _ in 0..3 {
-            queue.keep_going().expect("memory");
-        }
-        is_whole_lasting(&queue, &drops);
-        assert_eq!(task.wakes(), 1, "it is woken once");
-    });
-}
-
-#[test]
-fn a_wake_panics_in_an_insert_of_a_lasting_queue() {
-    is_done_lasting(
-        |queue, drops| insert_lasting(queue, drops.value(), 5),
-        |tally| assert_eq!(tally.linked, 2),
-    );
-}
-
-#[test]
-fn a_wake_panics_in_a_ring_of_a_lasting_queue() {
-    is_done_lasting(|queue, _| queue.ring(0, 10), |tally| assert_eq!(tally.linked, 1));
-}
-
-#[test]
-fn a_wake_panics_in_close() {
-    is_done_lasting(|queue, _| queue.close(0), |tally| assert_eq!(tally.linked, 1));
 }

@@ -69,15 +69,6 @@ CREATE TABLE IF NOT EXISTS jobs_kinds (
     most_delay double precision NOT NULL DEFAULT 600 CHECK (most_delay BETWEEN 0 AND 31536000)
 );
 
--- STEP: whether a job that has failed so often is dead.
-CREATE OR REPLACE FUNCTION jobs_is_last(attempt integer, attempts integer, kind text, otherwise integer) RETURNS boolean
-STABLE
-BEGIN ATOMIC
-    SELECT jobs_is_last.attempt >= coalesce(
-        jobs_is_last.attempts, (SELECT k.attempts FROM jobs_kinds k WHERE k.kind = jobs_is_last.kind), otherwise
-    );
-END;
-
 -- STEP: an index whose making was broken off is made again.
 DO $$ BEGIN
     IF EXISTS (SELECT FROM pg_index WHERE indexrelid = to_regclass('jobs_over') AND NOT indisvalid) THEN

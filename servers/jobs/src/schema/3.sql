@@ -51,15 +51,30 @@ BEGIN
         -- Where both days are named, either will do.
         CONTINUE WHEN NOT CASE WHEN fields[3] <> '*' AND fields[5] <> '*' THEN by_day OR by_weekday
             ELSE by_day AND by_weekday END;
-        SELECT min(at) INTO found
-        FROM (
-            SELECT CASE WHEN earlier.at AT TIME ZONE zone = local.time AND left(fields[2], 1) = '*' AND earlier.at > since
-                THEN earlier.at ELSE local.time AT TIME ZONE zone END AS at
-            FROM unnest(hours) hour, unnest(minutes) minute,
-                LATERAL (SELECT day + make_interval(hours => hour, mins => minute) AS time) local,
-                LATERAL (SELECT (local.time AT TIME ZONE zone) - interval '1 hour' AS at) earlier
-        ) times
-        WHERE at > since;
+        IF (day + 2)::timestamp AT TIME ZONE zone - (day - 1)::timestamp AT TIME ZONE zone = interval '72 hours' THEN
+            -- No clock is changed near it.
+            SELECT (day + make_interval(mins => min(60 * hour + minute))) AT TIME ZONE zone INTO found
+            FROM unnest(hours) hour, unnest(minutes) minute
+            WHERE day + make_interval(mins => 60 * hour + minute) > since AT TIME ZONE zone;
+        ELSE
+            SELECT min(at) INTO found
+            FROM (
+                -- A local time comes earlier, too, where it was by what the zone's clocks were ahead a day before.
+                SELECT CASE WHEN earlier.at AT TIME ZONE zone = local.time AND left(fields[2], 1) = '*' AND earlier.at > since
+                    THEN earlier.at ELSE later.at END AS at
+                FROM (
+                    -- No clock is changed by more than three hours: later ones of the day aren't the first.
+                    SELECT hour FROM unnest(hours) hour
+                    WHERE day > today OR hour >= extract(hour FROM since AT TIME ZONE zone) - 3 ORDER BY hour LIMIT 8
+                ) near, unnest(minutes) minute,
+                    LATERAL (SELECT day + make_interval(hours => hour, mins => minute) AS time) local,
+                    LATERAL (SELECT local.time AT TIME ZONE zone AS at) later,
+                    LATERAL (SELECT later.at - interval '24 hours' AS at) before,
+                    LATERAL (SELECT before.at AT TIME ZONE zone - before.at AT TIME ZONE 'UTC' AS it) ahead,
+                    LATERAL (SELECT (local.time - ahead.it) AT TIME ZONE 'UTC' AS at) earlier
+            ) times
+            WHERE at > since;
+        END IF;
         IF found IS NOT NULL THEN
             RETURN found;
         END IF;
@@ -109,6 +124,20 @@ ALTER TABLE jobs_kinds ADD COLUMN IF NOT EXISTS paused boolean NOT NULL DEFAULT 
 ALTER TABLE jobs_kinds ADD COLUMN IF NOT EXISTS at_most integer CHECK (at_most > 0);
 ALTER TABLE jobs_kinds ALTER COLUMN most_delay SET DEFAULT 31536000;
 
+-- STEP: an attempt more can be counted of each job that waits.
+ALTER TABLE jobs DROP CONSTRAINT IF EXISTS jobs_attempt_counts;
+ALTER TABLE jobs ADD CONSTRAINT jobs_attempt_counts
+    CHECK (attempt BETWEEN 0 AND 1000000000 AND (state <> 'waiting' OR attempt < 1000000000)) NOT VALID;
+
+-- STEP: whether a job that has failed so often is dead.
+CREATE OR REPLACE FUNCTION jobs_is_last(attempt integer, attempts integer, kind text, otherwise integer) RETURNS boolean
+STABLE
+BEGIN ATOMIC
+    SELECT jobs_is_last.attempt >= least(1000000000, coalesce(
+        jobs_is_last.attempts, (SELECT k.attempts FROM jobs_kinds k WHERE k.kind = jobs_is_last.kind), otherwise
+    ));
+END;
+
 -- STEP: whoever changes a kind has the workers read the table.
 CREATE OR REPLACE FUNCTION jobs_tell_kinds() RETURNS trigger LANGUAGE plpgsql SET search_path FROM CURRENT AS $$
 BEGIN
@@ -152,6 +181,30 @@ BEGIN
         RETURN true;
     END IF;
     RETURN false;
+END
+$$;
+
+-- STEP: brings dead jobs back: they wait again, with some attempts more, whose numbers go on, since holders of the old ones may
+-- still have a word. Cancelled ones come back only by their ids. Of all that are dead of a key the last comes back.
+CREATE OR REPLACE FUNCTION jobs_retry(ids bigint[] DEFAULT NULL, more integer DEFAULT 25) RETURNS bigint
+LANGUAGE plpgsql SET search_path FROM CURRENT AS $$
+DECLARE
+    count bigint;
+BEGIN
+    UPDATE jobs SET state = 'waiting', due = clock_timestamp(), attempts = attempt + more
+    WHERE state = 'dead' AND id = ANY (ARRAY(
+        SELECT id FROM jobs j
+        WHERE state = 'dead' AND CASE WHEN ids IS NULL THEN error IS DISTINCT FROM 'cancelled' ELSE id = ANY (ids) END
+            AND (unique_key IS NULL OR NOT EXISTS (
+                SELECT FROM jobs o WHERE o.kind = j.kind AND o.unique_key = j.unique_key AND (
+                    o.state IN ('waiting', 'running')
+                    OR ids IS NULL AND o.state = 'dead' AND o.id > j.id AND o.error IS DISTINCT FROM 'cancelled'
+                )
+            ))
+        FOR NO KEY UPDATE SKIP LOCKED
+    ));
+    GET DIAGNOSTICS count = ROW_COUNT;
+    RETURN count;
 END
 $$;
 

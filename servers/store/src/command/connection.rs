@@ -3,7 +3,7 @@
 use super::scan::is_match;
 use super::{count, repeated, Answer, Client, Refusal, Words, COMMANDS};
 use crate::keyspace::Held;
-use crate::resp::{integer, Protocol, Reply};
+use crate::resp::{integer, Limits, Protocol, Reply};
 use crate::seats::Guest;
 use std::time::{Duration, SystemTime};
 
@@ -124,8 +124,6 @@ pub fn client(client: &mut Client<'_>, words: Words<'_>) -> Answer {
         (b"getname", _) => Err(of("getname")),
         (b"setname", [name]) => set_name(client, name).map(|()| Reply::Status("OK")),
         (b"setname", _) => Err(of("setname")),
-        (b"setinfo", [what, value]) => set_info(what, value),
-        (b"setinfo", _) => Err(of("setinfo")),
         (b"info", []) => Ok(Reply::Text(told_of(&client.session.guest))),
         (b"info", _) => Err(of("info")),
         (b"list", rest) => list(client, rest),
@@ -214,20 +212,6 @@ fn kill(client: &Client<'_>, mut words: Words<'_>) -> Answer {
     Ok(count(guests.len()))
 }
 
-/// What a client tells of its library is looked at and left: nobody asks for it.
-fn set_info(what: &[u8], value: &[u8]) -> Answer {
-    let what = match &what.to_ascii_lowercase()[..] {
-        b"lib-name" => "lib-name",
-        b"lib-ver" => "lib-ver",
-        _ => return Err(Refusal::ClientOption(repeated(what))),
-    };
-    if is_plain(value) {
-        Ok(Reply::Status("OK"))
-    } else {
-        Err(Refusal::LibraryName(what))
-    }
-}
-
 /// What is set and can't be changed, by the names of Redis.
 pub fn config(client: &mut Client<'_>, words: Words<'_>) -> Answer {
     if !words[1].eq_ignore_ascii_case(b"get") {
@@ -236,16 +220,16 @@ pub fn config(client: &mut Client<'_>, words: Words<'_>) -> Answer {
     if words.len() < 3 {
         return Err(Refusal::PartWordCount("config", "get"));
     }
-    let bytes = client.desk.keyspace.room().most() + client.desk.seats.room();
+    let bytes = client.desk.keyspace.room().most + client.desk.seats.room;
     let settings = &client.desk.settings;
     let seconds = |time: Option<Duration>| time.map_or(0, |it| it.as_secs()).to_string();
     let settings = [
         ("appendonly", "no".into()),
         ("databases", "1".into()),
-        ("maxclients", client.desk.seats.limit().to_string()),
+        ("maxclients", client.desk.seats.limit.to_string()),
         ("maxmemory", bytes.to_string()),
         ("maxmemory-policy", "noeviction".to_string()),
-        ("proto-max-bulk-len", crate::resp::BULK_LIMIT.to_string()),
+        ("proto-max-bulk-len", Limits::MOST.bulk.to_string()),
         ("save", String::new()),
         ("tcp-keepalive", seconds(settings.keepalive)),
         ("timeout", seconds(settings.timeout)),
@@ -272,7 +256,7 @@ pub fn command(_: &mut Client<'_>, words: Words<'_>) -> Answer {
 pub fn info(client: &mut Client<'_>, _: Words<'_>) -> Answer {
     let (keyspace, seats) = (&client.desk.keyspace, &client.desk.seats);
     let Held { keys, expires, bytes, expired, late } = keyspace.held();
-    let (version, held, room) = (env!("CARGO_PKG_VERSION"), seats.bytes(), keyspace.room().most() + seats.room());
+    let (version, held, room) = (env!("CARGO_PKG_VERSION"), seats.bytes(), keyspace.room().most + seats.room);
     let (clients, resident) = (seats.taken(), keyspace.room().resident().unwrap_or(0));
     Ok(Reply::Text(format!(
         "# Server\r\nredis_version:{REDIS_VERSION}\r\nstore_version:{version}\r\nredis_mode:standalone\r\n\r\n\

@@ -4,8 +4,8 @@ use super::{count, repeated, Answer, Client, Desk, Refusal, Words};
 use crate::clock::Tick;
 use crate::keyspace::Life;
 use crate::resp::{integer, Reply};
-use hontkhale::delay_queue::Key;
-use hontkhale::owner::LAST_TICK;
+use hontkhale::parts::owner::LAST_TICK;
+use hontkhale::Key;
 
 #[derive(Clone, Copy, PartialEq, Eq)]
 pub enum Unit {
@@ -109,7 +109,7 @@ pub fn expire(client: &mut Client<'_>, words: Words<'_>, how: &Expire) -> Answer
         return Ok(count(extend(client.desk, name, when as Tick) as usize));
     }
     client.desk.keyspace.change(name, |place| {
-        let is_allowed = place.life().is_some_and(|life| only.allow(life, when));
+        let is_allowed = place.life.is_some_and(|life| only.allow(life, when));
         Ok(count(usize::from(is_allowed && place.expire(when.max(0) as Tick)?)))
     })
 }
@@ -124,11 +124,8 @@ fn extend(desk: &mut Desk, name: &[u8], when: Tick) -> bool {
         desk.known.remove(name);
     }
     loop {
-        let entry = desk.keyspace.view(name, |record, _| record.entry());
-        let entry = match entry.flatten() {
-            None => return false,
-            Some(entry) => entry,
-        };
+        let entry = desk.keyspace.view(name, |record, _| record.entry);
+        let Some(entry) = entry.flatten() else { return false };
         if let Some(is_done) = extend_entry(desk, &entry, when) {
             desk.remember(name, entry);
             return is_done;

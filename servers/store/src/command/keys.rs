@@ -35,6 +35,14 @@ pub fn del(client: &mut Client<'_>, words: Words<'_>) -> Answer {
     Ok(count(words[1..].iter().filter(|name| change(client, name, |place| place.remove())).count()))
 }
 
+/// The holder of a lease ends it, by the value that it set.
+pub fn del_if_equal(client: &mut Client<'_>, words: Words<'_>) -> Answer {
+    change(client, words[1], |place| {
+        let is_its = place.value().is_some_and(|value| **value == *words[2]);
+        Ok(count(usize::from(is_its && place.remove())))
+    })
+}
+
 pub fn persist(client: &mut Client<'_>, words: Words<'_>) -> Answer {
     Ok(count(change(client, words[1], |place| place.persist()) as usize))
 }
@@ -82,7 +90,6 @@ enum Only<'a> {
     None,
     Some,
     Equal(&'a [u8]),
-    NotEqual(&'a [u8]),
 }
 
 impl Only<'_> {
@@ -92,7 +99,6 @@ impl Only<'_> {
             Only::None => old.is_none(),
             Only::Some => old.is_some(),
             Only::Equal(value) => old == Some(value),
-            Only::NotEqual(value) => old != Some(value),
         }
     }
 }
@@ -114,7 +120,6 @@ impl<'a> Options<'a> {
                 (b"nx", Only::Any | Only::None) => options.only = Only::None,
                 (b"xx", Only::Any | Only::Some) => options.only = Only::Some,
                 (b"ifeq", Only::Any) => options.only = Only::Equal(rest.next()?),
-                (b"ifne", Only::Any) => options.only = Only::NotEqual(rest.next()?),
                 (b"get", _) => options.is_get = true,
                 (b"keepttl", _) if options.time.is_none() => options.is_kept = true,
                 _ => return None,
@@ -170,7 +175,7 @@ impl<'a> Options<'a> {
 pub fn set(client: &mut Client<'_>, words: Words<'_>) -> Answer {
     let options = Options::of_set(&words[3..])?;
     change(client, words[1], |place| {
-        let lifetime = options.lifetime(place.now(), "set")?;
+        let lifetime = options.lifetime(place.now, "set")?;
         let old = place.value().cloned();
         let is_done = options.only.allows(old.as_deref());
         if is_done {
@@ -217,7 +222,7 @@ pub fn set_all(client: &mut Client<'_>, words: Words<'_>) -> Answer {
 pub fn set_until(client: &mut Client<'_>, words: Words<'_>, command: &'static str) -> Answer {
     let time = Time::from_now(words[2], command == "setex");
     change(client, words[1], |place| {
-        let until = time.positive(place.now(), command)?;
+        let until = time.positive(place.now, command)?;
         place.set(words[3], Lifetime::Until(until))?;
         Ok(Reply::Status("OK"))
     })
@@ -233,7 +238,7 @@ pub fn get_and_expire(client: &mut Client<'_>, words: Words<'_>) -> Answer {
         if options.is_endless {
             place.persist();
         } else if let Some(time) = &options.time {
-            if !place.expire(time.positive(place.now(), "getex")?)? {
+            if !place.expire(time.positive(place.now, "getex")?)? {
                 return Ok(Reply::Nil);
             }
         }

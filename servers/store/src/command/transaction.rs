@@ -4,7 +4,7 @@
 use super::{keys, named, names, Answer, Client, Desk, Refusal, Words};
 use crate::connection::SLICE;
 use crate::keyspace::{Claim, Claimed, Life, Value};
-use crate::resp::{Reply, PER_WORD, REQUEST_LIMIT};
+use crate::resp::{Limits, Reply, PER_WORD};
 use std::collections::{HashMap, VecDeque};
 use std::time::Instant;
 use std::vec;
@@ -70,7 +70,6 @@ const AT_ONCE: [&str; 5] = ["multi", "exec", "discard", "watch", super::QUIT];
 const MANY_NAMES: [&str; 2] = ["scan", "keys"];
 
 impl Transaction {
-    /// The memory that it holds.
     pub fn held(&self) -> usize {
         let queued = self.queue.as_ref().map_or(0, |it| it.bytes) + self.running.as_ref().map_or(0, |it| it.bytes);
         queued + self.watched_bytes + self.reply_bytes
@@ -87,7 +86,7 @@ impl Transaction {
         }
         let queue = self.queue.get_or_insert_with(Queue::default);
         queue.bytes += words.iter().map(|word| word.len() + PER_WORD).sum::<usize>();
-        if queue.bytes > REQUEST_LIMIT {
+        if queue.bytes > Limits::MOST.request {
             return Err(Refusal::LONG_TRANSACTION);
         }
         queue.requests.push(words.iter().map(|word| word.to_vec()).collect());
@@ -109,7 +108,6 @@ impl Transaction {
         next
     }
 
-    /// A request was refused.
     pub fn note_refusal(&mut self) {
         self.queue.iter_mut().for_each(|queue| queue.is_broken = true);
     }
@@ -210,7 +208,6 @@ fn begin(client: &mut Client<'_>) -> bool {
     true
 }
 
-/// Tells what was done.
 pub fn exec(client: &mut Client<'_>, _: Words<'_>) -> Answer {
     let transaction = &mut client.session.transaction;
     match (transaction.running.take(), transaction.queue.take()) {

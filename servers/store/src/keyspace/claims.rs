@@ -27,7 +27,6 @@ pub struct Claims {
 pub struct Claim(Arc<Keyspace>);
 
 impl Keyspace {
-    /// The turn of a thread that serves.
     pub fn turn(&self) -> Turn {
         let turn = Turn::default();
         self.claims.turns.write().unwrap_or_else(PoisonError::into_inner).push(turn.clone());
@@ -59,7 +58,6 @@ impl Keyspace {
         claimed.as_ref().is_some_and(|it| is_all || names.any(|name| it.is_all || it.hashes.contains(&self.hash(name))))
     }
 
-    /// Adds a name to what is to be claimed.
     pub fn add(&self, name: &[u8], to: &mut Claimed) {
         to.hashes.insert(self.hash(name));
     }

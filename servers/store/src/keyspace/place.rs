@@ -3,27 +3,19 @@
 use super::shard::{size, Record, Writer};
 use super::{Keyspace, Life, Lifetime, Name, NoRoom, Value};
 use crate::clock::Tick;
-use hontkhale::delay_queue::{Key, KeyError};
+use hontkhale::{Key, KeyError};
 
 /// A name in its shard, which is held: a live key, or a place for one.
 pub struct Place<'a, 'b> {
     pub(super) keyspace: &'a Keyspace,
     pub(super) names: &'a mut Writer<'b>,
     pub(super) name: &'a [u8],
-    pub(super) now: Tick,
-    pub(super) life: Option<Life>,
+    pub now: Tick,
+    /// How long the key lives, none where there is no such key.
+    pub life: Option<Life>,
 }
 
 impl Place<'_, '_> {
-    pub fn now(&self) -> Tick {
-        self.now
-    }
-
-    /// How long the key lives, none where there is no such key.
-    pub fn life(&self) -> Option<Life> {
-        self.life
-    }
-
     pub fn value(&self) -> Option<&Value> {
         self.names.records.get(self.name).map(|record| &record.value)
     }
@@ -133,6 +125,6 @@ impl Place<'_, '_> {
     /// Whether somebody has taken the entry out of the queue that has its deadline.
     pub fn is_out(&self) -> bool {
         let record = self.names.records.get(self.name);
-        record.and_then(Record::entry).is_some_and(|entry| self.keyspace.deadline(&entry).is_none())
+        record.and_then(|it| it.entry).is_some_and(|entry| self.keyspace.deadline(&entry).is_none())
     }
 }

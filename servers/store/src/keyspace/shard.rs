@@ -2,7 +2,7 @@
 
 use super::{Name, Value};
 use crate::room::Room;
-use hontkhale::delay_queue::Key;
+use hontkhale::Key;
 use indexmap::IndexMap;
 use std::ops::{Deref, DerefMut};
 use std::sync::atomic::{AtomicBool, AtomicUsize, Ordering::SeqCst};
@@ -17,23 +17,13 @@ const PER_KEY: usize = 192;
 pub struct Record {
     pub value: Value,
     /// The entry of the queue that has its deadline, where it expires.
-    pub(super) entry: Option<Key>,
+    pub entry: Option<Key>,
 }
 
-impl Record {
-    /// The entry that has its deadline.
-    pub fn entry(&self) -> Option<Key> {
-        self.entry
-    }
-}
-
-/// A shard's names.
 pub struct Names {
     /// The last of them takes the place of one that is taken off.
     pub(super) records: IndexMap<Name, Record>,
-    /// What the keys take.
     pub(super) bytes: usize,
-    /// The room of all shards' keys.
     pub(super) room: Arc<Room>,
     /// The keys that were taken off at their deadlines.
     pub(super) expired: u64,
@@ -43,7 +33,6 @@ pub struct Names {
 #[repr(align(128))]
 pub struct Shard {
     names: RwLock<Names>,
-    /// How many names it has.
     count: AtomicUsize,
     /// Whether the entry of a name that counts may be out of the queue.
     is_ending: AtomicBool,

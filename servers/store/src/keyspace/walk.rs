@@ -14,9 +14,7 @@ const TOP: usize = (1 << PLACE_BITS) - 1;
 #[derive(Default)]
 pub struct Held {
     pub keys: usize,
-    /// The keys that expire.
     pub expires: usize,
-    /// What the keys take.
     pub bytes: usize,
     /// The keys that were taken off at their deadlines so far.
     pub expired: u64,

@@ -10,8 +10,7 @@
 //! | `drop NAME` | `ok` or `none` |
 //! | `count` | how many entries there are |
 
-use hontkhale::delay_queue::Key;
-use hontkhale::DelayQueue;
+use hontkhale::{DelayQueue, Key};
 use std::collections::HashMap;
 use std::io::{self, BufRead, BufReader, Write};
 use std::net::{TcpListener, TcpStream};

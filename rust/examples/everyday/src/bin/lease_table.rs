@@ -13,8 +13,7 @@
 //! So whatever a lease protects should remember the greatest token that it has seen, and refuse a smaller one. A table that
 //! is started again has no lease, and its tokens begin above those of before.
 
-use hontkhale::delay_queue::Key;
-use hontkhale::DelayQueue;
+use hontkhale::{DelayQueue, Key};
 use std::collections::{HashMap, VecDeque};
 use std::io::{self, BufRead, BufReader, Write};
 use std::net::{TcpListener, TcpStream};

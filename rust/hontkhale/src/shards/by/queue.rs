@@ -74,7 +74,7 @@ impl<T, J: Rooms> NamedQueue<T, J> {
 
     // The caller's shard, with its lock held.
     #[inline]
-    fn locked_for(&self, me: &NamedCaller<T, J>) -> MutexGuard<'_, NamedShard<T, J>> {
+    pub(super) fn locked_for(&self, me: &NamedCaller<T, J>) -> MutexGuard<'_, NamedShard<T, J>> {
         if me.shard >= self.row.len() {
             panic!("the caller is of another queue");
         }

@@ -2,7 +2,7 @@
 
 use crate::tests::kit::Fail;
 use super::same;
-use crate::core::{CoreConfig, CoreError, DelayCore, VecWords, Words};
+use crate::core::{CoreConfig, CoreError, DelayCore, Steps, VecWords};
 
 // Why no queue is made of that many words, and how many came back; None where one is made.
 fn refusal(

@@ -2,7 +2,7 @@
 
 use crate::tests::kit::Fail;
 use super::same;
-use crate::core::{CallError, CoreError, Look, Settled, VecWords, Words};
+use crate::core::{CallError, CoreError, Look, Settled, Steps, VecWords};
 use crate::ticks::{EntryId, Key};
 
 // The key of an entry of shard 0 that was born at stamp 1.

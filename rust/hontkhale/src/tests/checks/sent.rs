@@ -2,7 +2,7 @@
 
 use crate::tests::kit::Fail;
 use super::same;
-use crate::core::{CallError, Words};
+use crate::core::{CallError, Steps};
 use crate::ticks::{EntryId, Key};
 use crate::words::{Caller, Keeper};
 use std::thread;

@@ -1,6 +1,6 @@
 use crate::tests::kit::Fail;
 use super::same;
-use crate::core::{CallError, Look, Settled, Words};
+use crate::core::{CallError, Look, Settled, Steps};
 use crate::ticks::{CAPACITY_LIMIT, EntryId, Key};
 use crate::words::{Caller, HANDLE_LIMIT, Keeper, WordsError};
 

@@ -2,6 +2,5 @@
 
 mod apps_checks;
 mod checks;
-mod lasting_checks;
 mod shard_checks;
 mod stream_checks;

@@ -8,7 +8,7 @@ use alloc::sync::Arc;
 /// A keeper's words, by which any thread extends and cancels entries, and looks at them, with no caller.
 ///
 /// ```
-/// use hontkhale::owner::{CoreConfig, DelayCore, Keeper, Look, Turn};
+/// use hontkhale::parts::owner::{CoreConfig, DelayCore, Keeper, Look, Turn};
 /// use std::thread;
 ///
 /// let mut keeper = Keeper::new(1_000).unwrap();
@@ -21,7 +21,7 @@ use alloc::sync::Arc;
 /// assert_eq!(words.look(&key), Ok(Look::StillLive(250)));
 /// assert!(matches!(queue.poll(249)?, Turn::Waiting { .. }));
 /// assert!(matches!(queue.poll(250)?, Turn::Out(expired) if expired.value == "lease"));
-/// # Ok::<(), hontkhale::owner::CoreError>(())
+/// # Ok::<(), hontkhale::parts::owner::CoreError>(())
 /// ```
 ///
 /// Each call takes `&self`, makes one load and at most one atomic step, waits for nobody and takes no memory. Nothing
@@ -35,6 +35,7 @@ pub struct OpenWords {
 impl Seated {
     // The words of the table, for any thread.
     pub(crate) fn open(&mut self) -> Result<OpenWords, AllocError> {
+        // requires self.old.view.keeps ≡ true
         self.is_shared = true;
         let table = Arc::clone(&self.table);
         Ok(OpenWords { table, rows: self.rows })

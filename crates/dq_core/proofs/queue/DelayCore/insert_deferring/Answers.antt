@@ -1,5 +1,6 @@
 use Rattle.std.proofs.Common.{ap, ◌∙◌, refl, arith}
 use Rattle.dq_core.specs.Words.{begun_counts}
+use Rattle.dq_core.specs.Slots.{shown}
 use Rattle.dq_core.proofs.Law.{few}
 use Rattle.dq_core.proofs.Inserts.{law_inserted, inserts, refused_full, same_slots, room}
 use Rattle.dq_core.proofs.CallWords.{inserted_live, inserted_others}
@@ -11,17 +12,17 @@ overflow_add-self g c = omega (arith, few c.self.invariant.0, ap (λ n. n.begins
 
 pub invariant_of-self : goal.invariant_of-self
 invariant_of-self g c =
-    (law_inserted c.self.invariant.0 c.in-Ok.index c.stamp-stamp.result c.tick-tick.result c.max-base.result c.filing_tick.result c.args.when c.args.value c.if-when-gt-LAST_TICK.false c.in-Ok.ensures c.stamp-stamp.ensures c.tick-tick.ensures.value c.max-base.ensures c.filing_tick.ensures c.link.ensures.exact c.begin.ensures.known c.begin.ensures.counts, c.begin.ensures.counts ∙ ap begun_counts c.self.invariant.1)
+    (law_inserted c.self.invariant.0 c.in-Ok.index c.stamp-stamp.result c.tick-tick.result c.max-base.result c.filing_tick.result c.args.when c.args.value c.if-when-gt-LAST_TICK.false c.in-Ok.ensures.filled c.stamp-stamp.ensures c.tick-tick.ensures.value c.max-base.ensures c.filing_tick.ensures c.link.ensures.exact c.begin.ensures.known c.begin.ensures.counts, c.begin.ensures.counts ∙ ap begun_counts c.self.invariant.1)
 
 pub returns-in-Ok-clause-inserts : goal.returns-in-Ok-clause-inserts
 returns-in-Ok-clause-inserts g c =
     rw (← c.self.view_is)
-    (inserts _ _ c.in-Ok.index c.stamp-stamp.result c.tick-tick.result c.max-base.result c.filing_tick.result c.args.when c.args.value c.new-entry.result c.new.result c.self.invariant.0 c.if-when-gt-LAST_TICK.false c.in-Ok.ensures c.stamp-stamp.ensures c.tick-tick.ensures.value c.max-base.ensures c.filing_tick.ensures c.link.ensures.exact c.begin.ensures.known c.begin.ensures.counts c.new-entry.ensures c.new.ensures refl refl)
+    (inserts _ _ c.in-Ok.index c.stamp-stamp.result c.tick-tick.result c.max-base.result c.filing_tick.result c.args.when c.args.value c.new-entry.result c.new.result c.self.invariant.0 c.if-when-gt-LAST_TICK.false c.in-Ok.ensures.filled c.stamp-stamp.ensures c.tick-tick.ensures.value c.max-base.ensures c.filing_tick.ensures c.link.ensures.exact c.begin.ensures.known c.begin.ensures.counts c.new-entry.ensures c.new.ensures refl refl)
 
 pub returns-in-Err-clause-inserts : goal.returns-in-Err-clause-inserts
 returns-in-Err-clause-inserts g c =
     rw (← c.self.view_is)
-    (refused_full _ c.fill.new.self c.args.when c.linked.result c.worn.result c.if-when-gt-LAST_TICK.false c.in-Err.ensures.0 c.in-Err.ensures.2 c.linked.ensures c.worn.ensures, c.in-Err.ensures.1, same_slots _ c.fill.new.self c.in-Err.ensures.2)
+    (refused_full _ (shown c.fill.new.self) c.args.when c.linked.result c.worn.result c.if-when-gt-LAST_TICK.false c.in-Err.ensures.filled.0 c.in-Err.ensures.filled.2 c.linked.ensures c.worn.ensures, c.in-Err.ensures.filled.1, same_slots _ c.fill.new.self c.in-Err.ensures.filled.2 c.in-Err.ensures.kept)
 
 pub returns-in-Ok-clause-live : goal.returns-in-Ok-clause-live
 returns-in-Ok-clause-live g c = inserted_live (returns-in-Ok-clause-inserts g c)
@@ -31,4 +32,4 @@ returns-in-Ok-clause-others g c = inserted_others (returns-in-Ok-clause-inserts 
 
 pub returns-in-Ok-clause-room : goal.returns-in-Ok-clause-room
 returns-in-Ok-clause-room g c =
-    rw (← c.self.view_is) (room _ _ c.in-Ok.index c.args.value c.in-Ok.ensures.0 c.in-Ok.ensures.1)
+    rw (← c.self.view_is) (room _ _ c.in-Ok.index c.args.value c.in-Ok.ensures.filled.0 c.in-Ok.ensures.filled.1)

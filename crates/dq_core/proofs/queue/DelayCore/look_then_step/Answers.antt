@@ -2,6 +2,7 @@ use Rattle.std.proofs.Common.{◌≡◌, Some, subst}
 use Rattle.dq_wheel.specs.State.{filed_at}
 use Rattle.dq_core.specs.Pieces.{SettlesByLook}
 use Rattle.dq_core.proofs.PieceSteps.{piece_by_two, piece_by_looks}
+use Rattle.dq_core.proofs.Settings.{sets_then}
 use Rattle.dq_core.proofs.queue.DelayCore.look_then_step.Goals as goal
 
 pub returns-then-is_settled-clause-piece : goal.returns-then-is_settled-clause-piece
@@ -16,3 +17,9 @@ returns-in-Some-clause-piece g c =
     let look = c.settle_by_look-is_settled.ensures in
     let same = subst (λ r. SettlesByLook g.W.Words.shared c.args.self.now r c.settle_by_look-is_settled.new.self) c.if-is_settled.false look.settles in
     piece_by_two g.W.Words.shared c.args.self.now c.settle_by_look-is_settled.new.self c.in-Some.index c.step.result c.step.new.self due same c.step.ensures.progress
+
+pub returns-then-is_settled-clause-aside : goal.returns-then-is_settled-clause-aside
+returns-then-is_settled-clause-aside g c = sets_then c.settle_by_look-is_settled.ensures.aside c.settle_more-more.ensures.aside
+
+pub returns-in-Some-clause-aside : goal.returns-in-Some-clause-aside
+returns-in-Some-clause-aside g c = sets_then c.settle_by_look-is_settled.ensures.aside c.step.ensures.aside

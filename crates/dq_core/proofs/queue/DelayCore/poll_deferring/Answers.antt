@@ -1,6 +1,7 @@
 use Rattle.std.proofs.Common.{◌∙◌}
 use Rattle.dq_core.proofs.PieceSteps.{polled_due}
 use Rattle.dq_core.proofs.Steps.{on_way_more, polled_out, polled_waiting, polled_idle}
+use Rattle.dq_core.proofs.Settings.{sets_then}
 use Rattle.dq_core.proofs.queue.DelayCore.poll_deferring.Goals as goal
 
 pub returns-in-Gave-clause-polls : goal.returns-in-Gave-clause-polls
@@ -12,6 +13,7 @@ steps-preserved g c = (
   on_way_more g.W.Words.shared c.args.self.now c.steps.self c.step.new.self c.args.tick c.steps.invariant.0 c.in-Went.ensures.same c.in-Went.ensures.noted c.in-Went.ensures.progress.0,
   c.in-Went.ensures.origin ∙ c.steps.invariant.1,
   λ i s d b. c.in-Went.ensures.begun i s d (c.steps.invariant.2 i s d b),
+  sets_then c.steps.invariant.3 c.in-Went.ensures.aside,
 )
 
 pub returns-in-Some-clause-polls : goal.returns-in-Some-clause-polls
@@ -24,3 +26,12 @@ returns-in-None-clause-polls g c =
 
 pub returns-in-Gave-clause-out : goal.returns-in-Gave-clause-out
 returns-in-Gave-clause-out g c = polled_due g.W.Words.shared c.steps.self c.step.new.self c.in-Gave.expired c.in-Gave.ensures.progress
+
+pub returns-in-Gave-clause-aside : goal.returns-in-Gave-clause-aside
+returns-in-Gave-clause-aside g c = sets_then c.steps.invariant.3 c.in-Gave.ensures.aside
+
+pub returns-in-Some-clause-aside : goal.returns-in-Some-clause-aside
+returns-in-Some-clause-aside g c = sets_then c.steps.invariant.3 c.in-Rests.ensures.aside
+
+pub returns-in-None-clause-aside : goal.returns-in-None-clause-aside
+returns-in-None-clause-aside g c = sets_then c.steps.invariant.3 c.in-Rests.ensures.aside

@@ -1,4 +1,5 @@
-use Rattle.std.proofs.Common.{◌≡◌}
+use Rattle.std.proofs.Common.{◌≡◌, None}
+use Rattle.dq_core.specs.Asides.{SetsAside}
 use Rattle.dq_core.specs.Calls.{work}
 use Rattle.dq_core.specs.Words.{StillBegun}
 use Rattle.dq_core.proofs.Steps.{IsOnWay}
@@ -10,6 +11,7 @@ invariant-steps g l =
     IsOnWay g.W.Words.shared l.fn.self l.tick l.self
     × (g.W.Words.origin l.self.words ≡ g.W.Words.origin l.fn.self.words)
     × StillBegun g.W.Words.begun l.fn.self.words l.self.words
+    × SetsAside l.fn.self None l.self
 
 abbrev pub decreases-steps : goal.decreases-steps
 decreases-steps g l = work l.self

@@ -1,5 +1,6 @@
 use Rattle.std.proofs.Common.{ap, ◌∙◌, refl, Some}
 use Rattle.dq_core.specs.Words.{finished_counts}
+use Rattle.dq_core.specs.Slots.{shown}
 use Rattle.dq_core.proofs.Ways.{core_of}
 use Rattle.dq_core.proofs.Finds.{found_linked, found_cancelled, law_removed, removes, learned_at}
 use Rattle.dq_core.proofs.CallWords.{missing_exactly, looked_others, removed_others, removed_gone}
@@ -19,7 +20,7 @@ invariant_of-self-2 g c =
     let s = c.self.inside in
     let b = core_of s.shard s.noted s.wheel s.slots (g.W.Words.known s.words) (g.W.Words.counts s.words) s.words in
     let found = rw (← c.self.view_is) at c.in-Some.ensures in
-    (law_removed g.W.Words.shared b c.self.invariant.0 c.args.entry.now c.in-Some.index found c.unlink.new.self c.vacate-held.new.self (g.W.Words.known c.finish.new.self) (g.W.Words.counts c.finish.new.self) c.once_near-stamp.result c.in-Some-finish.deadline (c.once_near-stamp.ensures ∙ c.stamp.ensures) c.in-Some-finish.ensures.changed.1 c.unlink.ensures.exact c.vacate-held.ensures.vacated c.in-Some-finish.ensures.known c.in-Some-finish.ensures.counts, c.in-Some-finish.ensures.counts ∙ ap (λ x. finished_counts x (Some c.in-Some-finish.deadline)) c.self.invariant.1)
+    (law_removed g.W.Words.shared b c.self.invariant.0 c.args.entry.now c.in-Some.index found c.unlink.new.self (shown c.vacate-held.new.self) (g.W.Words.known c.finish.new.self) (g.W.Words.counts c.finish.new.self) c.once_near-stamp.result c.in-Some-finish.deadline (c.once_near-stamp.ensures ∙ c.stamp.ensures) c.in-Some-finish.ensures.changed.1 c.unlink.ensures.exact c.vacate-held.ensures.vacated c.in-Some-finish.ensures.known c.in-Some-finish.ensures.counts, c.in-Some-finish.ensures.counts ∙ ap (λ x. finished_counts x (Some c.in-Some-finish.deadline)) c.self.invariant.1)
 
 pub returns-clause-removes : goal.returns-clause-removes
 returns-clause-removes g c =

@@ -1,5 +1,6 @@
 use Rattle.std.proofs.lemmas.Result.{err_from_is_err_and}
 use Rattle.std.proofs.Common.{◌∙◌, refl}
+use Rattle.dq_core.specs.Slots.{shown}
 use Rattle.dq_core.proofs.Ways.{core_of}
 use Rattle.dq_core.proofs.Finds.{found_linked, found_cancelled, law_reset, resets, learned_at, below_last, linked_anew}
 use Rattle.dq_core.proofs.CallWords.{looked_others, reset_others, reset_live, find_refuses}
@@ -20,7 +21,7 @@ invariant_of-self-2 g c =
     let b = core_of s.shard s.noted s.wheel s.slots (g.W.Words.known s.words) (g.W.Words.counts s.words) s.words in
     let found = rw (← c.self.view_is) at c.in-Some.ensures in
     let below = below_last g.W.Words.shared b c.self.invariant.0 c.args.entry.now c.in-Some.index found c.once_near-stamp.result c.last.result (c.once_near-stamp.ensures ∙ c.stamp.ensures) c.last.ensures c.if-stamp-last.false in
-    (law_reset g.W.Words.shared b c.self.invariant.0 c.args.entry.now c.in-Some.index found c.link.new.self c.raise.new.self (g.W.Words.known c.renew.new.self) (g.W.Words.counts c.renew.new.self) c.once_near-stamp.result c.tick-tick.result c.max-base.result c.filing_tick.result c.args.when (c.once_near-stamp.ensures ∙ c.stamp.ensures) below c.if-when-gt-LAST_TICK.false c.tick-tick.ensures.value c.max-base.ensures c.filing_tick.ensures c.in-Some-renew.ensures.changed.1 (linked_anew s.wheel.filing c.unlink.new.self.filing _ _ _ c.unlink.ensures.exact c.link.ensures.exact) c.raise.ensures c.in-Some-renew.ensures.known c.in-Some-renew.ensures.counts, c.in-Some-renew.ensures.counts ∙ c.self.invariant.1)
+    (law_reset g.W.Words.shared b c.self.invariant.0 c.args.entry.now c.in-Some.index found c.link.new.self (shown c.raise.new.self) (g.W.Words.known c.renew.new.self) (g.W.Words.counts c.renew.new.self) c.once_near-stamp.result c.tick-tick.result c.max-base.result c.filing_tick.result c.args.when (c.once_near-stamp.ensures ∙ c.stamp.ensures) below c.if-when-gt-LAST_TICK.false c.tick-tick.ensures.value c.max-base.ensures c.filing_tick.ensures c.in-Some-renew.ensures.changed.1 (linked_anew s.wheel.filing c.unlink.new.self.filing _ _ _ c.unlink.ensures.exact c.link.ensures.exact) c.raise.ensures.raised c.in-Some-renew.ensures.known c.in-Some-renew.ensures.counts, c.in-Some-renew.ensures.counts ∙ c.self.invariant.1)
 
 pub returns-clause-resets : goal.returns-clause-resets
 returns-clause-resets g c =
@@ -29,7 +30,7 @@ returns-clause-resets g c =
     let found = rw (← c.self.view_is) at c.in-Some.ensures in
     let below = below_last g.W.Words.shared b c.self.invariant.0 c.args.entry.now c.in-Some.index found c.once_near-stamp.result c.last.result (c.once_near-stamp.ensures ∙ c.stamp.ensures) c.last.ensures c.if-stamp-last.false in
     rw (← c.self.view_is)
-    (resets g.W.Words.shared b c.self.invariant.0 c.args.entry.now c.in-Some.index found _ c.once_near-stamp.result c.tick-tick.result c.max-base.result c.filing_tick.result c.args.when c.in-Some-renew.field-0 c.new.result (c.once_near-stamp.ensures ∙ c.stamp.ensures) below c.if-when-gt-LAST_TICK.false c.tick-tick.ensures.value c.max-base.ensures c.filing_tick.ensures c.in-Some-renew.ensures.changed (linked_anew s.wheel.filing c.unlink.new.self.filing _ _ _ c.unlink.ensures.exact c.link.ensures.exact) c.raise.ensures c.in-Some-renew.ensures.known c.in-Some-renew.ensures.counts c.new.ensures refl refl)
+    (resets g.W.Words.shared b c.self.invariant.0 c.args.entry.now c.in-Some.index found _ c.once_near-stamp.result c.tick-tick.result c.max-base.result c.filing_tick.result c.args.when c.in-Some-renew.field-0 c.new.result (c.once_near-stamp.ensures ∙ c.stamp.ensures) below c.if-when-gt-LAST_TICK.false c.tick-tick.ensures.value c.max-base.ensures c.filing_tick.ensures c.in-Some-renew.ensures.changed (linked_anew s.wheel.filing c.unlink.new.self.filing _ _ _ c.unlink.ensures.exact c.link.ensures.exact) c.raise.ensures.raised c.in-Some-renew.ensures.known c.in-Some-renew.ensures.counts c.new.ensures refl refl)
 
 pub returns-in_default-renew-clause-others : goal.returns-in_default-renew-clause-others
 returns-in_default-renew-clause-others g c = looked_others (returns-in_default-renew-clause-resets g c).1.looked

@@ -1,7 +1,8 @@
-use Rattle.std.proofs.Common.{◌∙◌, refl, arith}
+use Rattle.std.proofs.Common.{◌∙◌, refl, ap, arith}
 use Rattle.dq_core.proofs.PieceSteps.{arrives_on, step_arrived, step_rests}
 use Rattle.dq_core.proofs.Steps.{step_advanced, advanced_on, rests_at}
 use Rattle.dq_core.proofs.WheelSteps.{goes_on}
+use Rattle.dq_core.proofs.Settings.{stays, stays_as}
 use Rattle.dq_core.proofs.queue.DelayCore.step.Goals as goal
 
 pub returns-in-Whole-clause-progress : goal.returns-in-Whole-clause-progress
@@ -28,3 +29,18 @@ returns-clause-progress g c =
     let none = rw (← same) at c.in_default.ensures.settles.1 in
     let tick = c.tick-tick.ensures.value in
     rw (← c.self.view_is) (step_rests _ c.args.pace _ _ (rests_at _ _ same c.self.invariant.0 (omega (arith, tick, c.if-tick-self.false)) none))
+
+pub returns-in-Whole-clause-aside : goal.returns-in-Whole-clause-aside
+returns-in-Whole-clause-aside g c =
+    let same = c.self.view_is ∙ c.in_default.ensures.settles.0 in
+    rw (← same) (stays _ _)
+
+pub returns-in-InPieces-clause-aside : goal.returns-in-InPieces-clause-aside
+returns-in-InPieces-clause-aside g c =
+    let same = c.self.view_is ∙ c.in_default.ensures.settles.0 in
+    rw (← same) (stays _ _)
+
+pub returns-clause-aside : goal.returns-clause-aside
+returns-clause-aside g c =
+    let same = c.in_default.ensures.settles.0 in
+    stays_as _ _ _ _ (ap (λ q. q.slots.rows) same) (ap (λ q. q.aside) same)

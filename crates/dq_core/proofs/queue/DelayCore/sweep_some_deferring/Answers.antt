@@ -2,10 +2,11 @@ use Rattle.std.proofs.Common.{◌≡◌, ◌+◌, length, ap, refl, ◌∙◌, a
 use Rattle.dq_core.proofs.Leaving.{sweeping_from, sweeping_on, some_swept, next_is}
 use Rattle.dq_core.proofs.CallWords.{out_tick}
 use Rattle.dq_core.proofs.queue.DelayCore.sweep_some_deferring.Goals.{then-reap_at, else-reap_at}
+use Rattle.dq_core.proofs.Settings.{stays, sets_then}
 use Rattle.dq_core.proofs.queue.DelayCore.sweep_some_deferring.Goals as goal
 
 pub loop-index-init : goal.loop-index-init
-loop-index-init g c = (omega arith, sweeping_from g.W.Words.shared c.args.self.now _, refl, λ i s d b. b, omega arith)
+loop-index-init g c = (omega arith, sweeping_from g.W.Words.shared c.args.self.now _, refl, λ i s d b. b, omega arith, stays _ _)
 
 pub loop-index-preserved : goal.loop-index-preserved
 loop-index-preserved g c =
@@ -14,10 +15,10 @@ loop-index-preserved g c =
     elim c.if-reap_at.branch [
       | then-reap_at w ↦
           let up = w.reaped-is in
-          (omega arith, sweeping_on g.W.Words.shared c.args.self.now c.loop-index.self c.reap_at.new.self _ c.loop-index.index c.loop-index.reaped c.if-reap_at.reaped c.reap_at.result to c.reap_at.ensures.same c.reap_at.ensures.swept (rw w.if-reap_at.true up) (omega (arith, up, few)), c.reap_at.ensures.origin ∙ c.loop-index.invariant.2, λ i s d b. c.reap_at.ensures.begun i s d (c.loop-index.invariant.3 i s d b), omega (arith, c.reap_at.ensures.one_step, c.loop-index.invariant.4))
+          (omega arith, sweeping_on g.W.Words.shared c.args.self.now c.loop-index.self c.reap_at.new.self _ c.loop-index.index c.loop-index.reaped c.if-reap_at.reaped c.reap_at.result to c.reap_at.ensures.same c.reap_at.ensures.swept (rw w.if-reap_at.true up) (omega (arith, up, few)), c.reap_at.ensures.origin ∙ c.loop-index.invariant.2, λ i s d b. c.reap_at.ensures.begun i s d (c.loop-index.invariant.3 i s d b), omega (arith, c.reap_at.ensures.one_step, c.loop-index.invariant.4), sets_then c.loop-index.invariant.5 c.reap_at.ensures.aside)
       | else-reap_at w ↦
           let up = w.reaped-is in
-          (omega arith, sweeping_on g.W.Words.shared c.args.self.now c.loop-index.self c.reap_at.new.self _ c.loop-index.index c.loop-index.reaped c.if-reap_at.reaped c.reap_at.result to c.reap_at.ensures.same c.reap_at.ensures.swept (rw w.if-reap_at.false (omega (arith, up))) (omega (arith, up, few)), c.reap_at.ensures.origin ∙ c.loop-index.invariant.2, λ i s d b. c.reap_at.ensures.begun i s d (c.loop-index.invariant.3 i s d b), omega (arith, c.reap_at.ensures.one_step, c.loop-index.invariant.4))
+          (omega arith, sweeping_on g.W.Words.shared c.args.self.now c.loop-index.self c.reap_at.new.self _ c.loop-index.index c.loop-index.reaped c.if-reap_at.reaped c.reap_at.result to c.reap_at.ensures.same c.reap_at.ensures.swept (rw w.if-reap_at.false (omega (arith, up))) (omega (arith, up, few)), c.reap_at.ensures.origin ∙ c.loop-index.invariant.2, λ i s d b. c.reap_at.ensures.begun i s d (c.loop-index.invariant.3 i s d b), omega (arith, c.reap_at.ensures.one_step, c.loop-index.invariant.4), sets_then c.loop-index.invariant.5 c.reap_at.ensures.aside)
     ]
 
 pub returns-clause-sweeps : goal.returns-clause-sweeps

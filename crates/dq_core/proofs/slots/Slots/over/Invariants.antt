@@ -1,6 +1,6 @@
-use Rattle.std.proofs.Common.{◌≡◌, ◌≤◌, length, vec_capacity}
+use Rattle.std.proofs.Common.{◌≡◌, ℕ, ◌≤◌, None, length, vec_capacity}
 use Rattle.dq_core.specs.FreeSlots.{room_of}
-use Rattle.dq_core.specs.Cells.{rows_of}
+use Rattle.dq_core.specs.Cells.{rows_of, cell_at}
 use Rattle.dq_core.specs.Words.{StillBegun}
 use Rattle.dq_core.proofs.Folds.{IsNewRow}
 use Rattle.dq_core.proofs.slots.Slots.over.Given as goal
@@ -14,6 +14,7 @@ invariant-loop-index g l = record {
   rows : IsNewRow l.last (g.W.Words.known l.fn.words) l.index (rows_of l.cells.items) l.free l.free_count;
   few : l.free_count ≤ l.index;
   end : l.capacity ≡ length (g.W.Words.known l.fn.words);
+  aside : (i : ℕ) → (cell_at l.cells.items i).aside ≡ None;
   cells_room : l.capacity ≤ vec_capacity l.cells;
   room : l.capacity ≤ room_of l.free;
 }

@@ -11,7 +11,7 @@ pub split_seat-carrier-requires : goal.split_seat-carrier-requires
 split_seat-carrier-requires g c =
     let f = fits_return _ _ _ _ _ _ c.self.invariant.0 (ap (λ b. b.shared.table_id) c.deref.ensures) in
     let table : Sat → _ = λ (s : Sat). s.table in
-    (ap table c.other.view_is ∙ (sym c.requires.table ∙ (sym (ap table c.self.view_is) ∙ f.0)), f.2, tells _ _ _ c.other.invariant)
+    (ap table c.other.view_is ∙ (sym c.requires.table ∙ (sym (ap table c.self.view_is) ∙ f.0)), f.2, tells _ _ _ c.other.invariant.0)
 
 pub join_seat-requires : goal.join_seat-requires
 join_seat-requires g c =
@@ -40,4 +40,4 @@ returns-clause-together g c =
 pub invariant_of-other : goal.invariant_of-other
 invariant_of-other g c =
     let t = c.split_seat-carrier.ensures in
-    ap (λ (m : PlaceMe). m.0.carries) t.2 ∙ c.other.invariant
+    (ap (λ (m : PlaceMe). m.0.carries) t.2 ∙ c.other.invariant.0, ap (λ (m : PlaceMe). m.0.spent) t.2 ∙ c.other.invariant.1)

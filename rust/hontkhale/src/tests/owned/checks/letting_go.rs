@@ -44,7 +44,7 @@ fn lets_go(heap: &LocalHeap) -> Result<(), Fail> {
     sets_aside(&mut queue, heap)
 }
 
-// promise: slots.owner-drops
+// promise: core.aside slots.owner-drops
 #[test]
 fn one_owner_drops_at_once_or_sets_aside() -> Result<(), Fail> {
     let heap = LocalHeap::new();

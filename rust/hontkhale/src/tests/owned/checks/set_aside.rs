@@ -190,7 +190,7 @@ impl<'heap> Play<'heap> {
     }
 }
 
-// promise: slots.value-let
+// promise: core.aside slots.value-let
 #[test]
 fn what_is_set_aside_is_what_was_let_go_less_what_was_taken_out() -> Result<(), Fail> {
     let mut draw = Draw::new(1);
@@ -207,10 +207,7 @@ fn what_is_set_aside_is_what_was_let_go_less_what_was_taken_out() -> Result<(), 
 }
 
 // A value that needs no drop is forgotten where it is let go, and its slot is free at once.
-// promise: slots.value-let
-#[test]
-fn values_that_need_no_drop_are_not_set_aside() -> Result<(), Fail> {
-    let mut queue: DelayCore<u64, VecWords> = DelayCore::with_capacity(2)?;
+fn sets_none_aside(queue: &mut DelayCore<u64, VecWords>) -> Result<(), Fail> {
     for round in 0..3 {
         queue.insert_or_drop(round, 5)?;
         queue.insert_or_drop(round, 9)?;
@@ -218,4 +215,18 @@ fn values_that_need_no_drop_are_not_set_aside() -> Result<(), Fail> {
         assert_eq!((queue.take_crowded(), queue.take_aside()), (None, None));
     }
     Ok(())
+}
+
+// promise: core.aside slots.value-let
+#[test]
+fn values_that_need_no_drop_are_not_set_aside() -> Result<(), Fail> {
+    let mut queue = DelayCore::with_capacity(2)?;
+    sets_none_aside(&mut queue)?;
+    let Ok(folded) = queue.fold() else {
+        panic!("a fold of an empty queue is refused")
+    };
+    let Ok(mut queue) = folded.unfold() else {
+        panic!("an unfold is refused")
+    };
+    sets_none_aside(&mut queue)
 }

@@ -13,4 +13,4 @@ fetch_max-found-requires g c =
     let inside = c.requires.inside in
     let low : c.args.index < c.self.inside.rows = omega arith in
     let table = ap (λ (s : Sat). s.table) c.passer.view_is ∙ c.requires.table ∙ sym (ap (λ (o : Open). o.table) c.self.view_is) ∙ sym (ap (λ b. b.shared.table_id) e) in
-    (table, omega arith, rw (ap (λ b. b.shared.key) e ∙ c.self.invariant.0) (passing_cancel _ _ _ _ _ c.passer.invariant _ (λ k. cancels_now _ _ _ _ _ _ low (rw own c.requires.caller.1) (rw own c.requires.caller.0) c.requires.new.0 c.requires.new.1 (omega arith) (rw own c.requires.given))))
+    (table, omega arith, rw (ap (λ b. b.shared.key) e ∙ c.self.invariant.0) (passing_cancel _ _ _ _ _ c.passer.invariant.0 _ (λ k. cancels_now _ _ _ _ _ _ low (rw own c.requires.caller.1) (rw own c.requires.caller.0) c.requires.new.0 c.requires.new.1 (omega arith) (rw own c.requires.given))))

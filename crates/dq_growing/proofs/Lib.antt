@@ -1,0 +1,9 @@
+pub mod Aging
+pub mod Among
+pub mod Leasts
+pub mod Moves
+pub mod Pairing
+pub mod Quiet
+pub mod Rows
+pub mod Standing
+pub mod Stored

@@ -1,0 +1,84 @@
+-- Ids that are found by their numbers.
+use Rattle.std.proofs.Common.{◌≡◌, ◌≢◌, ◌⊎◌, ℕ, Bool, true, false, ◌&&◌, nat_eq, Option, Some, None, refl, sym, ap, ◌∙◌, subst, inl, inr, ⊎_elim}
+use Rattle.std.proofs.lemmas.Bool.{eqb-true}
+use Rattle.std.specs.Map.{lookup}
+use Rattle.dq_ticks.specs.declared.keys.EntryId.{EntryId}
+use mathlib.Core.Logic.{dite}
+use native.Mathlib.Decide.{ℕ_discrete}
+use Rattle.dq_growing.specs.Notes.{Pairs, Book, AreNotes, numbers_of, same_numbers, with_id, SetsPair, TakesPair}
+use Rattle.dq_growing.proofs.Standing.{same_id, some_is}
+use Rattle.dq_growing.proofs.Leasts.{some_not_none}
+
+all_three : (a b c : Bool) → (a ≡ true → b ≡ true → c ≡ true → ⊥) → (a && b) && c ≡ false
+all_three true true true h = absurd (h refl refl refl)
+all_three true true false h = refl
+all_three true false c h = refl
+all_three false b c h = refl
+
+pub other_numbers : (a b : EntryId) → b ≢ a → same_numbers (numbers_of a) (numbers_of b) ≡ false
+other_numbers a b n =
+    all_three (nat_eq a.shard b.shard) (nat_eq a.index b.index) (nat_eq a.born b.born)
+    (λ s i o. n (same_id b a (sym (eqb-true a.shard b.shard s)) (sym (eqb-true a.index b.index i)) (sym (eqb-true a.born b.born o))))
+
+pub sets_pair : (p q : Pairs) (key : ℕ × ℕ × ℕ) (id : EntryId) (o : Option EntryId) → key ≡ numbers_of id → lookup (same_numbers key) q.entries ≡ o
+    → ((k : ℕ × ℕ × ℕ) → same_numbers key k ≡ false → lookup (same_numbers k) q.entries ≡ lookup (same_numbers k) p.entries) → SetsPair p id o q
+sets_pair p q key id o is here others =
+    let P : ℕ × ℕ × ℕ → Type 0 = λ k. lookup (same_numbers k) q.entries ≡ o in
+    let Q : ℕ × ℕ × ℕ → Type 0 = λ n. (k : ℕ × ℕ × ℕ) → same_numbers n k ≡ false → lookup (same_numbers k) q.entries ≡ lookup (same_numbers k) p.entries in
+    record { here = subst P is here; else = λ k n. subst Q is others (numbers_of k) (other_numbers id k n) }
+
+-- two ids are one or two
+pub one_or_two : (a b : EntryId) → (a ≡ b) ⊎ (a ≢ b)
+one_or_two a b =
+    dite (ℕ_discrete a.shard b.shard)
+    (λ s. dite (ℕ_discrete a.index b.index)
+    (λ i. dite (ℕ_discrete a.born b.born) (λ o. inl (same_id a b s i o)) (λ n. inr (λ e. n (ap (λ k. k.born) e))))
+    (λ n. inr (λ e. n (ap (λ k. k.index) e))))
+    (λ n. inr (λ e. n (ap (λ k. k.shard) e)))
+
+abbrev pub book : Pairs → Pairs → Book
+book places users = record { places = places; users = users }
+
+-- what a table has after ids were taken from it
+left_over : (p q : Pairs) (o : Option EntryId) → TakesPair p o q → (k : EntryId) → o ≢ Some k → with_id q k ≡ with_id p k
+left_over p q None t k n = ap (λ x. with_id x k) t
+left_over p q (Some id) t k n = t.else k (λ e. n (ap (λ x. let o : Option EntryId = Some x in o) (sym e)))
+
+taken : (p q : Pairs) (o : Option EntryId) → TakesPair p o q → (k : EntryId) → o ≡ Some k → with_id q k ≡ None
+taken p q None t k is = absurd (some_not_none k (sym is))
+taken p q (Some id) t k is = let P : EntryId → Type 0 = λ x. with_id q x ≡ None in subst P (some_is id k is) t.here
+
+module _ (n : Book) (u p : EntryId) (o : Option EntryId) (places users users' : Pairs) (law : AreNotes n) (free : with_id n.users p ≡ None)
+    (is : o ≡ with_id n.places u) (takes : TakesPair n.users o users) (sets : SetsPair n.places u (Some p) places) (puts : SetsPair users p (Some u) users') where
+  forth : (a q : EntryId) → with_id places a ≡ Some q → with_id users' q ≡ Some a
+  forth a q at =
+      ⊎_elim
+      (λ (e : a ≡ u). let P : EntryId → Type 0 = λ k. with_id places k ≡ Some q in
+      let same = some_is p q (sym sets.here ∙ subst P e at) in
+      let Q : EntryId → Type 0 = λ k. with_id users' k ≡ Some u in
+      subst Q same puts.here ∙ ap (λ k. let r : Option EntryId = Some k in r) (sym e))
+      (λ (ne : a ≢ u). let was = sym (sets.else a ne) ∙ at in
+      let noted = (law a q).0 was in
+      let P : EntryId → Type 0 = λ k. with_id n.users k ≡ None in
+      let apart : q ≢ p = λ e. some_not_none a (sym noted ∙ subst P (sym e) free) in
+      let kept : o ≢ Some q = λ e. ne (some_is a u (sym noted ∙ (law u q).0 (sym is ∙ e))) in
+      puts.else q apart ∙ (left_over n.users users o takes q kept ∙ noted))
+      (one_or_two a u)
+
+  back_again : (a q : EntryId) → with_id users' q ≡ Some a → with_id places a ≡ Some q
+  back_again a q at =
+      ⊎_elim
+      (λ (e : q ≡ p). let P : EntryId → Type 0 = λ k. with_id users' k ≡ Some a in
+      let same = some_is u a (sym puts.here ∙ subst P e at) in
+      let Q : EntryId → Type 0 = λ k. with_id places k ≡ Some p in
+      subst Q same sets.here ∙ ap (λ k. let r : Option EntryId = Some k in r) (sym e))
+      (λ (ne : q ≢ p). let was = sym (puts.else q ne) ∙ at in
+      let kept : o ≢ Some q = λ e. some_not_none a (sym was ∙ taken n.users users o takes q e) in
+      let noted = (law a q).1 (sym (left_over n.users users o takes q kept) ∙ was) in
+      let P : EntryId → Type 0 = λ k. with_id n.places k ≡ Some q in
+      let apart : a ≢ u = λ e. kept (is ∙ subst P e noted) in
+      sets.else a apart ∙ noted)
+      (one_or_two q p)
+
+  pub noted_law : AreNotes (book places users')
+  noted_law a q = (forth a q, back_again a q)

@@ -1,0 +1,28 @@
+use Rattle.std.proofs.Common.{sym, arith}
+use Rattle.dq_growing.specs.Cores.{CoreRow, IsCoreAt}
+use Rattle.dq_growing.proofs.Quiet.{quiet_after, tells_noted, tells_late}
+use Rattle.dq_growing.proofs.Rows.{keeps_law, on_found, missing_in}
+use Rattle.dq_growing.proofs.cores.Cores.deadline.Goals as goal
+
+pub returns-clause-tells : goal.returns-clause-tells
+returns-clause-tells g c =
+    rw (← c.self.view_is)
+    (on_found _ c.in-Some.at _ _ _ c.index_mut.result.now c.deadline-answer.new.self
+    (rw (c.shard.ensures, ← c.self.view_is) at c.in-Some.ensures.found) c.index_mut.ensures.value c.deadline-answer.ensures.tells)
+
+pub returns-clause-missing : goal.returns-clause-missing
+returns-clause-missing g c =
+    rw (← c.self.view_is)
+    (missing_in _ c.self.invariant.0 c.in-Some.at c.index_mut.result.now c.args.entry.now _ (rw (c.shard.ensures, ← c.self.view_is) at c.in-Some.ensures.found)
+    c.index_mut.ensures.value c.deadline-answer.ensures.missing)
+
+pub invariant_of-self : goal.invariant_of-self
+invariant_of-self g c =
+    let i = c.self.inside in
+    let s : CoreRow g.row.T.Denot g.row.W.Denot = record { cores = i.cores.items; opened = i.opened; next = i.next; noted = i.noted } in
+    let b = c.index_mut.result.now in
+    let a = c.deadline-answer.new.self in
+    let inside = (rw (c.shard.ensures, ← c.self.view_is) at c.in-Some.ensures.found).1.0.0 in
+    let at : IsCoreAt s.cores c.in-Some.at b = (inside, sym c.index_mut.ensures.value) in
+    let noted = tells_noted _ b a c.args.entry.now _ c.deadline-answer.ensures.tells in
+    (keeps_law s c.in-Some.at b a c.self.invariant.0 at c.deadline-answer.ensures.same.0 (omega arith), quiet_after s i.turn i.others i.others c.in-Some.at b a c.self.invariant.1 at (omega arith) (λ before. tells_late _ b a i.others before c.args.entry.now _ c.deadline-answer.ensures.tells))

@@ -1,0 +1,14 @@
+use Rattle.std.proofs.Common.{inl, refl, sym, ◌∙◌}
+use Rattle.dq_growing.proofs.Aging.{tells_age}
+use Rattle.dq_growing.proofs.Stored.{stored, law_same_notes}
+use Rattle.dq_growing.proofs.store.Store.deadline.Goals as goal
+
+pub invariant_of-self : goal.invariant_of-self
+invariant_of-self g c =
+    let i = c.self.inside in
+    let a = c.deadline-answer in
+    law_same_notes (stored i.cores i.notes) a.new.self c.self.invariant (tells_age g.W.Words.shared i.cores a.new.self c.in-Some.place a.result _ c.law.ensures a.ensures.tells)
+
+pub returns : goal.returns
+returns g c =
+    rw (← c.self.view_is) (record { tells = inl (c.in-Some.place, sym c.place.ensures ∙ c.in-Some.is, (c.deadline-answer.ensures.tells, refl)) })

@@ -1,0 +1,14 @@
+use Rattle.dq_growing.proofs.Stored.{stored, law_inserts, inserts_for}
+use Rattle.dq_growing.proofs.store.Store.insert.Goals as goal
+
+pub invariant_of-self : goal.invariant_of-self
+invariant_of-self g c =
+    let i = c.self.inside in
+    let a = c.insert-answer in
+    law_inserts (stored i.cores i.notes) a.new.self c.args.value c.args.when a.result c.self.invariant c.law.ensures a.ensures.inserts
+
+pub returns-clause-comes : goal.returns-clause-comes
+returns-clause-comes g c =
+    let i = c.self.inside in
+    let a = c.insert-answer in
+    rw (← c.self.view_is) (inserts_for (stored i.cores i.notes) a.new.self c.args.value c.args.when a.result c.self.invariant c.law.ensures a.ensures.inserts)

@@ -1,0 +1,22 @@
+use Rattle.std.proofs.Common.{◌≡◌, inl, refl, sym, ◌∙◌}
+use Rattle.dq_growing.proofs.Stored.{stored, law_same_notes, law_forgets}
+use Rattle.dq_growing.proofs.store.Store.reap.Goals as goal
+
+pub invariant_of-self : goal.invariant_of-self
+invariant_of-self g c =
+    let i = c.self.inside in
+    law_same_notes (stored i.cores i.notes) c.reap.new.self c.self.invariant c.reap.ensures.ages
+
+pub returns-in-Err : goal.returns-in-Err
+returns-in-Err g c =
+    rw (← c.self.view_is) (record { reaps = inl (c.in-Some.place, sym c.place.ensures ∙ c.in-Some.is, (c.in-Err.ensures.reaps, refl)) })
+
+pub invariant_of-self-2 : goal.invariant_of-self-2
+invariant_of-self-2 g c =
+    let i = c.self.inside in
+    law_forgets (stored i.cores i.notes) (stored c.reap.new.self c.forget.new.self) c.in-Some.place c.forget.result c.self.invariant
+    c.reap.ensures.ages c.law.ensures c.forget.ensures
+
+pub returns : goal.returns
+returns g c =
+    rw (← c.self.view_is) (record { reaps = inl (c.in-Some.place, sym c.place.ensures ∙ c.in-Some.is, (c.in_default-reap.ensures.reaps, (c.forget.result, c.forget.ensures))) })

@@ -1,0 +1,66 @@
+use Rattle.std.proofs.Common.{inl, inr, sym, ◌∙◌}
+use Rattle.dq_growing.proofs.Aging.{all_age}
+use Rattle.dq_growing.proofs.Standing.{all_same}
+use Rattle.dq_growing.proofs.Stored.{stored, law_reserved, same_reserved, moved_free, moved_law, moved_goes, moved_out, moved_refused, moved_notes}
+use Rattle.dq_growing.proofs.store.Store.relocate.Goals as goal
+
+pub invariant_of-self : goal.invariant_of-self
+invariant_of-self g c =
+    let i = c.self.inside in
+    law_reserved (stored i.cores i.notes) i.cores c.reserve.new.self c.self.invariant (all_age i.cores) c.law.ensures c.reserve.ensures.same
+
+pub returns-then-is_err-clause-refused : goal.returns-then-is_err-clause-refused
+returns-then-is_err-clause-refused g c =
+    let i = c.self.inside in
+    rw (← c.self.view_is) (same_reserved (stored i.cores i.notes) i.cores c.reserve.new.self c.reserve.ensures.same (all_same i.cores))
+
+pub note_answer-answer-requires-clause-free : goal.note_answer-answer-requires-clause-free
+note_answer-answer-requires-clause-free g c =
+    let i = c.self.inside in
+    let r = c.relocate-answer in
+    moved_free (stored i.cores i.notes) r.new.self c.reserve.new.self c.reserve.new.self c.args.entry.now c.in-Some.place c.self.invariant
+    (sym c.place.ensures ∙ c.in-Some.is) c.reserve.ensures.same r.result.0 r.ensures.fresh
+
+pub invariant_of-self-2 : goal.invariant_of-self-2
+invariant_of-self-2 g c =
+    let i = c.self.inside in
+    let r = c.relocate-answer in
+    let a = c.note_answer-answer in
+    moved_law (stored i.cores i.notes) r.new.self c.reserve.new.self a.new.notes c.args.entry.now c.in-Some.place c.self.invariant
+    (sym c.place.ensures ∙ c.in-Some.is) c.reserve.ensures.same r.result.0 r.ensures.ages c.law-2.ensures a.ensures.notes r.ensures.goes_on r.ensures.past
+
+pub returns-clause-goes_on : goal.returns-clause-goes_on
+returns-clause-goes_on g c =
+    let i = c.self.inside in
+    let r = c.relocate-answer in
+    let a = c.note_answer-answer in
+    rw (a.ensures.answer, ← c.self.view_is)
+    (moved_goes (stored i.cores i.notes) r.new.self c.reserve.new.self a.new.notes c.args.entry.now c.in-Some.place c.self.invariant
+    (sym c.place.ensures ∙ c.in-Some.is) c.reserve.ensures.same r.result.0 a.ensures.notes r.ensures.goes_on)
+
+pub returns-clause-came_out : goal.returns-clause-came_out
+returns-clause-came_out g c =
+    let i = c.self.inside in
+    let r = c.relocate-answer in
+    let a = c.note_answer-answer in
+    rw (a.ensures.answer, ← c.self.view_is)
+    (moved_out (stored i.cores i.notes) r.new.self c.reserve.new.self a.new.notes c.args.entry.now c.in-Some.place c.self.invariant
+    (sym c.place.ensures ∙ c.in-Some.is) c.reserve.ensures.same r.result.0 a.ensures.notes r.ensures.came_out)
+
+pub returns-clause-refused : goal.returns-clause-refused
+returns-clause-refused g c =
+    let i = c.self.inside in
+    let r = c.relocate-answer in
+    let a = c.note_answer-answer in
+    rw (a.ensures.answer, ← c.self.view_is)
+    (moved_refused (stored i.cores i.notes) r.new.self c.reserve.new.self a.new.notes c.args.entry.now c.in-Some.place c.self.invariant
+    (sym c.place.ensures ∙ c.in-Some.is) c.reserve.ensures.same r.result.0 a.ensures.notes r.ensures.refused)
+
+pub returns-clause-relocates : goal.returns-clause-relocates
+returns-clause-relocates g c =
+    let i = c.self.inside in
+    let r = c.relocate-answer in
+    let a = c.note_answer-answer in
+    let notes = moved_notes (stored i.cores i.notes) r.new.self c.reserve.new.self a.new.notes c.args.entry.now c.in-Some.place c.self.invariant
+    (sym c.place.ensures ∙ c.in-Some.is) c.reserve.ensures.same r.result.0 a.ensures.notes in
+    rw (← c.self.view_is) (inl (c.in-Some.place, sym c.place.ensures ∙ c.in-Some.is, inr (r.result.0, r.ensures.relocates, a.ensures.answer, notes)))

@@ -1,0 +1,41 @@
+use Rattle.std.proofs.Common.{Ok, Err, sym, ◌∙◌}
+use Rattle.dq_growing.proofs.Aging.{removes_age}
+use Rattle.dq_growing.proofs.Stored.{stored, law_same_notes, law_forgets, leaves_for, same_for, removes_for, removal_refused}
+use Rattle.dq_growing.proofs.store.Store.remove.Goals as goal
+
+pub invariant_of-self : goal.invariant_of-self
+invariant_of-self g c =
+    let i = c.self.inside in
+    law_same_notes (stored i.cores i.notes) c.remove.new.self c.self.invariant
+    (removes_age g.W.Words.shared i.cores c.remove.new.self c.in-Some.place (Err c.in-Err.error) _ c.law.ensures c.in-Err.ensures.removes)
+
+pub invariant_of-self-2 : goal.invariant_of-self-2
+invariant_of-self-2 g c =
+    let i = c.self.inside in
+    law_forgets (stored i.cores i.notes) (stored c.remove.new.self c.forget.new.self) c.in-Some.place c.forget.result c.self.invariant
+    (removes_age g.W.Words.shared i.cores c.remove.new.self c.in-Some.place (Ok c.in-Ok.removed) _ c.law.ensures c.in-Ok.ensures.removes) c.law-2.ensures c.forget.ensures
+
+pub returns-in-Err-clause-refused : goal.returns-in-Err-clause-refused
+returns-in-Err-clause-refused g c =
+    let i = c.self.inside in
+    rw (← c.self.view_is) (same_for (stored i.cores i.notes) c.remove.new.self c.in-Err.ensures.refused)
+
+pub returns-in-Err-clause-removes : goal.returns-in-Err-clause-removes
+returns-in-Err-clause-removes g c =
+    let i = c.self.inside in
+    rw (← c.self.view_is)
+    (removal_refused g.W.Words.shared (stored i.cores i.notes) c.remove.new.self c.args.entry.now c.in-Some.place c.in-Err.error (sym c.place.ensures ∙ c.in-Some.is) c.in-Err.ensures.removes)
+
+pub returns-clause-leaves : goal.returns-clause-leaves
+returns-clause-leaves g c =
+    let i = c.self.inside in
+    rw (c.removed_as.ensures, ← c.self.view_is)
+    (leaves_for (stored i.cores i.notes) (stored c.remove.new.self c.forget.new.self) c.args.entry.now c.in-Some.place c.forget.result c.in-Ok.removed.value
+    c.self.invariant (sym c.place.ensures ∙ c.in-Some.is) c.in-Ok.ensures.leaves c.forget.ensures)
+
+pub returns-clause-removes : goal.returns-clause-removes
+returns-clause-removes g c =
+    let i = c.self.inside in
+    rw (c.removed_as.ensures, ← c.self.view_is)
+    (removes_for g.W.Words.shared (stored i.cores i.notes) (stored c.remove.new.self c.forget.new.self) c.args.entry.now c.in-Some.place c.in-Ok.removed c.forget.result
+    (sym c.place.ensures ∙ c.in-Some.is) c.in-Ok.ensures.removes c.forget.ensures)

@@ -1,0 +1,7 @@
+pub mod Cores
+pub mod Folds
+pub mod Moving
+pub mod Notes
+pub mod Polls
+pub mod Stands
+pub mod Store

@@ -1,0 +1,397 @@
+//! The cores of one owner, and the calls on them.
+
+ghost use Rattle.std.specs.Prelude.{◌≡◌, ◌≢◌, ◌⊎◌, true, false, ℕ, ◌<◌, ◌≤◌, IfSome, IfNone, IfOk, IfErr, OnOk, OnErr, IsErrOf, IsErrAnd, ◌↔◌, Ok, Err, Some, None, [], length};
+ghost use Rattle.dq_core.specs.declared.errors.CoreError.TheVariants.{Missing, TooFar};
+ghost use Rattle.dq_core.specs.Core.{Core};
+ghost use Rattle.dq_core.specs.Calls.{IsMissing, Inserts, Removes, Resets, SameCore, TellsDeadline};
+ghost use Rattle.dq_core.specs.AtTheCall.{HoldsValue};
+ghost use Rattle.dq_core.specs.Words.{StillBegun};
+ghost use Rattle.dq_growing.specs.Stands.{IsThere, IsPastAt, IsPastIn, HasEntry, OneLeaves, SameStand, KeepsWords};
+ghost use Rattle.dq_ticks.specs.declared.TheConstants.{LAST_TICK};
+ghost use Rattle.dq_growing.specs.declared.cores.TakeError.TheVariants.{NoMemory};
+ghost use Rattle.dq_core.specs.Folds.{IsFoldable};
+ghost use Rattle.dq_growing.specs.Cores.{MayComeIn, CoreRow, AreCores, IsCoreAt, HasAt, HasNo, OnCoreOr, HoldsIn, IsMissingIn, InsertsIn, TakesIn, TakeRefused, HasDrained, GivesDrained, NoneDrained, closed_error, missing_error, lowered_to, opened_without};
+
+use dq_core::{CoreError, DelayCore, Removed, Words};
+use dq_ticks::{EntryId, Key, LAST_TICK};
+use std::alloc::{Allocator, Global};
+use std::marker::Model;
+
+/// Why a core doesn't come into a store.
+#[derive(Clone, Copy, Debug, PartialEq, Eq)]
+pub enum TakeError {
+    /// An entry is linked in it.
+    StillLinked,
+    /// A core of the store has its number, or it is the last one of all.
+    UsedNumber,
+    /// Memory was refused.
+    NoMemory,
+}
+
+/// A delay queue of one owner that grows and shrinks.
+///
+/// A call by an entry's id compares its number with those of the cores, one after another, until it has found its core.
+/// What it costs, as it is told with the call, is in that core.
+#[derive(Drop)]
+pub struct Cores<T, W: Words, A: Allocator = Global> {
+    pub(crate) cores: Vec<DelayCore<T, W, A>, A>,
+    pub(crate) opened: usize,
+    pub(crate) next: u32,
+    pub(crate) noted: u64,
+    // The core whose turn it is to be polled. No other one has a live entry with a deadline before `others`.
+    pub(crate) turn: usize,
+    pub(crate) others: u64,
+}
+
+impl<T, W: Words, A: Allocator> Model for Cores<T, W, A> {
+    ghost use Rattle.dq_growing.specs.Cores.{CoreRow, AreCores};
+    ghost use Rattle.dq_growing.specs.Polls.{OthersAreQuiet};
+
+    ghost Value = { CoreRow T W };
+
+    ghost view = { λ s. record { cores = s.cores.items; opened = s.opened; next = s.next; noted = s.noted } };
+
+    ghost invariant = { λ s.
+        AreCores (record { cores = s.cores.items; opened = s.opened; next = s.next; noted = s.noted })
+        × OthersAreQuiet (record { cores = s.cores.items; opened = s.opened; next = s.next; noted = s.noted }) s.turn s.others };
+}
+
+// Why a reset is refused where no core has the entry's number.
+pub(crate) fn missing_at(when: u64) -> CoreError
+    ensures { result ≡ missing_error when }
+{
+    if when > LAST_TICK {
+        return CoreError::TooFar { limit: LAST_TICK };
+    }
+    CoreError::Missing
+}
+
+// Whether nothing is linked in a core, and no value waits for its drop there.
+fn is_foldable<T, W: Words, A: Allocator>(core: &DelayCore<T, W, A>) -> bool
+    ensures yes { result ≡ true → IsFoldable core.now }
+    ensures no { result ≡ false → ¬ IsFoldable core.now }
+{
+    core.is_empty() && core.aside() == 0
+}
+
+// Takes a live entry out of a core.
+fn remove_from<T, W: Words, A: Allocator>(
+    core: &mut DelayCore<T, W, A>,
+    entry: &EntryId,
+) -> Result<Removed<T>, CoreError>
+    ensures out { IfOk result
+        (λ x. (x.key.entry ≡ entry.now) × HoldsValue core.old entry.now x.value) }
+    ensures missing { IsErrOf result Missing ↔ IsMissing core.old entry.now }
+    ensures leaves { IfOk result
+        (λ x. OneLeaves (IsThere core.old) (IsThere core.new) entry.now x.value) }
+    ensures in_time { IfOk result (λ x. x.deadline ≤ LAST_TICK) }
+    ensures past { OnOk result (IsPastAt core.new entry.now) }
+    ensures refused { OnErr result (SameStand (IsThere core.old) (IsThere core.new)) }
+    ensures removes { Removes W.shared core.old entry.now result core.new }
+    ensures same { SameCore core.old core.new }
+    ensures origin { W.origin core.new.words ≡ W.origin core.old.words }
+    ensures begun { StillBegun W.begun core.old.words core.new.words }
+{
+    core.law();
+    let answer = core.remove(entry);
+    core.law();
+    answer
+}
+
+// The tick before which no core but the one whose turn it is has a live entry with a deadline, once an entry got a
+// deadline.
+#[inline(always)]
+pub(crate) fn lowered(others: u64, when: u64, is_turn: bool) -> u64
+    ensures { result ≡ lowered_to others when is_turn }
+{
+    if is_turn { others } else { others.min(when) }
+}
+
+// The place of the open core, once the core at a place is gone.
+fn opened_after(opened: usize, at: usize) -> usize
+    ensures { result ≡ opened_without opened at }
+{
+    if at < opened { opened - 1 } else { opened }
+}
+
+// Why an insert is refused where no core is open.
+fn closed_at(when: u64) -> CoreError
+    ensures { result ≡ closed_error when }
+{
+    if when > LAST_TICK {
+        return CoreError::TooFar { limit: LAST_TICK };
+    }
+    CoreError::Full { linked: 0, worn: 0 }
+}
+
+impl<T, W: Words, A: Allocator> Cores<T, W, A> {
+    /// A row of no cores.
+    pub fn new(alloc: A) -> Cores<T, W, A>
+        ensures { result ≡ record { cores = []; opened = 0; next = 0; noted = 0 } }
+    {
+        Cores {
+            cores: Vec::new(alloc),
+            opened: 0,
+            next: 0,
+            noted: 0,
+            turn: 0,
+            others: 0,
+        }
+    }
+
+    /// Returns how many cores there are.
+    pub fn count(&self) -> usize
+        ensures { result ≡ length self.now.cores }
+    {
+        self.cores.len()
+    }
+
+    /// Returns the core at a place. It returns none where there is no such place.
+    #[inline]
+    pub fn get(&self, place: usize) -> Option<&DelayCore<T, W, A>>
+        ensures found { IfSome result (λ c. IsCoreAt self.now.cores place c.now) }
+        ensures none { IfNone result (length self.now.cores ≤ place) }
+    {
+        if place >= self.cores.len() {
+            return None;
+        }
+        Some(&self.cores[place])
+    }
+
+    /// Returns the place of the open core. Where there is no such place, no core is open.
+    #[inline]
+    pub fn opened(&self) -> usize
+        ensures { result ≡ self.now.opened }
+    {
+        self.opened
+    }
+
+    /// Returns a number that no core of the row ever had.
+    pub fn next_number(&self) -> u32
+        ensures { result ≡ self.now.next }
+    {
+        self.next
+    }
+
+    /// Returns the greatest tick, of one millisecond, that was noted.
+    pub fn noted(&self) -> u64
+        ensures { result ≡ self.now.noted }
+    {
+        self.noted
+    }
+
+    /// Opens the core at a place, so that inserts go there from now on. It returns whether there is such a place.
+    pub fn open(&mut self, place: usize) -> bool
+        ensures opens { result ≡ true → (place < length self.old.cores)
+            × (self.new ≡ record self.old { opened = place }) }
+        ensures refused { result ≡ false → (length self.old.cores ≤ place) × (self.new ≡ self.old) }
+    {
+        if place >= self.cores.len() {
+            return false;
+        }
+        self.opened = place;
+        true
+    }
+
+    /// What a store keeps at all times: each core has a number of its own.
+    pub fn law(&self)
+        ensures { AreCores self.now }
+    {
+        let _ = &self.cores;
+    }
+
+    // The place of the core of that number.
+    pub(crate) fn place_of(&self, number: u32) -> Option<usize>
+        ensures found { IfSome result (λ i. (c : Core T W) × HasAt self.now.cores number i c) }
+        ensures none { IfNone result (HasNo self.now.cores number) }
+    {
+        for at in 0..self.cores.len() {
+            if self.cores[at].shard() == number {
+                return Some(at);
+            }
+        }
+        None
+    }
+
+    /// Takes a live entry out, and returns its value with its key and its current deadline, a tick of one millisecond.
+    /// Constant time, and no memory is taken.
+    ///
+    /// # Errors
+    /// In this order:
+    /// - `Missing` if the entry isn't in the store any more, or never was.
+    /// - `WasCancelled` if the entry was cancelled.
+    pub fn remove(&mut self, entry: &EntryId) -> Result<Removed<T>, CoreError>
+        // What was held under that number, index and birth stamp comes out. A missing entry is told
+        // exactly.
+        ensures out { IfOk result
+            (λ x. (x.key.entry ≡ entry.now) × HoldsIn self.old entry.now x.value) }
+        ensures missing { IsErrOf result Missing ↔ IsMissingIn self.old entry.now }
+
+        // No other entry leaves or changes, and none where it is refused. No new key is the id that left.
+        ensures leaves { IfOk result
+            (λ x. OneLeaves (HasEntry self.old) (HasEntry self.new) entry.now x.value) }
+        ensures past { OnOk result (IsPastIn self.new entry.now) }
+        ensures in_time { IfOk result (λ x. x.deadline ≤ LAST_TICK) }
+        ensures refused { OnErr result (SameStand (HasEntry self.old) (HasEntry self.new)) }
+
+        // Exactly: a removal from the core of that number, and nothing else changes.
+        ensures removes { OnCoreOr entry.now.shard (λ b c. Removes W.shared b entry.now result c)
+            (result ≡ Err Missing) self.old self.new }
+        ensures words { KeepsWords W.origin W.begun self.old self.new }
+    {
+        let Some(at) = self.place_of(entry.shard()) else {
+            return Err(CoreError::Missing);
+        };
+        let answer = remove_from(&mut self.cores[at], entry);
+        answer
+    }
+
+    /// Gives a live entry the deadline `when`, a tick of one millisecond, sooner or later than the one that it has, and
+    /// returns its new key. Constant time, and no memory is taken.
+    ///
+    /// # Errors
+    /// In this order:
+    /// - `TooFar` if `when` is beyond the last tick.
+    /// - `Missing` if the entry isn't in the store any more, or never was.
+    /// - `WasCancelled` if the entry was cancelled.
+    /// - `Worn` if the entry's slot has no stamp left for another key.
+    pub fn reset(&mut self, entry: &EntryId, when: u64) -> Result<Key, CoreError>
+        // A deadline beyond the last tick is refused first, and exactly.
+        ensures too_far { IsErrOf result (TooFar LAST_TICK) ↔ (LAST_TICK < when) }
+
+        // Exactly: a reset in the core of that number, and nothing else changes.
+        ensures resets { OnCoreOr entry.now.shard (λ b c. Resets W.shared b entry.now when result c)
+            (result ≡ Err (missing_error when)) self.old self.new }
+    {
+        let Some(at) = self.place_of(entry.shard()) else {
+            return Err(missing_at(when));
+        };
+        self.others = lowered(self.others, when, at == self.turn);
+        let answer = self.cores[at].reset(entry, when);
+        answer
+    }
+
+    /// Returns the current deadline of a live entry, a tick of one millisecond. Constant time.
+    ///
+    /// # Errors
+    /// In this order:
+    /// - `Missing` if the entry isn't in the store any more, or never was.
+    /// - `WasCancelled` if the entry was cancelled.
+    pub fn deadline(&mut self, entry: &EntryId) -> Result<u64, CoreError>
+        // A missing entry is told exactly.
+        ensures missing { IsErrOf result Missing ↔ IsMissingIn self.old entry.now }
+
+        // Exactly: a look in the core of that number, and nothing else changes.
+        ensures tells { OnCoreOr entry.now.shard
+            (λ b c. TellsDeadline W.shared b entry.now result c)
+            (result ≡ Err Missing) self.old self.new }
+    {
+        let Some(at) = self.place_of(entry.shard()) else {
+            return Err(CoreError::Missing);
+        };
+        let answer = self.cores[at].deadline(entry);
+        answer
+    }
+
+    /// Puts `value` into the open core, to come out at the tick `when` of one millisecond, and returns its key. No value
+    /// is dropped: one that waits for its drop in the slot that the entry takes comes out beside the key. Constant time,
+    /// and no memory is taken.
+    ///
+    /// # Errors
+    /// `value` comes back. In this order:
+    /// - `TooFar` if `when` is beyond the last tick.
+    /// - `Full` if no core is open, or the open one has no slot free.
+    #[inline(always)]
+    pub fn insert(&mut self, value: T, when: u64) -> (Result<Key, (CoreError, T)>, Option<T>)
+        // Refused, the value comes back and nothing changes; first, and exactly, beyond the last tick.
+        ensures refused { IfErr result.0 (λ e. (e.1 ≡ value) × (self.new ≡ self.old)) }
+        ensures too_far { IsErrAnd result.0 (λ e. e.0 ≡ TooFar LAST_TICK) ↔ (LAST_TICK < when) }
+
+        // Exactly: an insert into the open core, and nothing else changes.
+        ensures inserts { InsertsIn self.old value when result self.new }
+    {
+        if self.opened >= self.cores.len() {
+            return (Err((closed_at(when), value)), None);
+        }
+        self.others = lowered(self.others, when, self.opened == self.turn);
+        let answer = self.cores[self.opened].insert_deferring(value, when);
+        answer
+    }
+
+    // Whether a core may come in.
+    fn may_take(&self, core: &DelayCore<T, W, A>) -> Result<(), TakeError>
+        ensures may { OnOk result (MayComeIn self.now core.now) }
+        ensures refused { IfErr result (λ e. TakeRefused self.now core.now e × (e ≢ NoMemory)) }
+    {
+        if !core.is_empty() {
+            return Err(TakeError::StillLinked);
+        }
+        if core.shard() == u32::MAX {
+            return Err(TakeError::UsedNumber);
+        }
+        if self.place_of(core.shard()).is_some() {
+            return Err(TakeError::UsedNumber);
+        }
+        Ok(())
+    }
+
+    /// Takes a core in, which is open from then on. The one that was open drains. A later tick that the core noted is
+    /// noted. It takes memory for the list of cores alone.
+    ///
+    /// # Errors
+    /// The core comes back, and nothing changes. In this order:
+    /// - `StillLinked` if an entry is linked in the core.
+    /// - `UsedNumber` if a core of the store has its number, or it is the last one of all.
+    /// - `NoMemory` if memory is refused.
+    pub fn take_in(
+        &mut self,
+        core: DelayCore<T, W, A>,
+    ) -> Result<(), (TakeError, DelayCore<T, W, A>)>
+        ensures takes { OnOk result (TakesIn self.old core self.new) }
+        ensures refused { IfErr result
+            (λ e. TakeRefused self.old core e.0 × (e.1 ≡ core) × (self.new ≡ self.old)) }
+    {
+        if let Err(error) = self.may_take(&core) {
+            return Err((error, core));
+        }
+        let number = core.shard();
+        if self.cores.reserve(1).is_err() {
+            return Err((TakeError::NoMemory, core));
+        }
+        core.law();
+        self.next = self.next.max(number + 1);
+        self.noted = self.noted.max(core.noted());
+        self.opened = self.cores.len();
+        self.others = 0;
+        self.cores.push_reserved(core);
+        Ok(())
+    }
+
+    // The place of a core that has drained.
+    fn drained(&self) -> Option<usize>
+        ensures found { IfSome result (λ i. (c : Core T W) × HasDrained self.now i c) }
+        ensures none { IfNone result (NoneDrained self.now) }
+    {
+        for at in 0..self.cores.len() {
+            if at != self.opened && is_foldable(&self.cores[at]) {
+                return Some(at);
+            }
+        }
+        None
+    }
+
+    /// Takes a core out that has drained: it isn't the open one, and holds nothing, not even a value that waits for its
+    /// drop. Folded, it keeps its words alone.
+    pub fn take_drained(&mut self) -> Option<DelayCore<T, W, A>>
+        ensures gives { IfSome result (λ c. GivesDrained self.old c self.new) }
+        ensures none { IfNone result (NoneDrained self.old × (self.new ≡ self.old)) }
+    {
+        let Some(at) = self.drained() else {
+            return None;
+        };
+        self.opened = opened_after(self.opened, at);
+        self.others = 0;
+        let core = self.cores.remove(at);
+        Some(core)
+    }
+}

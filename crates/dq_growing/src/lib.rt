@@ -1,0 +1,23 @@
+//! One owner's queue that grows and shrinks.
+//!
+//! A [`Cores`] has cores, each a [`dq_core::DelayCore`] under a number of its own. All inserts go into one of them, the
+//! open core; the others drain: what is in them stays, and comes out there. A core that has drained can be taken out and
+//! folded; its words stay, so its keys stay refused.
+#![tactic(auto)]
+
+mod cores;
+mod folds;
+mod least;
+mod moving;
+mod notes;
+mod polls;
+mod store;
+mod sweeps;
+
+/// After each tick: where nothing has a wake.
+pub(crate) const NEVER: u64 = u64::MAX;
+
+pub use cores::{Cores, TakeError};
+pub use folds::Folds;
+pub use moving::{Moved, NextDeadline};
+pub use store::Store;

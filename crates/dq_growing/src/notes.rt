@@ -1,0 +1,212 @@
+//! Where moved entries are, by the ids that their users have.
+
+ghost use Rattle.std.specs.Prelude.{◌≡◌, false, ◌<◌, ◌≤◌, IfOk, OnOk, None, Some};
+ghost use Rattle.dq_ticks.specs.Keys.{EntryName};
+ghost use Rattle.dq_growing.specs.Notes.{numbers_of, with_id, HasNoNumber, user_at, meant_place, SetsPair, SamePairs, TakesPair, AreNotes, HasNoteRoom, SameNotes, IsNoted, Forgets};
+
+use dq_ticks::EntryId;
+use std::alloc::{AllocError, Allocator, Global};
+use std::collections::HashMap;
+use std::hash::{BuildHasherDefault, FoldHasher};
+use std::marker::Model;
+
+// The numbers of an id.
+fn numbers_of(id: &EntryId) -> (u32, u32, u32)
+    ensures { result ≡ numbers_of id.now }
+{
+    (id.shard(), id.index(), id.born())
+}
+
+// Ids, each with another.
+#[derive(Drop)]
+pub(crate) struct PairTable<A: Allocator = Global> {
+    map: HashMap<(u32, u32, u32), EntryId, BuildHasherDefault<FoldHasher>, A>,
+}
+
+impl<A: Allocator> Model for PairTable<A> {
+    ghost use Rattle.std.specs.HashMap.{spare};
+    ghost use Rattle.dq_growing.specs.Notes.{Pairs};
+
+    ghost Value = { Pairs };
+
+    ghost view = { λ t. record { entries = t.map.entries; room = spare t.map } };
+}
+
+impl<A: Allocator + Clone> PairTable<A> {
+    // No ids.
+    pub(crate) fn new(alloc: A) -> PairTable<A>
+        ensures { (id : EntryName) → with_id result id ≡ None }
+    {
+        PairTable {
+            map: HashMap::new(alloc),
+        }
+    }
+
+    // What an id has with it.
+    pub(crate) fn find(&self, id: &EntryId) -> Option<EntryId>
+        ensures { result ≡ with_id self.now id.now }
+    {
+        let found = self.map.get(&numbers_of(id)).copied();
+        found
+    }
+
+    // Whether an id has that number.
+    fn has_number(&self, number: u32) -> bool
+        ensures { result ≡ false → HasNoNumber self.now number }
+    {
+        for numbers in self.map.keys() {
+            if numbers.0 == number {
+                return true;
+            }
+        }
+        false
+    }
+
+    // Takes memory for one more.
+    pub(crate) fn reserve(&mut self) -> Result<(), AllocError>
+        ensures same { SamePairs self.old self.new }
+        ensures room { OnOk result (0 < self.new.room) }
+        ensures kept { self.old.room ≤ self.new.room }
+    {
+        self.map.reserve(1)
+    }
+
+    // Gives an id another.
+    pub(crate) fn put(&mut self, id: &EntryId, other: EntryId)
+        requires { 0 < self.old.room }
+        ensures { SetsPair self.old id.now (Some other) self.new }
+    {
+        let Ok(_) = self.map.insert(numbers_of(id), other) else {
+            unreachable!();
+        };
+    }
+
+    // Takes from an id what it has.
+    pub(crate) fn take(&mut self, id: &EntryId)
+        ensures at { SetsPair self.old id.now None self.new }
+        ensures room { self.old.room ≤ self.new.room }
+    {
+        let _ = self.map.remove(&numbers_of(id));
+    }
+}
+
+// Takes from an id what it has, where there is such an id.
+fn take_where_some<A: Allocator + Clone>(table: &mut PairTable<A>, id: Option<EntryId>)
+    ensures takes { TakesPair table.old id table.new }
+    ensures room { table.old.room ≤ table.new.room }
+{
+    let Some(id) = id else {
+        return;
+    };
+    table.take(&id);
+}
+
+/// The notes of a store: where its moved entries are, by the ids that their users have.
+#[derive(Drop)]
+pub(crate) struct Notes<A: Allocator = Global> {
+    // By a user's id, the place.
+    places: PairTable<A>,
+    // By a place, the user's id.
+    users: PairTable<A>,
+}
+
+impl<A: Allocator> Model for Notes<A> {
+    ghost use Rattle.dq_growing.specs.Notes.{Book, AreNotes};
+
+    ghost Value = { Book };
+
+    ghost view = { λ n. record { places = n.places; users = n.users } };
+
+    ghost invariant = { λ n. AreNotes (record { places = n.places; users = n.users }) };
+}
+
+impl<A: Allocator + Clone> Notes<A> {
+    /// No notes. They take no memory yet.
+    ///
+    /// # Errors
+    /// If the allocator isn't cloned.
+    pub fn new(alloc: A) -> Result<Notes<A>, AllocError>
+        ensures { IfOk result
+            (λ n. (id : EntryName) → (with_id n.places id ≡ None) × (with_id n.users id ≡ None)) }
+    {
+        let other = alloc.clone()?;
+        Ok(Notes {
+            places: PairTable::new(alloc),
+            users: PairTable::new(other),
+        })
+    }
+
+    /// What notes keep at all times: each is the same both ways.
+    pub fn law(&self)
+        ensures { AreNotes self.now }
+    {
+        let _ = &self.places;
+    }
+
+    /// The place that a user's id means: its own, where nothing is noted; none, where another's entry is there.
+    pub fn place(&self, user: &EntryId) -> Option<EntryId>
+        ensures { result ≡ meant_place self.now user.now }
+    {
+        let Some(place) = self.places.find(user) else {
+            let None = self.users.find(user) else {
+                return None;
+            };
+            return Some(*user);
+        };
+        Some(place)
+    }
+
+    /// The id that the user of a place has: its own, where nothing is noted.
+    pub fn user(&self, place: &EntryId) -> EntryId
+        ensures { result ≡ user_at self.now place.now }
+    {
+        let Some(user) = self.users.find(place) else {
+            return *place;
+        };
+        user
+    }
+
+    /// Whether an id of a note has that number: a user's, or a place's.
+    pub fn has_number(&self, number: u32) -> bool
+        ensures { result ≡ false → HasNoNumber self.now.places number
+            × HasNoNumber self.now.users number }
+    {
+        self.places.has_number(number) || self.users.has_number(number)
+    }
+
+    /// Takes memory for one note more.
+    ///
+    /// # Errors
+    /// If memory is refused.
+    pub fn reserve(&mut self) -> Result<(), AllocError>
+        ensures same { SameNotes self.old self.new }
+        ensures room { OnOk result (HasNoteRoom self.new) }
+    {
+        self.places.reserve()?;
+        self.users.reserve()
+    }
+
+    /// Notes that a user's entry is at that place.
+    pub fn note(&mut self, user: &EntryId, place: &EntryId)
+        requires room { HasNoteRoom self.old }
+        requires free { with_id self.old.users place.now ≡ None }
+        ensures { IsNoted self.old user.now place.now self.new }
+    {
+        let left = self.places.find(user);
+        take_where_some(&mut self.users, left);
+        self.places.put(user, *place);
+        self.users.put(place, *user);
+    }
+
+    /// Takes away the note of a place, and returns its user's id, none where nothing was noted.
+    pub fn forget(&mut self, place: &EntryId) -> Option<EntryId>
+        ensures { Forgets self.old place.now result self.new }
+    {
+        let Some(user) = self.users.find(place) else {
+            return None;
+        };
+        self.places.take(&user);
+        self.users.take(place);
+        Some(user)
+    }
+}

@@ -1,0 +1,278 @@
+//! Polls of a store.
+
+ghost use Rattle.std.specs.Prelude.{◌≡◌, true, ◌↔◌, IsErr, OnOk, ℕ, ◌<◌, ◌≤◌, max, length, MatchOption, IfSome, IfNone, Some, None, Ok, ◌≢◌, ◌+◌};
+ghost use Rattle.dq_growing.specs.declared.TheConstants.{NEVER};
+ghost use Rattle.dq_core.specs.Core.{Core, machine};
+ghost use Rattle.dq_core.specs.Asides.{waiting_in};
+ghost use Rattle.dq_core.specs.Machine.{NoneLinked, NoneLiveBefore};
+ghost use Rattle.dq_core.specs.Calls.{TellsWake};
+ghost use Rattle.dq_growing.specs.Cores.{IsCoreAt};
+ghost use Rattle.dq_growing.specs.Stands.{Ages};
+ghost use Rattle.dq_growing.specs.Polls.{TellsLeastBelow, WakeBounds, PollsRow, DoesPoll, DoesPiece, TellsDue, told, IfPieceOut, IfPieceRests, OthersAreQuiet, PollsCore, HasTurn, NoneLiveIn, TellsWakeIn, PeeksIn, NoneWaits, TakesAsideIn};
+
+use crate::NEVER;
+use crate::cores::Cores;
+use crate::least::{Due, Least, joined};
+use dq_core::laws::wakes_bound_deadlines;
+use dq_core::{CoreError, DelayCore, Piece, Turn, Words};
+use dq_ticks::{Key, LAST_TICK};
+use std::alloc::Allocator;
+
+// The next wake of a core.
+fn wake_of<T, W: Words, A: Allocator>(core: &DelayCore<T, W, A>) -> Option<u64>
+    ensures tells { TellsWake core.now result }
+    ensures bounds { WakeBounds core.now result }
+{
+    wakes_bound_deadlines::<T, W>();
+    core.law();
+    let wake = core.next_wake();
+    wake
+}
+
+// Whether a core wakes by a tick.
+fn wakes_by<T, W: Words, A: Allocator>(core: &DelayCore<T, W, A>, tick: u64) -> bool
+    ensures { result ≡ true → (w : ℕ) × TellsWake core.now (Some w) × (w ≤ tick) }
+{
+    match wake_of(core) {
+        Some(wake) => wake <= tick,
+        None => false,
+    }
+}
+
+// What a store answers where a piece of the core that wakes first came to an answer, and no other core has a live entry
+// with a deadline before `others`.
+fn as_told<T>(piece: Piece<T>, noted: u64, others: u64) -> Piece<T>
+    ensures { result ≡ told noted others piece }
+{
+    match piece {
+        Piece::Answer(Turn::Waiting { next }) if noted < others => Piece::Answer(Turn::Waiting {
+            next: next.min(others),
+        }),
+        Piece::Answer(Turn::Idle) if noted < others => {
+            if others == NEVER {
+                return Piece::Answer(Turn::Idle);
+            }
+            Piece::Answer(Turn::Waiting { next: others })
+        }
+        Piece::Answer(Turn::Out(expired)) => Piece::Answer(Turn::Out(expired)),
+        _ => Piece::Working,
+    }
+}
+
+impl<T, W: Words, A: Allocator> Cores<T, W, A> {
+    // Which core wakes first, none where nothing is linked.
+    fn least(&self) -> Option<Least>
+        ensures { TellsLeastBelow self.now.cores (length self.now.cores) result }
+    {
+        let mut least = None;
+        for at in 0..self.cores.len() {
+            least = joined(least, at, wake_of(&self.cores[at]));
+        }
+        least
+    }
+
+    // What is to be polled next: the core whose turn it is, as long as it wakes before the others.
+    #[inline(always)]
+    fn due(&mut self) -> Due
+        ensures same { self.new ≡ self.old }
+        ensures due { TellsDue self.old result }
+    {
+        if self.turn < self.cores.len()
+            && (self.noted < self.others || wakes_by(&self.cores[self.turn], self.others))
+        {
+            return Due::In {
+                place: self.turn,
+                others: self.others,
+            };
+        }
+        self.take_turns()
+    }
+
+    // Gives the turn to the core that wakes first.
+    fn take_turns(&mut self) -> Due
+        ensures same { self.new ≡ self.old }
+        ensures due { TellsDue self.old result }
+    {
+        let Some(least) = self.least() else {
+            return Due::Rests(None);
+        };
+        self.turn = least.place;
+        self.others = least.others;
+        if least.wake > self.noted {
+            return Due::Rests(Some(least.wake));
+        }
+        Due::In {
+            place: least.place,
+            others: least.others,
+        }
+    }
+
+    /// Notes a tick, of one millisecond, and polls one core: it takes out one entry whose deadline in force is reached by
+    /// the greatest tick noted, or tells when to come again, or that another core may have more. No value is dropped:
+    /// that of each cancelled entry which it reaps waits until it is taken out. It may name a tick though what was to come
+    /// then has left: whoever polls at that tick is told anew.
+    ///
+    /// # Errors
+    /// `TickTooLarge` beyond the last tick, which is not noted then.
+    #[inline(always)]
+    pub fn poll(&mut self, tick: u64) -> Result<Piece<T>, CoreError>
+        // The greater of the two ticks is noted. A tick is refused, and nothing changes, exactly
+        // beyond the last one.
+        ensures noted { OnOk result (self.new.noted ≡ max self.old.noted tick) }
+        ensures refused { IsErr result ↔ (LAST_TICK < tick) }
+
+        // What comes out is due.
+        ensures out { IfPieceOut result (λ x. x.deadline ≤ self.new.noted) }
+
+        // Where the answer is that none is due, no live entry is, and the tick to wait for is after the
+        // noted one.
+        ensures rests { IfPieceRests result (λ next. NoneLiveIn self.new (self.new.noted + 1)) }
+        ensures ahead { IfPieceRests result (λ next. IfSome next (λ t. self.new.noted < t)) }
+
+        // No id that an entry has had is given anew.
+        ensures ages { Ages self.old self.new }
+
+        // Exactly: one core is polled, or nothing is due.
+        ensures polls { PollsRow (DoesPoll W.shared) self.old tick result self.new }
+    {
+        if tick > LAST_TICK {
+            return Err(CoreError::TickTooLarge { limit: LAST_TICK });
+        }
+        self.noted = self.noted.max(tick);
+        match self.due() {
+            Due::In { place, others } => Ok(self.poll_core(place, others)),
+            Due::Rests(None) => Ok(Piece::Answer(Turn::Idle)),
+            Due::Rests(Some(next)) => Ok(Piece::Answer(Turn::Waiting { next })),
+        }
+    }
+
+    /// The same by at most `most` steps, each in constant time. So it also tells where it made them all, and more may be
+    /// left.
+    ///
+    /// # Errors
+    /// `TickTooLarge` beyond the last tick, which is not noted then.
+    #[inline(always)]
+    pub fn poll_some(&mut self, tick: u64, most: u32) -> Result<Piece<T>, CoreError>
+        // The greater of the two ticks is noted. A tick is refused, and nothing changes, exactly
+        // beyond the last one.
+        ensures noted { OnOk result (self.new.noted ≡ max self.old.noted tick) }
+        ensures refused { IsErr result ↔ (LAST_TICK < tick) }
+
+        // What comes out is due.
+        ensures out { IfPieceOut result (λ x. x.deadline ≤ self.new.noted) }
+
+        // Where the answer is that none is due, no live entry is, and the tick to wait for is after the
+        // noted one.
+        ensures rests { IfPieceRests result (λ next. NoneLiveIn self.new (self.new.noted + 1)) }
+        ensures ahead { IfPieceRests result (λ next. IfSome next (λ t. self.new.noted < t)) }
+
+        // No id that an entry has had is given anew.
+        ensures ages { Ages self.old self.new }
+
+        // Exactly: a piece of one core's poll, or nothing is due.
+        ensures polls { PollsRow (DoesPiece W.shared most) self.old tick result self.new }
+    {
+        if tick > LAST_TICK {
+            return Err(CoreError::TickTooLarge { limit: LAST_TICK });
+        }
+        self.noted = self.noted.max(tick);
+        match self.due() {
+            Due::In { place, others } => Ok(self.poll_piece(place, others, most)),
+            Due::Rests(None) => Ok(Piece::Answer(Turn::Idle)),
+            Due::Rests(Some(next)) => Ok(Piece::Answer(Turn::Waiting { next })),
+        }
+    }
+
+    // Polls one core, where no other has a live entry with a deadline before `others`.
+    #[inline(always)]
+    fn poll_core(&mut self, place: usize, others: u64) -> Piece<T>
+        requires place { place < length self.old.cores }
+        requires quiet { OthersAreQuiet self.old place others }
+        requires turn { HasTurn self.old place others }
+        ensures noted { self.new.noted ≡ self.old.noted }
+        ensures out { IfPieceOut (Ok result) (λ x. x.deadline ≤ self.new.noted) }
+        ensures rests { IfPieceRests (Ok result)
+            (λ next. NoneLiveIn self.new (self.new.noted + 1)) }
+        ensures ahead { IfPieceRests (Ok result) (λ next. IfSome next (λ t. self.new.noted < t)) }
+        ensures ages { Ages self.old self.new }
+        ensures polls { PollsCore (DoesPoll W.shared) self.old result self.new }
+    {
+        let noted = self.noted;
+        let answer = self.cores[place].poll_deferring(noted.min(others));
+        match answer {
+            Ok(turn) => as_told(Piece::Answer(turn), noted, others),
+            Err(_) => unreachable!(),
+        }
+    }
+
+    // The same by at most so many steps.
+    #[inline(always)]
+    fn poll_piece(&mut self, place: usize, others: u64, most: u32) -> Piece<T>
+        requires place { place < length self.old.cores }
+        requires quiet { OthersAreQuiet self.old place others }
+        requires turn { HasTurn self.old place others }
+        ensures noted { self.new.noted ≡ self.old.noted }
+        ensures out { IfPieceOut (Ok result) (λ x. x.deadline ≤ self.new.noted) }
+        ensures rests { IfPieceRests (Ok result)
+            (λ next. NoneLiveIn self.new (self.new.noted + 1)) }
+        ensures ahead { IfPieceRests (Ok result) (λ next. IfSome next (λ t. self.new.noted < t)) }
+        ensures ages { Ages self.old self.new }
+        ensures polls { PollsCore (DoesPiece W.shared most) self.old result self.new }
+    {
+        let noted = self.noted;
+        let answer = self.cores[place].poll_some_deferring(noted.min(others), most);
+        match answer {
+            Ok(piece) => as_told(piece, noted, others),
+            Err(_) => unreachable!(),
+        }
+    }
+
+    /// Returns the tick, of one millisecond, at which the store has something to do next. It returns none if no entry is
+    /// linked. No live entry has a deadline before that tick; the least deadline may be later.
+    pub fn next_wake(&self) -> Option<u64>
+        ensures quiet { IfSome result (λ w. NoneLiveIn self.now w) }
+        ensures wake { TellsWakeIn self.now result }
+    {
+        let Some(least) = self.least() else {
+            return None;
+        };
+        Some(least.wake)
+    }
+
+    /// Returns the key of an entry that is scheduled first, possibly a cancelled one. It returns none if no entry is
+    /// linked.
+    pub fn peek(&self) -> Option<Key>
+        ensures { PeeksIn self.now result }
+    {
+        let Some(least) = self.least() else {
+            return None;
+        };
+        let key = self.cores[least.place].peek();
+        key
+    }
+
+    /// Takes out a freed value that waits for its drop. It returns none if no value waits.
+    pub fn take_aside(&mut self) -> Option<T>
+        ensures { TakesAsideIn self.old result self.new }
+    {
+        let Some(at) = self.waiting() else {
+            return None;
+        };
+        let value = self.cores[at].take_aside();
+        value
+    }
+
+    // The place of a core in which a value waits for its drop.
+    fn waiting(&self) -> Option<usize>
+        ensures found { IfSome result
+            (λ i. (c : Core T W) × IsCoreAt self.now.cores i c × (waiting_in c.aside ≢ 0)) }
+        ensures none { IfNone result (NoneWaits self.now) }
+    {
+        for at in 0..self.cores.len() {
+            if self.cores[at].aside() > 0 {
+                return Some(at);
+            }
+        }
+        None
+    }
+}

@@ -1,0 +1,425 @@
+//! A store as its users see it: they know an entry by the id that it came in with, wherever it is.
+
+ghost use Rattle.dq_core.specs.declared.errors.CoreError.TheVariants.{Worn};
+ghost use Rattle.std.specs.Prelude.{◌≡◌, ◌↔◌, IsTrue, IfSome, IfNone, IfErr, IfOk, OnOk, OnErr, Ok, Err, None, Some};
+ghost use Rattle.dq_growing.specs.Cores.{InsertsIn, TakesIn, GivesDrained, NoneDrained};
+ghost use Rattle.dq_ticks.specs.Keys.{EntryName};
+ghost use Rattle.dq_growing.specs.Stands.{OneLeaves, SameStand};
+ghost use Rattle.dq_growing.specs.Store.{key_as, key_told, removed_as, expired_as, moved_as, answer_as, NotesMoved, NotesAnswered, IsStore, KeysAreApart, StandsFor, ComesFor, GoesOnFor, RemovesFor, TellsFor, RelocatesFor, PollsSomeFor, PeeksFor, ReapsFor, ResetsFor};
+ghost use Rattle.dq_growing.specs.Moving.{IfTo, IfCameOut};
+ghost use Rattle.dq_growing.specs.Notes.{HasNoteRoom, HasNoNumber, user_at, with_id};
+
+use crate::cores::{Cores, TakeError, missing_at};
+use crate::moving::{Moved, NextDeadline};
+use crate::notes::Notes;
+use dq_core::{CoreError, DelayCore, Expired, Piece, ReapError, Removed, Turn, Words};
+use dq_ticks::{EntryId, Key};
+use std::alloc::{Allocator, Global};
+use std::marker::Model;
+
+/// A delay queue of one owner that grows and shrinks, and moves entries from core to core. An entry keeps the id that its
+/// key had when it came in.
+///
+/// A call by an entry's id looks for its note in a map, and for its core as [`Cores`] does. What it costs, as it is told
+/// with the call, is in that core.
+#[derive(Drop)]
+pub struct Store<T, W: Words, A: Allocator = Global> {
+    cores: Cores<T, W, A>,
+    notes: Notes<A>,
+}
+
+impl<T, W: Words, A: Allocator> Model for Store<T, W, A> {
+    ghost use Rattle.dq_growing.specs.Store.{StoreState, IsStore};
+
+    ghost Value = { StoreState T W };
+
+    ghost view = { λ s. record { cores = s.cores; notes = s.notes } };
+
+    ghost invariant = { λ s. IsStore (record { cores = s.cores; notes = s.notes }) };
+}
+
+// A key of a place, as its user has it.
+fn key_as(user: &EntryId, key: Key) -> Key
+    ensures { result ≡ key_as user.now key }
+{
+    Key::new(*user, key.stamp())
+}
+
+// What was taken out, as its user knows it.
+fn removed_as<T>(user: &EntryId, removed: Removed<T>) -> Removed<T>
+    ensures { result ≡ removed_as user.now removed }
+{
+    let Removed {
+        key,
+        deadline,
+        value,
+    } = removed;
+    Removed {
+        key: key_as(user, key),
+        deadline,
+        value,
+    }
+}
+
+// What came out, as its user knows it.
+fn expired_as<T>(user: &EntryId, expired: Expired<T>) -> Expired<T>
+    ensures { result ≡ expired_as user.now expired }
+{
+    let Expired {
+        key,
+        deadline,
+        noted,
+        value,
+    } = expired;
+    Expired {
+        key: key_as(user, key),
+        deadline,
+        noted,
+        value,
+    }
+}
+
+// Notes what became of a user's entry that was moved from a place, and tells it as its user knows it.
+fn note_moved<T, A: Allocator + Clone>(
+    notes: &mut Notes<A>,
+    user: &EntryId,
+    place: &EntryId,
+    moved: Moved<T>,
+) -> Moved<T>
+    requires room { HasNoteRoom notes.old }
+    requires free { IfTo moved (λ key _. with_id notes.old.users key.entry ≡ None) }
+    ensures answer { result ≡ moved_as user.now moved }
+    ensures notes { NotesMoved notes.old user.now place.now moved notes.new }
+{
+    match moved {
+        Moved::To { key, deadline } => {
+            notes.note(user, &key.entry());
+            let renamed = key_as(user, key);
+            Moved::To {
+                key: renamed,
+                deadline,
+            }
+        }
+        Moved::Out(removed) => {
+            let _ = notes.forget(place);
+            Moved::Out(removed_as(user, removed))
+        }
+    }
+}
+
+// The same of the answer of a move.
+fn note_answer<T, A: Allocator + Clone>(
+    notes: &mut Notes<A>,
+    user: &EntryId,
+    place: &EntryId,
+    answer: Result<Moved<T>, CoreError>,
+) -> Result<Moved<T>, CoreError>
+    requires room { HasNoteRoom notes.old }
+    requires free { IfOk answer
+        (λ moved. IfTo moved (λ key _. with_id notes.old.users key.entry ≡ None)) }
+    ensures answer { result ≡ answer_as user.now answer }
+    ensures notes { NotesAnswered notes.old user.now place.now answer notes.new }
+{
+    match answer {
+        Ok(moved) => Ok(note_moved(notes, user, place, moved)),
+        Err(error) => Err(error),
+    }
+}
+
+// Whether a slot has no stamp left for another key.
+fn is_worn(error: CoreError) -> bool
+    ensures { IsTrue result ↔ (error ≡ Worn) }
+{
+    match error {
+        CoreError::Worn => true,
+        _ => false,
+    }
+}
+
+// The key of an entry that is in again.
+fn moved_key<T>(moved: Moved<T>) -> Key
+    requires { IfCameOut moved (λ _. ⊥) }
+    ensures { IfTo moved (λ key _. result ≡ key) }
+{
+    match moved {
+        Moved::To { key, deadline: _ } => key,
+        Moved::Out(_) => unreachable!(),
+    }
+}
+
+// The key that a move tells, if it isn't refused and the entry is in again.
+fn key_told<T>(answer: Result<Moved<T>, CoreError>) -> Result<Key, CoreError>
+    requires { IfOk answer (λ moved. IfCameOut moved (λ _. ⊥)) }
+    ensures { result ≡ key_told answer }
+{
+    match answer {
+        Ok(moved) => Ok(moved_key(moved)),
+        Err(error) => Err(error),
+    }
+}
+
+impl<T, W: Words, A: Allocator + Clone> Store<T, W, A> {
+    /// What a store keeps at all times: what is noted was moved away from its user's id, which no new entry gets. So no
+    /// two entries have one user's id.
+    pub fn law(&self)
+        ensures law { IsStore self.now }
+        ensures apart { KeysAreApart self.now }
+    {
+        let _ = &self.cores;
+    }
+
+    /// Puts `value` in, to come out at the tick `when` of one millisecond, and returns its key. No value is dropped: one
+    /// that waits for its drop in the slot that the entry takes comes out beside the key. Constant time, and no memory is
+    /// taken.
+    ///
+    /// # Errors
+    /// `value` comes back. In this order:
+    /// - `TooFar` if `when` is beyond the last tick.
+    /// - `Full` if no core is open, or the open one has no slot free.
+    pub fn insert(&mut self, value: T, when: u64) -> (Result<Key, (CoreError, T)>, Option<T>)
+        // The entry is in under its key, which none had, and no other changes.
+        ensures comes { IfOk result.0 (λ k. ComesFor self.old k value when self.new) }
+
+        // Exactly: an insert into the open core, and the same notes.
+        ensures inserts { InsertsIn self.old.cores value when result self.new.cores }
+        ensures notes { self.new.notes ≡ self.old.notes }
+    {
+        self.cores.law();
+        let answer = self.cores.insert(value, when);
+        answer
+    }
+
+    /// Takes a live entry out, and returns its value with its key and its current deadline, a tick of one millisecond.
+    /// Constant time, and no memory is taken.
+    ///
+    /// # Errors
+    /// In this order:
+    /// - `Missing` if the entry isn't in the store any more, or never was.
+    /// - `WasCancelled` if the entry was cancelled.
+    pub fn remove(&mut self, entry: &EntryId) -> Result<Removed<T>, CoreError>
+        // That entry leaves with its value, and no other. Refused, none does.
+        ensures leaves { IfOk result
+            (λ x. OneLeaves (StandsFor self.old) (StandsFor self.new) entry.now x.value) }
+        ensures key { IfOk result (λ x. x.key.entry ≡ entry.now) }
+        ensures refused { OnErr result (SameStand (StandsFor self.old) (StandsFor self.new)) }
+
+        // Exactly: a removal at the place that the notes tell, of which no note is left.
+        ensures removes { RemovesFor W.shared self.old entry.now result self.new }
+    {
+        let Some(place) = self.notes.place(entry) else {
+            return Err(CoreError::Missing);
+        };
+        self.cores.law();
+        let removed = match self.cores.remove(&place) {
+            Ok(removed) => removed,
+            Err(error) => return Err(error),
+        };
+        let _ = self.notes.forget(&place);
+        self.notes.law();
+        Ok(removed_as(entry, removed))
+    }
+
+    /// Returns the current deadline of a live entry, a tick of one millisecond. Constant time.
+    ///
+    /// # Errors
+    /// In this order:
+    /// - `Missing` if the entry isn't in the store any more, or never was.
+    /// - `WasCancelled` if the entry was cancelled.
+    pub fn deadline(&mut self, entry: &EntryId) -> Result<u64, CoreError>
+        ensures tells { TellsFor W.shared self.old entry.now result self.new }
+    {
+        let Some(place) = self.notes.place(entry) else {
+            return Err(CoreError::Missing);
+        };
+        self.cores.law();
+        let answer = self.cores.deadline(&place);
+        answer
+    }
+
+    /// Takes a live entry out of its core and puts it into the open one, with its value and with the deadline that `next`
+    /// makes of the one that it has as it is taken out. The entry keeps its id, and its key goes on with the stamp that
+    /// is returned. No value is dropped: one that waits for its drop in the slot that the entry takes comes out beside
+    /// the answer, and none beside any answer but `To`. Constant time in each core, and memory for one note is taken.
+    ///
+    /// # Errors
+    /// Nothing is taken out. In this order:
+    /// - `NoMemory` if memory for the note is refused.
+    /// - `TooFar` if a deadline is asked for that is beyond the last tick.
+    /// - `Full` if no core is open, or the open one has no free slot. It has the open core's numbers.
+    /// - `Missing` if the entry isn't in the store any more, or never was.
+    /// - `WasCancelled` if the entry was cancelled.
+    pub fn relocate(
+        &mut self,
+        entry: &EntryId,
+        next: NextDeadline,
+    ) -> (Result<Moved<T>, CoreError>, Option<T>)
+        // It goes on under its id, with its value and the deadline told. No other entry changes.
+        ensures goes_on { IfOk result.0 (λ moved. IfTo moved (λ key deadline.
+            (key.entry ≡ entry.now) × GoesOnFor self.old entry.now deadline self.new)) }
+
+        // Or it comes out, with its value.
+        ensures came_out { IfOk result.0 (λ moved. IfCameOut moved (λ x.
+            OneLeaves (StandsFor self.old) (StandsFor self.new) entry.now x.value)) }
+
+        // Refused, no entry leaves or moves.
+        ensures refused { OnErr result.0 (SameStand (StandsFor self.old) (StandsFor self.new)) }
+
+        // Exactly: a move from the place that the notes tell, and its note; or which refusal comes.
+        ensures relocates { RelocatesFor W.shared self.old entry.now next result self.new }
+    {
+        let Some(place) = self.notes.place(entry) else {
+            return (Err(CoreError::Missing), None);
+        };
+        if self.notes.reserve().is_err() {
+            self.notes.law();
+            return (Err(CoreError::NoMemory), None);
+        }
+        let (answer, beside) = self.cores.relocate(&place, next);
+        let answer = note_answer(&mut self.notes, entry, &place, answer);
+        self.notes.law();
+        (answer, beside)
+    }
+
+    /// Notes a tick, of one millisecond, and makes at most `most` steps of a poll: it takes out one entry whose deadline
+    /// in force is reached by the greatest tick noted, or tells when to come again, or has more to do. No value is
+    /// dropped: that of each cancelled entry which it reaps waits until it is taken out.
+    ///
+    /// # Errors
+    /// `TickTooLarge` beyond the last tick, which is not noted then.
+    pub fn poll_some(&mut self, tick: u64, most: u32) -> Result<Piece<T>, CoreError>
+        // Exactly: a piece of a poll of the cores. What comes out has its user's key, and leaves no note.
+        ensures polls { PollsSomeFor W.shared self.old tick most result self.new }
+    {
+        match self.cores.poll_some(tick, most) {
+            Ok(Piece::Answer(Turn::Out(expired))) => {
+                let place = expired.key.entry();
+                let user = self.notes.user(&place);
+                let _ = self.notes.forget(&place);
+                self.notes.law();
+                let expired = expired_as(&user, expired);
+                Ok(Piece::Answer(Turn::Out(expired)))
+            }
+            answer => answer,
+        }
+    }
+
+    /// Returns the key of an entry that is scheduled first, possibly a cancelled one. It returns none if no entry is
+    /// linked.
+    pub fn peek(&self) -> Option<Key>
+        ensures { PeeksFor self.now result }
+    {
+        let Some(key) = self.cores.peek() else {
+            return None;
+        };
+        let user = self.notes.user(&key.entry());
+        let key = key_as(&user, key);
+        Some(key)
+    }
+
+    /// Gives a live entry the deadline `when`, a tick of one millisecond, sooner or later than the one that it has, and
+    /// returns its new key. Where its slot has no stamp left for another key, it goes on in the open core. No value is
+    /// dropped: one that waits for its drop in the slot that the entry takes then comes out beside the key. Constant time.
+    /// No memory is taken, but for a note where the entry goes on.
+    ///
+    /// # Errors
+    /// In this order:
+    /// - `TooFar` if `when` is beyond the last tick.
+    /// - `Missing` if the entry isn't in the store any more, or never was.
+    /// - `WasCancelled` if the entry was cancelled.
+    /// - `NoMemory` if the entry has to go on in the open core, and memory for its note is refused.
+    /// - `Full` if it has to, and no core is open, or the open one has no free slot.
+    pub fn reset(&mut self, entry: &EntryId, when: u64) -> (Result<Key, CoreError>, Option<T>)
+        // Exactly: a reset at the place that the notes tell, or a move from there.
+        ensures resets { ResetsFor W.shared self.old entry.now when result self.new }
+    {
+        let Some(place) = self.notes.place(entry) else {
+            return (Err(missing_at(when)), None);
+        };
+        self.cores.law();
+        let error = match self.cores.reset(&place, when) {
+            Ok(key) => return (Ok(key_as(entry, key)), None),
+            Err(error) => error,
+        };
+        if !is_worn(error) {
+            return (Err(error), None);
+        }
+        let (moved, beside) = self.relocate(entry, NextDeadline::At(when));
+        (key_told(moved), beside)
+    }
+
+    /// Reaps the entry of that id where it is found cancelled. Its value isn't dropped: it waits until it is taken out.
+    ///
+    /// # Errors
+    /// `Missing` where no entry of that id is linked; `Live` where it is found live.
+    pub fn reap(&mut self, entry: &EntryId) -> Result<(), ReapError>
+        // Exactly: a reap at the place that the notes tell, of which no note is left.
+        ensures reaps { ReapsFor W.shared self.old entry.now result self.new }
+    {
+        let Some(place) = self.notes.place(entry) else {
+            return Err(ReapError::Missing);
+        };
+        if let Err(error) = self.cores.reap(&place) {
+            return Err(error);
+        }
+        let _ = self.notes.forget(&place);
+        self.notes.law();
+        Ok(())
+    }
+
+    /// Takes a core in, which is open from then on. The one that was open drains. It takes memory for the list of cores
+    /// alone.
+    ///
+    /// # Errors
+    /// The core comes back, and nothing changes. In this order:
+    /// - `UsedNumber` if an entry is known by an id of that number that was moved away from there, or to there.
+    /// - `StillLinked` if an entry is linked in the core.
+    /// - `UsedNumber` if a core of the store has its number, or it is the last one of all.
+    /// - `NoMemory` if memory is refused.
+    pub fn take_in(
+        &mut self,
+        core: DelayCore<T, W, A>,
+    ) -> Result<(), (TakeError, DelayCore<T, W, A>)>
+        // It comes in as cores do, under a number that no note has, and the notes stay.
+        ensures takes { OnOk result (TakesIn self.old.cores core self.new.cores) }
+        ensures free { OnOk result (HasNoNumber self.old.notes.places core.shard
+            × HasNoNumber self.old.notes.users core.shard) }
+        ensures back { IfErr result (λ e. (e.1 ≡ core) × (self.new.cores ≡ self.old.cores)) }
+        ensures notes { self.new.notes ≡ self.old.notes }
+    {
+        if self.notes.has_number(core.shard()) {
+            return Err((TakeError::UsedNumber, core));
+        }
+        let answer = self.cores.take_in(core);
+        answer
+    }
+
+    /// Takes a core out that has drained: it isn't the open one, and holds nothing, not even a value that waits for its
+    /// drop. Folded, it keeps its words alone.
+    pub fn take_drained(&mut self) -> Option<DelayCore<T, W, A>>
+        ensures gives { IfSome result (λ c. GivesDrained self.old.cores c self.new.cores) }
+        ensures none { IfNone result (NoneDrained self.old.cores
+            × (self.new.cores ≡ self.old.cores)) }
+        ensures notes { self.new.notes ≡ self.old.notes }
+    {
+        let core = self.cores.take_drained();
+        core
+    }
+}
+
+impl<T, W: Words + Drop, A: Allocator + Clone> Store<T, W, A> {
+    /// A store over those cores, with no notes.
+    ///
+    /// # Errors
+    /// The cores come back if the allocator isn't cloned.
+    pub fn new(cores: Cores<T, W, A>, alloc: A) -> Result<Store<T, W, A>, Cores<T, W, A>>
+        // Each entry keeps the id that it has.
+        ensures own { IfOk result (λ s. (id : EntryName) → user_at s.notes id ≡ id) }
+        ensures cores { IfOk result (λ s. s.cores ≡ cores) }
+        ensures back { IfErr result (λ c. c ≡ cores) }
+    {
+        match Notes::new(alloc) {
+            Ok(notes) => Ok(Store { cores, notes }),
+            Err(_) => Err(cores),
+        }
+    }
+}

@@ -1,0 +1,64 @@
+//! Calls that free cancelled entries, and a clear.
+
+ghost use Rattle.std.specs.Prelude.{◌≡◌, ◌<◌, ◌≤◌, ◌+◌, MatchOption, Some, None, Err, length};
+ghost use Rattle.dq_core.specs.declared.errors.ReapError.TheVariants.{Missing};
+ghost use Rattle.dq_core.specs.Sweeps.{Clears, Reaps, SweepsSome};
+ghost use Rattle.dq_growing.specs.Stands.{Ages};
+ghost use Rattle.dq_growing.specs.Cores.{OnCoreAt, OnCoreOr, next_slot};
+
+use crate::cores::Cores;
+use dq_core::{ReapError, Swept, Words};
+use dq_ticks::EntryId;
+use std::alloc::Allocator;
+
+impl<T, W: Words, A: Allocator> Cores<T, W, A> {
+    /// Reaps the entry of that name where it is found cancelled. Its value isn't dropped: it waits until it is taken
+    /// out.
+    ///
+    /// # Errors
+    /// `Missing` where no entry of that name is linked; `Live` where it is found live.
+    pub fn reap(&mut self, entry: &EntryId) -> Result<(), ReapError>
+        // No id that an entry has had is given anew.
+        ensures ages { Ages self.old self.new }
+        ensures reaps { OnCoreOr entry.now.shard (λ b c. Reaps W.shared b entry.now result c)
+            (result ≡ Err Missing) self.old self.new }
+    {
+        let Some(at) = self.place_of(entry.shard()) else {
+            return Err(ReapError::Missing);
+        };
+        let answer = self.cores[at].reap_deferring(entry);
+        answer
+    }
+
+    /// Reaps each linked entry that is found cancelled at `count` slots from `from` on of the core at a place, and tells
+    /// the slot to go on from. It returns none where there is no such place. No value is dropped: each waits until it is
+    /// taken out.
+    pub fn sweep_some(&mut self, place: usize, from: usize, count: usize) -> Option<Swept>
+        ensures sweeps { MatchOption result
+            ((length self.old.cores ≤ place) × (self.new ≡ self.old))
+            (λ swept. OnCoreAt place
+            (λ b c. SweepsSome W.shared b from (from + count) swept.reaped c
+            × (swept.next ≡ next_slot b (from + count))) self.old self.new) }
+    {
+        if place >= self.cores.len() {
+            return None;
+        }
+        let swept = self.cores[place].sweep_some_deferring(from, count);
+        Some(swept)
+    }
+
+    /// Ends every linked entry of the core at a place: each live one as removed, and those that were cancelled are
+    /// reaped. It returns how many it ended as removed, and none where there is no such place. No value is dropped: each
+    /// waits until it is taken out.
+    pub fn clear_core(&mut self, place: usize) -> Option<usize>
+        ensures clears { MatchOption result
+            ((length self.old.cores ≤ place) × (self.new ≡ self.old))
+            (λ ended. OnCoreAt place (λ b c. Clears W.shared b ended c) self.old self.new) }
+    {
+        if place >= self.cores.len() {
+            return None;
+        }
+        let ended = self.cores[place].clear_deferring();
+        Some(ended)
+    }
+}

@@ -1,0 +1,260 @@
+//! The cores of one owner, and the calls on them.
+
+use crate::core::{CoreError, DelayCore, Removed, Words};
+use crate::index::{nth, nth_mut};
+use crate::ticks::{EntryId, Key, LAST_TICK};
+use alloc::vec::Vec;
+
+/// Why a core doesn't come into a store.
+#[derive(Clone, Copy, Debug, PartialEq, Eq)]
+pub enum TakeError {
+    /// An entry is linked in it.
+    StillLinked,
+    /// A core of the store has its number, or it is the last one of all.
+    UsedNumber,
+    /// Memory was refused.
+    NoMemory,
+}
+
+/// A delay queue of one owner that grows and shrinks.
+///
+/// A call by an entry's id compares its number with those of the cores, one after another, until it has found its core.
+/// What it costs, as it is told with the call, is in that core.
+pub struct Cores<T, W: Words> {
+    pub(crate) cores: Vec<DelayCore<T, W>>,
+    pub(crate) opened: usize,
+    pub(crate) next: u32,
+    pub(crate) noted: u64,
+    // The core whose turn it is to be polled. No other one has a live entry with a deadline before `others`.
+    pub(crate) turn: usize,
+    pub(crate) others: u64,
+}
+
+// Why a reset is refused where no core has the entry's number.
+pub(crate) fn missing_at(when: u64) -> CoreError {
+    if when > LAST_TICK {
+        return CoreError::TooFar { limit: LAST_TICK };
+    }
+    CoreError::Missing
+}
+
+// Whether nothing is linked in a core, and no value waits for its drop there.
+fn is_foldable<T, W: Words>(core: &DelayCore<T, W>) -> bool {
+    core.is_empty() && core.aside() == 0
+}
+
+// Takes a live entry out of a core.
+fn remove_from<T, W: Words>(core: &mut DelayCore<T, W>, entry: &EntryId) -> Result<Removed<T>, CoreError> {
+    core.remove(entry)
+}
+
+// The tick before which no core but the one whose turn it is has a live entry with a deadline, once an entry got a
+// deadline.
+#[inline(always)]
+pub(crate) fn lowered(others: u64, when: u64, is_turn: bool) -> u64 {
+    if is_turn {
+        others
+    } else {
+        others.min(when)
+    }
+}
+
+// The place of the open core, once the core at a place is gone.
+fn opened_after(opened: usize, at: usize) -> usize {
+    if at < opened {
+        opened - 1
+    } else {
+        opened
+    }
+}
+
+// Why an insert is refused where no core is open.
+fn closed_at(when: u64) -> CoreError {
+    if when > LAST_TICK {
+        return CoreError::TooFar { limit: LAST_TICK };
+    }
+    CoreError::Full { linked: 0, worn: 0 }
+}
+
+impl<T, W: Words> Cores<T, W> {
+    /// A row of no cores.
+    pub fn new() -> Cores<T, W> {
+        Cores {
+            cores: Vec::new(),
+            opened: 0,
+            next: 0,
+            noted: 0,
+            turn: 0,
+            others: 0,
+        }
+    }
+
+    /// Returns how many cores there are.
+    pub fn count(&self) -> usize {
+        self.cores.len()
+    }
+
+    /// Returns the core at a place. It returns none where there is no such place.
+    #[inline]
+    pub fn get(&self, place: usize) -> Option<&DelayCore<T, W>> {
+        if place >= self.cores.len() {
+            return None;
+        }
+        Some(nth(&self.cores, place))
+    }
+
+    /// Returns the place of the open core. Where there is no such place, no core is open.
+    #[inline]
+    pub fn opened(&self) -> usize {
+        self.opened
+    }
+
+    /// Returns a number that no core of the row ever had.
+    pub fn next_number(&self) -> u32 {
+        self.next
+    }
+
+    /// Returns the greatest tick, of one millisecond, that was noted.
+    pub fn noted(&self) -> u64 {
+        self.noted
+    }
+
+    /// Opens the core at a place, so that inserts go there from now on. It returns whether there is such a place.
+    pub fn open(&mut self, place: usize) -> bool {
+        if place >= self.cores.len() {
+            return false;
+        }
+        self.opened = place;
+        true
+    }
+
+    // The place of the core of that number.
+    pub(crate) fn place_of(&self, number: u32) -> Option<usize> {
+        for at in 0..self.cores.len() {
+            if nth(&self.cores, at).shard() == number {
+                return Some(at);
+            }
+        }
+        None
+    }
+
+    /// Takes a live entry out, and returns its value with its key and its current deadline, a tick of one millisecond.
+    /// Constant time, and no memory is taken.
+    ///
+    /// # Errors
+    /// In this order:
+    /// - `Missing` if the entry isn't in the store any more, or never was.
+    /// - `WasCancelled` if the entry was cancelled.
+    pub fn remove(&mut self, entry: &EntryId) -> Result<Removed<T>, CoreError> {
+        let Some(at) = self.place_of(entry.shard()) else {
+            return Err(CoreError::Missing);
+        };
+        remove_from(nth_mut(&mut self.cores, at), entry)
+    }
+
+    /// Gives a live entry the deadline `when`, a tick of one millisecond, sooner or later than the one that it has, and
+    /// returns its new key. Constant time, and no memory is taken.
+    ///
+    /// # Errors
+    /// In this order:
+    /// - `TooFar` if `when` is beyond the last tick.
+    /// - `Missing` if the entry isn't in the store any more, or never was.
+    /// - `WasCancelled` if the entry was cancelled.
+    /// - `Worn` if the entry's slot has no stamp left for another key.
+    pub fn reset(&mut self, entry: &EntryId, when: u64) -> Result<Key, CoreError> {
+        let Some(at) = self.place_of(entry.shard()) else {
+            return Err(missing_at(when));
+        };
+        self.others = lowered(self.others, when, at == self.turn);
+        nth_mut(&mut self.cores, at).reset(entry, when)
+    }
+
+    /// Returns the current deadline of a live entry, a tick of one millisecond. Constant time.
+    ///
+    /// # Errors
+    /// In this order:
+    /// - `Missing` if the entry isn't in the store any more, or never was.
+    /// - `WasCancelled` if the entry was cancelled.
+    pub fn deadline(&mut self, entry: &EntryId) -> Result<u64, CoreError> {
+        let Some(at) = self.place_of(entry.shard()) else {
+            return Err(CoreError::Missing);
+        };
+        nth_mut(&mut self.cores, at).deadline(entry)
+    }
+
+    /// Puts `value` into the open core, to come out at the tick `when` of one millisecond, and returns its key. No value
+    /// is dropped: one that waits for its drop in the slot that the entry takes comes out beside the key. Constant time,
+    /// and no memory is taken.
+    ///
+    /// # Errors
+    /// `value` comes back. In this order:
+    /// - `TooFar` if `when` is beyond the last tick.
+    /// - `Full` if no core is open, or the open one has no slot free.
+    #[inline(always)]
+    pub fn insert(&mut self, value: T, when: u64) -> (Result<Key, (CoreError, T)>, Option<T>) {
+        if self.opened >= self.cores.len() {
+            return (Err((closed_at(when), value)), None);
+        }
+        self.others = lowered(self.others, when, self.opened == self.turn);
+        nth_mut(&mut self.cores, self.opened).insert_deferring(value, when)
+    }
+
+    // Whether a core may come in.
+    fn may_take(&self, core: &DelayCore<T, W>) -> Result<(), TakeError> {
+        if !core.is_empty() {
+            return Err(TakeError::StillLinked);
+        }
+        if core.shard() == u32::MAX {
+            return Err(TakeError::UsedNumber);
+        }
+        if self.place_of(core.shard()).is_some() {
+            return Err(TakeError::UsedNumber);
+        }
+        Ok(())
+    }
+
+    /// Takes a core in, which is open from then on. The one that was open drains. A later tick that the core noted is
+    /// noted. It takes memory for the list of cores alone.
+    ///
+    /// # Errors
+    /// The core comes back, and nothing changes. In this order:
+    /// - `StillLinked` if an entry is linked in the core.
+    /// - `UsedNumber` if a core of the store has its number, or it is the last one of all.
+    /// - `NoMemory` if memory is refused.
+    #[allow(clippy::result_large_err)]
+    pub fn take_in(&mut self, core: DelayCore<T, W>) -> Result<(), (TakeError, DelayCore<T, W>)> {
+        if let Err(error) = self.may_take(&core) {
+            return Err((error, core));
+        }
+        let number = core.shard();
+        if self.cores.try_reserve(1).is_err() {
+            return Err((TakeError::NoMemory, core));
+        }
+        self.next = self.next.max(number + 1);
+        self.noted = self.noted.max(core.noted());
+        self.opened = self.cores.len();
+        self.others = 0;
+        self.cores.push(core);
+        Ok(())
+    }
+
+    // The place of a core that has drained.
+    fn drained(&self) -> Option<usize> {
+        for at in 0..self.cores.len() {
+            if at != self.opened && is_foldable(nth(&self.cores, at)) {
+                return Some(at);
+            }
+        }
+        None
+    }
+
+    /// Takes a core out that has drained: it isn't the open one, and holds nothing, not even a value that waits for its
+    /// drop. Folded, it keeps its words alone.
+    pub fn take_drained(&mut self) -> Option<DelayCore<T, W>> {
+        let at = self.drained()?;
+        self.opened = opened_after(self.opened, at);
+        self.others = 0;
+        let core = self.cores.remove(at);
+        Some(core)
+    }
+}

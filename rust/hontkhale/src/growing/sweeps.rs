@@ -1,0 +1,42 @@
+//! Calls that free cancelled entries, and a clear.
+
+use crate::core::{ReapError, Swept, Words};
+use crate::growing::cores::Cores;
+use crate::index::nth_mut;
+use crate::ticks::EntryId;
+
+impl<T, W: Words> Cores<T, W> {
+    /// Reaps the entry of that name where it is found cancelled. Its value isn't dropped: it waits until it is taken
+    /// out.
+    ///
+    /// # Errors
+    /// `Missing` where no entry of that name is linked; `Live` where it is found live.
+    pub fn reap(&mut self, entry: &EntryId) -> Result<(), ReapError> {
+        let Some(at) = self.place_of(entry.shard()) else {
+            return Err(ReapError::Missing);
+        };
+        nth_mut(&mut self.cores, at).reap_deferring(entry)
+    }
+
+    /// Reaps each linked entry that is found cancelled at `count` slots from `from` on of the core at a place, and tells
+    /// the slot to go on from. It returns none where there is no such place. No value is dropped: each waits until it is
+    /// taken out.
+    pub fn sweep_some(&mut self, place: usize, from: usize, count: usize) -> Option<Swept> {
+        if place >= self.cores.len() {
+            return None;
+        }
+        let swept = nth_mut(&mut self.cores, place).sweep_some_deferring(from, count);
+        Some(swept)
+    }
+
+    /// Ends every linked entry of the core at a place: each live one as removed, and those that were cancelled are
+    /// reaped. It returns how many it ended as removed, and none where there is no such place. No value is dropped: each
+    /// waits until it is taken out.
+    pub fn clear_core(&mut self, place: usize) -> Option<usize> {
+        if place >= self.cores.len() {
+            return None;
+        }
+        let ended = nth_mut(&mut self.cores, place).clear_deferring();
+        Some(ended)
+    }
+}
