@@ -49,7 +49,7 @@ module _ {T W : Type 0} where
   abbrev pub HaveOwnNumbers : List (Core T W) → Type 0
   HaveOwnNumbers cores =
       (i j : ℕ) (b c : Core T W) → IsCoreAt cores i b → IsCoreAt cores j c → b.shard ≡ c.shard →
-          i ≡ j
+      i ≡ j
 
   -- each core has a lower number
   abbrev pub AreBelow : List (Core T W) → ℕ → Type 0
@@ -117,7 +117,7 @@ module _ {T W : Type 0} where
   InsertsBeside v when r b c =
       Inserts b v when r.0 c
       × IfOk r.0 (λ k. (r.1 ≡ aside_at b.aside k.entry.index)
-          × (c.aside ≡ with_aside b.aside k.entry.index None))
+      × (c.aside ≡ with_aside b.aside k.entry.index None))
       × OnErr r.0 (r.1 ≡ None)
 
   -- the slot to go on from, none behind the core's last

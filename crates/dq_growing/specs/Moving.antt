@@ -62,7 +62,7 @@ module _ {T W : Type 0} where
   PutsIn v d k beside b c =
       IsInserted b v d k c
       × (beside ≡ aside_at b.aside k.entry.index)
-          × (c.aside ≡ with_aside b.aside k.entry.index None)
+      × (c.aside ≡ with_aside b.aside k.entry.index None)
 
   -- an entry left its core as a removal takes it
   abbrev pub IsTakenOut : Bool → EntryId → Removed T → CoreRow T W → CoreRow T W → Type 0
@@ -96,7 +96,7 @@ module _ {T W : Type 0} where
   Relocates shared id next (Ok moved, beside) s t =
       (is_beyond next ≡ false) × HasOpenRoom s
       × ((x : Removed T) × (m : CoreRow T W) × IsTakenOut shared id x s m
-          × GoesTo m x next moved beside t)
+      × GoesTo m x next moved beside t)
   Relocates shared id next (Err (TooFar limit), beside) s t =
       (limit ≡ LAST_TICK) × (is_beyond next ≡ true) × (beside ≡ None) × (t ≡ s)
   Relocates shared id next (Err (Full linked worn), beside) s t =

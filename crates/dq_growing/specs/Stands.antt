@@ -29,7 +29,7 @@ IsPastIn {T} {W} s id = (i : ℕ) (c : Core T W) → IsCoreAt s.cores i c → c.
 abbrev pub IsAheadIn : {T W : Type 0} → CoreRow T W → EntryId → Type 0
 IsAheadIn {T} {W} s id =
     (c : Core T W) × HasAt s.cores id.shard s.opened c
-        × ((table_at (machine c) id.index).stamp < id.born)
+    × ((table_at (machine c) id.index).stamp < id.born)
 
 -- an id that is past stays past, and what stands under it stood under it before, with the same value:
 -- so no new entry gets an id that one has had
@@ -37,7 +37,7 @@ abbrev pub Ages : {T W : Type 0} → CoreRow T W → CoreRow T W → Type 0
 Ages {T} s t =
     (id : EntryId) → IsPastIn s id →
     IsPastIn t id
-        × ((e : Entry T) → HasEntry t id e → (f : Entry T) × HasEntry s id f × (f.value ≡ e.value))
+    × ((e : Entry T) → HasEntry t id e → (f : Entry T) × HasEntry s id f × (f.value ≡ e.value))
 
 -- what follows is said of what stands before and after, be it in a core or in a store
 module _ {T : Type 0} (A B : EntryId → Entry T → Type 0) where

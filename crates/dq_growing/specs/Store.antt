@@ -134,8 +134,8 @@ module _ {T W : Type 0} where
   TellsFor shared s u r t =
       AtPlace s u
       (λ p. OnCoreOr p.shard
-          (λ b c. TellsDeadline shared b p r c) (r ≡ Err Missing) s.cores t.cores
-          × (t.notes ≡ s.notes))
+      (λ b c. TellsDeadline shared b p r c) (r ≡ Err Missing) s.cores t.cores
+      × (t.notes ≡ s.notes))
       ((r ≡ Err Missing) × (t ≡ s))
 
   -- an entry comes in under a key that none had, live until its deadline
@@ -189,7 +189,7 @@ module _ {T W : Type 0} where
       AtPlace s u
       (λ p. (made : Result Key CoreError) × (m : CoreRow T W)
       × OnCoreOr p.shard
-          (λ b c. Resets shared b p when made c) (made ≡ Err (missing_error when)) s.cores m
+      (λ b c. Resets shared b p when made c) (made ≡ Err (missing_error when)) s.cores m
       × AfterReset shared (record s { cores = m }) u when made r t)
       ((r ≡ (Err (missing_error when), None)) × (t ≡ s))
 
@@ -198,7 +198,7 @@ module _ {T W : Type 0} where
       StoreState T W → Type 0
   PollsSomeFor shared s tick most r t =
       (made : Result (Piece T) CoreError)
-          × PollsRow (DoesPiece shared most) s.cores tick made t.cores
+      × PollsRow (DoesPiece shared most) s.cores tick made t.cores
       × (r ≡ piece_as s.notes made) × NotesAfter s.notes made t.notes
 
   -- what is scheduled first, as its user knows it
@@ -217,5 +217,5 @@ module _ {T W : Type 0} where
   ReapsFor shared s u r t =
       AtPlace s u
       (λ p. OnCoreOr p.shard (λ b c. Reaps shared b p r c) (r ≡ Err NotThere) s.cores t.cores
-          × NotesReaped s r t p)
+      × NotesReaped s r t p)
       ((r ≡ Err NotThere) × (t ≡ s))
