@@ -38,7 +38,7 @@ FIRST = {"docs/check": ["python3", "docs/check"], "c/generate": ["python3", "c/g
 SAID = {"cwd": TOP, "stderr": subprocess.STDOUT, "encoding": "utf-8", "errors": "replace"}
 # What each form of the gate is called in gate.tsv.
 DRAWN, WHOLE = ".ci/run", ".ci/run --all"
-OF_EDIT = re.compile(r"^promise: (.*)$", re.M)
+OF_EDIT = re.compile(r"^edit: (\w+)\n(?:promise: (.*))?", re.M)
 # A crate's files on which its wrong bodies depend, and what all of them depend on.
 OWN = re.compile(r"crates/(\w+)/(?:src|specs|proofs|edits)/")
 SHARED = ("tools/", "crates.txt")
@@ -102,13 +102,15 @@ def changed_since(commit):
     return {found[1] for found in map(OWN.match, paths) if found}
 
 
-def rows_of(edits):
-    """The wrong bodies by the row of docs/PROMISES.md that each breaks."""
-    rows = {}
-    for name, path in edits.items():
-        for row in {it for line in OF_EDIT.findall(path.read_text(encoding="utf-8")) for it in line.split()}:
-            rows.setdefault(row, []).append(name)
-    return rows
+def wrong_bodies():
+    """The names of all wrong bodies, and of those that break each row of docs/PROMISES.md."""
+    names, rows = [], {}
+    for path in sorted(TOP.glob("crates/*/edits/*.edits")):
+        for edit, promises in OF_EDIT.findall(path.read_text(encoding="utf-8")):
+            names.append(f"{path.parts[-3]}/{edit}")
+            for row in set(promises.split()):
+                rows.setdefault(row, []).append(names[-1])
+    return names, rows
 
 
 def drawn(rows, commit):
@@ -119,12 +121,12 @@ def drawn(rows, commit):
 
 def to_try(form):
     """The wrong bodies that this run tries, by their names, none for all; it says which."""
-    edits = {f"{it.parent.parent.name}/{it.stem}": it for it in sorted(TOP.glob("crates/*/edits/*.edit"))}
+    edits, rows = wrong_bodies()
     if form == WHOLE:
         say(f"-- wrong bodies: all {len(edits)}")
         return []
     commit, last = git("rev-parse", "HEAD"), next((it[3] for it in stored() if it[:3] == [WHOLE, "run", "commit"]), "none")
-    crates, rows = changed_since(last), rows_of(edits)
+    crates = changed_since(last)
     if crates is None:
         say(f"-- wrong bodies: all {len(edits)}, since {' or '.join(SHARED)} changed, or this clone hasn't {last},"
             " the commit of the last whole run")

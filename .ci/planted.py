@@ -85,10 +85,9 @@ class Repository:
             "import sys\nprint('asked:', *(it for it in sys.argv[1:] if '/' in it))\nprint('1 passed, 0 failed')\n", encoding="utf-8")
         self.edits = {crate: [f"{crate}/wrong_{number}" for number in range(8)] for crate in ("one", "two")}
         for crate, its in self.edits.items():
-            for name in its:
-                path = folder / "crates" / crate / "edits" / f"{name.partition('/')[2]}.edit"
-                path.parent.mkdir(parents=True, exist_ok=True)
-                path.write_text(f"promise: {crate}.row\n", encoding="utf-8")
+            path = folder / "crates" / crate / "edits" / "lib.edits"
+            path.parent.mkdir(parents=True)
+            path.write_text("".join(f"edit: {it.partition('/')[2]}\npromise: {crate}.row\n\n" for it in its), encoding="utf-8")
         (folder / "bench" / "results").mkdir(parents=True)
         self.stored = folder / "bench" / "results" / "gate.tsv"
         self.git("init", "-q")
@@ -104,7 +103,8 @@ class Repository:
 
     def change(self, path):
         (self.folder / path).parent.mkdir(exist_ok=True)
-        (self.folder / path).write_text("changed", encoding="utf-8")
+        with (self.folder / path).open("a", encoding="utf-8") as file:
+            file.write("changed")
 
     def asked(self, *words):
         """The wrong bodies that a run asks for, none for all."""
@@ -132,7 +132,7 @@ def draws(its):
     yield "all of a crate that has a new file", its.asked()[:-1] == one
     its.commit()
     yield "all of a crate that changed in a commit", its.asked()[:-1] == one
-    its.change("crates/two/edits/wrong_0.edit")
+    its.change("crates/two/edits/lib.edits")
     yield "all of both, where an edit of the other changed", its.asked() == one + two
     yield "all, by --all, of a tree that isn't a commit's", its.asked("--all", "--store") == []
     its.commit()
@@ -163,7 +163,7 @@ def try_draws():
 
 def lay_out(folder):
     """A tree of the tools and the small crate alone. Its sources have other endings in .ci/planted, since `rt ci` refuses
-    a source of no crate. What each planted edit has to come to, by its name: its line `told:`, none if it is refused."""
+    a source of no crate. A planted edit's line `told:` says what it has to come to; it is refused if it has none."""
     shutil.copytree(TOP / "tools", folder / "tools")
     shutil.copy(TOP / "HANDLES", folder)
     (folder / "crates.txt").write_text("small:\n", encoding="utf-8")
@@ -171,8 +171,13 @@ def lay_out(folder):
     for ending, its in ((".rattle", ".rt"), (".specs", ".antt")):
         for path in small.rglob(f"*{ending}"):
             path.rename(path.with_suffix(its))
-    texts = {it.stem: it.read_text(encoding="utf-8") for it in sorted(small.rglob("*.edit"))}
-    return small, {name: text.partition("\n")[0].partition("told: ")[2] for name, text in texts.items()}
+    return small
+
+
+def told_of(folder):
+    """What each edit of a folder has to come to."""
+    texts = "".join(it.read_text(encoding="utf-8") for it in folder.glob("*.edits"))
+    return dict(re.findall(r"^edit: (\w+)\n(?:told: (.*))?", texts, re.M))
 
 
 def edits(folder, words, told, line="test-edits: "):
@@ -191,8 +196,8 @@ def edits(folder, words, told, line="test-edits: "):
 def try_edits():
     """How many cases of the edits went wrong."""
     with tempfile.TemporaryDirectory(prefix="planted-") as room:
-        small, told = lay_out(pathlib.Path(room))
-        later = {it.stem: told.pop(it.stem) for it in (small / "later").iterdir()}
+        small = lay_out(pathlib.Path(room))
+        told, later = told_of(small / "edits"), told_of(small / "later")
         one, half, beside = "put_hands_back_with_room", "len_of_half", "put_beside_a_wrong_len"
         cases = [("with those planted", ["-j", "2"], told), ("one by its name", [f"small/{one}"], {one: ""}),
                  ("with those planted, as in the gate", ["--built", "-j", "2"], told)]

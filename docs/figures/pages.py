@@ -88,7 +88,7 @@ COMMIT = re.compile(r"(?=[a-f]*\d)[0-9a-f]{7,40}\Z")
 @functools.lru_cache(maxsize=None)
 def words_of_the_code():
     """Every word of the sources, their edits and the scripts."""
-    endings = (".rt", tree.LOAD_ENDING, ".antt", ".edit", ".rs", ".toml", ".lock", ".py", "")
+    endings = (".rt", tree.LOAD_ENDING, ".antt", ".edits", ".rs", ".toml", ".lock", ".py", "")
     plain = [it for folder in tree.PLAIN for it in tree.files(folder, ".rs")]
     plain += [it for part in ("src", "tests") for it in tree.files(TOP / "rust" / "hontkhale" / part, ".rs")]
     paths = [*tree.files(tree.CRATES, *endings), *tree.files(TOP / "bench", *endings), *plain, TOP / "crates.txt"]

@@ -12,7 +12,6 @@ from tree import TOP, files, text_of
 
 PAGE = TOP / "docs" / "PROMISES.md"
 ROW = re.compile(r"^(\| ([a-z]+\.[\w-]+) \|.*\|) [^|\n]*\|$", re.M)
-OF_EDIT = re.compile(r"^promise: (.*)$", re.M)
 OF_TEST = re.compile(r"// promise: (.*)\n\s*" + tree.TEST.pattern)
 ALONE = re.compile(r"proved alone|by inspection", re.I)
 
@@ -28,8 +27,7 @@ def tests():
 
 def edits():
     """Each edit: its file, its name, and the promises that it names."""
-    paths = [path for it in tree.crates() for path in it.edits()]
-    return [(path, path.stem, [it for line in OF_EDIT.findall(text_of(path)) for it in line.split()]) for path in paths]
+    return [(it.home, it.name, it.promises) for crate in tree.crates() for it in crate.edits()]
 
 
 def filled(text):

@@ -385,17 +385,12 @@ def sizes():
 
 def edit(name):
     """An edit as a diff, and what `tools/test-edits` printed of it."""
-    crate, _, stem = name.partition("/")
-    lines, before = ["```diff"], ""
-    for word, text in re.findall(r"(?m)^(file|old|new): (.*)$", text_of(tree.CRATES / crate / "edits" / f"{stem}.edit")):
-        if word == "file":
-            lines.append(f"--- crates/{crate}/{text}")
-        elif word == "old":
-            before = text
-        else:
-            stays = text.startswith(before)
-            lines.append((" " if stays else "-") + "   " + before)
-            lines.append("+   " + (text[len(before):].strip() if stays else text))
+    pairs = next(it.pairs for crate in tree.crates(name.partition("/")[0]) for it in crate.edits() if it.told() == name)
+    lines = ["```diff", f"--- crates/{name.partition('/')[0]}/{pairs[0][0]}"]
+    for _, _, before, text in pairs:
+        stays = text.startswith(before)
+        lines.append((" " if stays else "-") + "   " + before)
+        lines.append("+   " + (text[len(before):].strip() if stays else text))
     told = textwrap.wrap(noted("refused")[name, "printed"], 110, break_on_hyphens=False)
     return "\n".join([*lines, "```", "", "```text", f"$ tools/test-edits {name}", *told, "```"])
 

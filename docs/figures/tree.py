@@ -122,7 +122,7 @@ class Crate:
 
     def edits(self):
         """Its wrong bodies, which `tools/test-edits` tries."""
-        return files(self.folder / "edits", ".edit")
+        return source.edits_of(self.name)
 
     def words(self):
         """The words before `::` in its code, and the libraries that its contracts and proofs import."""

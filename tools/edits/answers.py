@@ -152,16 +152,12 @@ class Answer:
         mine = {self.name_of(name) for it in edits for name in [*it.wrong(), *it.added]}
         return [it for it in self.functions if it not in mine and it not in self.taken and self.own_reason(it)]
 
-    def goals_of(self, edit):
-        """By the functions that an edit changes, a goal that the check didn't prove: the one that cost least, or else one
-        whose written answer it refused."""
-        found = {}
-        for name in map(self.name_of, edit.wrong()):
-            errors = "\n".join(it for it in self.errors_of(name) if not NAMES.search(it))
-            goals = [goal for goal, _ in self.unproved(name)] or REFUSED_ANSWER.findall(errors)
-            if goals:
-                found[name] = goals[0]
-        return found
+    def goal_of(self, edit):
+        """A goal of the copy of an edit's function that the check didn't prove: the one that cost least, or else one whose
+        written answer it refused."""
+        name = self.name_of(edit.wrong()[0])
+        errors = "\n".join(it for it in self.errors_of(name) if not NAMES.search(it))
+        return next(iter([*(goal for goal, _ in self.unproved(name)), *REFUSED_ANSWER.findall(errors)]), "")
 
     def all_unread(self):
         """The lines that say that a text couldn't be compiled or read, each with its file and its place there."""
@@ -237,9 +233,9 @@ def judge(crate, edits, answer):
         own = answer.reason_of(edit)
         if own:
             edit.came_to, edit.why = "refused", own
-        elif edit.fails:
+        elif edit.goal:
             # its goal is proved, or isn't there any more: next all are tried
-            edit.fails = {}
+            edit.goal = ""
         else:
             edit.tries += 1
             waits = any(answer.functions.get(answer.name_of(it), ("",))[0].startswith("no") for it in edit.wrong())

@@ -88,7 +88,7 @@ class Bench:
         controls = crate.right([it for it in edits if it.pairs])[:1] if takes_contracts else []
         for it in controls:
             # it is proved as a whole
-            it.fails = {}
+            it.goal = ""
         edits = [*edits, *controls]
         try:
             kept = self.room / "kept" / crate.name
@@ -120,12 +120,12 @@ class Bench:
         found = []
         for edit, function in ((edit, it) for edit in edits if edit.is_searched() for it in edit.bodies):
             its = crate.name_of(edit.wrong()[0] if edit.copy else function)
-            at, goal = folder / "proofs" / its.replace("::", "/"), edit.fails.get(crate.name_of(function))
+            at = folder / "proofs" / its.replace("::", "/")
             if not (at / "Proof.antt").exists():
                 found.append(its)
                 at.mkdir(parents=True, exist_ok=True)
-                if goal and edit.copy and not self.notes_goals and not crate.has_tactics(function):
-                    try_alone(at, f"Rattle.{crate.name}.proofs.{its.replace('::', '.')}", goal, crate.has_types(function))
+                if edit.goal and edit.copy and not self.notes_goals and not crate.has_tactics(function):
+                    try_alone(at, f"Rattle.{crate.name}.proofs.{its.replace('::', '.')}", edit.goal, crate.has_types(function))
                 else:
                     offer_nothing(at)
         return found

@@ -25,9 +25,13 @@ class Edit:
 
     crate: str
     name: str
+    # the file that it stands in, and the promises that it breaks
+    home: pathlib.Path = None
+    promises: list = dataclasses.field(default_factory=list)
     pairs: list = dataclasses.field(default_factory=list)
     asks: list = dataclasses.field(default_factory=list)
-    fails: dict = dataclasses.field(default_factory=dict)
+    # the goal that is tried of a copy of its function
+    goal: str = ""
     error: str = ""
     # the name and the text of a copy of its function with the wrong body, which stands beside the right one
     copy: tuple = ()
@@ -59,27 +63,34 @@ class Edit:
         return self.asks or ([] if self.reaches_further else [end_of(self.crate, it) for it in self.wrong()])
 
 
-def read(path, crate=""):
-    """An edit as its file says it: `pairs` are of a file, a function if one is named, an old text and a new one."""
-    edit, file, function, old = Edit(crate, path.stem), None, "", None
-    for word, rest in re.findall(r"^(\w+): ?(.*)$", path.read_text(encoding="utf-8"), re.M):
-        if word == "file":
-            file, function = rest.strip(), ""
-        elif word == "in":
-            function = rest.strip()
-        elif word == "old":
-            old = rest
-        elif word == "new" and file and old:
-            edit.pairs.append((file, function, old, rest))
-            old = None
-        elif word == "asks":
-            edit.asks += rest.split()
-        elif word == "error":
-            edit.error = rest.strip()
-        elif word == "fails":
-            name, _, goal = rest.strip().partition(" ")
-            edit.fails[name] = goal
-    return edit
+def edits_of(crate):
+    """The edits of a crate, as its files say them: `pairs` are of a file, a function if one is named, an old text and a new one."""
+    found = []
+    for home in sorted((TOP / "crates" / crate / "edits").glob("*.edits")):
+        file = function = old = ""
+        for word, rest in re.findall(r"^(\w+): ?(.*)$", home.read_text(encoding="utf-8"), re.M):
+            match word:
+                case "file":
+                    file = rest
+                case "edit":
+                    edit, function = Edit(crate, rest, home), ""
+                    found.append(edit)
+                case "promise":
+                    edit.promises += rest.split()
+                case "fails":
+                    edit.goal = rest
+                case "error":
+                    edit.error = rest
+                case "asks":
+                    edit.asks += rest.split()
+                case "in":
+                    function = rest
+                case "old":
+                    old = rest
+                case "new":
+                    edit.pairs.append((file, function, old, rest))
+                    old = ""
+    return found
 
 
 def beside(function, name):
@@ -141,11 +152,14 @@ class Crate:
         self.sources = {path: file_of(path, text) for path, text in self.texts.items() if path.endswith(".rt")}
         types = [(it, file.module) for file in self.sources.values() for it in TYPE.findall(file.text)]
         self.homes = {name: module for name, module in types if [it for it, _ in types].count(name) == 1}
-        found = [it for it in sorted((self.folder / "edits").glob("*.edit")) if wanted is None or it.stem in wanted]
-        self.edits = [read(it, name) for it in found]
+        self.edits = [it for it in edits_of(name) if wanted is None or it.name in wanted]
+        names = [it.name for it in self.edits]
         for number, edit in enumerate(self.edits, 1):
-            self.look_at(edit)
-            edit.copy = self.copy_of(edit, number) or ()
+            if names.count(edit.name) > 1:
+                edit.came_to, edit.why = "bad", "another of the crate has its name"
+            else:
+                self.look_at(edit)
+                edit.copy = self.copy_of(edit, number) or ()
 
     def changed(self, texts):
         """What differs in these texts: the bodies by function, the new functions, and whether anything else does."""
@@ -217,7 +231,7 @@ class Crate:
             (function,) = edit.bodies
             plain = f"{function.rpartition('::')[2]}_right{number}"
             copy = self.copied(self.sources[self.place_of(function)[0]], function, plain)
-            found.append(Edit(self.name, edit.name, copy=copy, bodies={function: None}, fails=edit.fails))
+            found.append(Edit(self.name, edit.name, copy=copy, bodies={function: None}, goal=edit.goal))
         return found
 
     def has_types(self, function):
