@@ -21,8 +21,6 @@ mod first_callers;
 mod folds;
 #[path = "hostile/forged.rs"]
 mod forged;
-#[path = "hostile/join.rs"]
-mod join;
 #[path = "hostile/named.rs"]
 mod named;
 #[path = "hostile/numbers.rs"]
@@ -35,6 +33,17 @@ mod piece_threads;
 mod strangers;
 #[path = "hostile/worn.rs"]
 mod worn;
+
+use std::thread;
+
+/// Runs both at once, each in a thread of its own, and waits for both.
+fn join<A: Send, B>(one: impl FnOnce() -> A + Send, other: impl FnOnce() -> B) -> (A, B) {
+    thread::scope(|scope| {
+        let one = scope.spawn(one);
+        let other = other();
+        (one.join().expect("a thread"), other)
+    })
+}
 
 /// Why a test fails.
 type Fail = Box<dyn std::error::Error + Send + Sync>;

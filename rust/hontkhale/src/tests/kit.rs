@@ -16,6 +16,14 @@ use std::thread;
 /// Why a test fails.
 pub type Fail = Box<dyn Error + Send + Sync>;
 
+/// A call answers so. Else the test ends: it names the call and shows both.
+pub fn same<T>(call: impl fmt::Display + Copy, answer: T, expected: T)
+where
+    T: PartialEq + fmt::Debug,
+{
+    assert_eq!(answer, expected, "{call}");
+}
+
 /// Runs both in threads of their own, and waits for both.
 pub fn join<A: Send, B: Send>(one: impl FnOnce() -> A + Send, other: impl FnOnce() -> B + Send) -> (A, B) {
     thread::scope(|scope| {

@@ -1,10 +1,141 @@
 //! Tests of the proved parts, which were erased once from tests in Rattle and are written by hand since. What they are
 //! given stands in kit.rs.
 
-mod apps_checks;
-mod checks;
 mod kit;
-mod owned;
-mod scripts;
-mod shard_checks;
-mod stream_checks;
+
+mod apps_checks {
+    //! The expiring cache and idle sessions: the worked rows.
+
+    use crate::tests::kit::same;
+
+    pub mod calls;
+    pub mod rows;
+    pub mod sessions;
+}
+
+mod checks {
+    //! Ticks, packed words and keys, and the laws of them; the worked cases of the queue over plain words and over shared
+    //! ones, of its parts and of shared words alone; limits; what is sent to a thread.
+
+    use crate::tests::kit::same;
+
+    pub mod cases;
+    pub mod digits;
+    pub mod front;
+    pub mod keys;
+    pub mod limits;
+    pub mod packed;
+    pub mod plain_queue;
+    pub mod plain_words;
+    pub mod queues;
+    pub mod sent;
+    pub mod slots;
+    pub mod step;
+    pub mod wheel;
+    pub mod wheel_calls;
+    pub mod words;
+    pub mod worked;
+}
+
+mod scripts {
+    pub mod faults;
+    pub mod readers;
+    pub mod scripts;
+    pub mod table;
+    pub mod writers;
+}
+
+mod shard_checks {
+    use crate::tests::kit::same;
+
+    pub mod calls;
+    pub mod cases;
+    pub mod handles;
+    pub mod keys;
+    pub mod pieces;
+    pub mod play;
+    pub mod rows;
+    pub mod shards;
+    pub mod swapped;
+    pub mod twins;
+}
+
+mod stream_checks {
+    use crate::tests::kit::same;
+
+    pub mod refusals;
+    pub mod rows;
+    pub mod steps;
+    pub mod streams;
+}
+
+mod owned {
+    //! Tests of the same parts over what the modules beside this one have.
+
+    mod apps_checks {
+        //! The cache and the idle sessions, beside their worked rows.
+
+        use crate::tests::kit::same;
+
+        mod calls;
+        mod many;
+        mod memo;
+        mod once;
+        mod readers;
+        mod refresh;
+        mod sessions;
+        mod wakes;
+    }
+
+    mod checks {
+        //! One owner's queue, beside its worked cases: its entries, peeks, open slots, renewals, and threads that race.
+
+        use crate::tests::checks::queues;
+        use crate::tests::kit::same;
+
+        mod entries;
+        mod front;
+        mod letting_go;
+        mod open_slots;
+        mod peeks;
+        mod race;
+        mod renewals;
+        mod set_aside;
+    }
+
+    mod shard_checks {
+        //! The shards and their handles, beside their worked cases: many entries, many shards, sweeps, and threads.
+
+        use crate::tests::kit::same;
+        use crate::tests::shard_checks::{calls, play};
+
+        mod draining;
+        mod each_shard;
+        mod handles;
+        mod many;
+        mod pieces;
+        mod shards;
+        mod sweeping;
+        mod threads;
+    }
+
+    mod stream_checks {
+        //! The stream of a shard's expired entries, beside its worked rows: who is woken and how often, what it leaves as it
+        //! was, and streams under an executor and between threads.
+
+        use crate::tests::kit::same;
+        use crate::tests::stream_checks::{steps, streams};
+
+        mod beside;
+        mod executors;
+        mod giving_way;
+        mod handles;
+        mod paced;
+        mod parked;
+        mod parkers;
+        mod refusals;
+        mod tasks;
+        mod threads;
+        mod wakes;
+    }
+}

@@ -1,6 +1,6 @@
 //! Threads that wait for one another's extends.
 
-use super::join::join;
+use super::join;
 use super::numbers::{insert, pause, Gate, Numbers, ONE_AND_FOUR, TURNS};
 use super::Fail;
 use hontkhale::parts::owner::{Key, Look};

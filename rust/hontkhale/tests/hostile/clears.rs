@@ -1,6 +1,6 @@
 //! A handle that cancels all, beside a thread that clears, sweeps or resets.
 
-use super::join::join;
+use super::join;
 use super::numbers::{fill, Gate, Numbers, ONE_AND_FOUR, ROUNDS, TURNS};
 use super::Fail;
 use hontkhale::parts::owner::Key;

@@ -1,6 +1,6 @@
 //! A handle that extends, a handle that cancels and a poller, each in a thread of its own.
 
-use super::join::join;
+use super::join;
 use super::numbers::{fill, Gate, Numbers, ENTRIES, ONE_AND_FOUR, ROUNDS};
 use super::Fail;
 use hontkhale::parts::owner::{Key, Turn};

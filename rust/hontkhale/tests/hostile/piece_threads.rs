@@ -1,6 +1,6 @@
 //! One thread polls a shard in pieces, and another inserts into it meanwhile, or extends and cancels what hangs there.
 
-use super::join::join;
+use super::join;
 use super::numbers::ROUNDS;
 use super::Fail;
 use hontkhale::parts::owner::{Key, Piece, Turn};

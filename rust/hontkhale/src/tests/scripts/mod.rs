@@ -1,5 +1,0 @@
-pub mod faults;
-pub mod readers;
-pub mod scripts;
-pub mod table;
-pub mod writers;
