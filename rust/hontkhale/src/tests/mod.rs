@@ -20,17 +20,14 @@ mod checks {
     use crate::tests::kit::same;
 
     pub mod cases;
-    pub mod digits;
     pub mod front;
-    pub mod keys;
-    pub mod limits;
-    pub mod packed;
     pub mod plain_queue;
     pub mod plain_words;
     pub mod queues;
     pub mod sent;
     pub mod slots;
     pub mod step;
+    pub mod ticks;
     pub mod wheel;
     pub mod wheel_calls;
     pub mod words;
@@ -80,7 +77,6 @@ mod owned {
         mod calls;
         mod many;
         mod memo;
-        mod once;
         mod readers;
         mod refresh;
         mod sessions;
@@ -95,7 +91,6 @@ mod owned {
 
         mod entries;
         mod front;
-        mod letting_go;
         mod open_slots;
         mod peeks;
         mod race;
@@ -111,7 +106,6 @@ mod owned {
 
         mod draining;
         mod each_shard;
-        mod handles;
         mod many;
         mod pieces;
         mod shards;

@@ -1,7 +1,7 @@
 //! The wheel alone, its places and its ways, over a table of ticks.
 
 use crate::tests::kit::Fail;
-use super::digits::seen_from;
+use super::ticks::seen_from;
 use super::same;
 use super::wheel_calls::Call::{
     Advance, Arrive, Law, Least, Link, Moved, NextWake, Occupied, Pop, Settle, Stands, Tick, Unlink,
