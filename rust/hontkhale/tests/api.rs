@@ -10,7 +10,5 @@ mod checked;
 mod clock;
 #[path = "api/refused.rs"]
 mod refused;
-#[path = "api/top.rs"]
-mod top;
 #[path = "api/traits.rs"]
 mod traits;

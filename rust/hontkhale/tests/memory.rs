@@ -8,8 +8,6 @@
 mod calls;
 #[path = "memory/makings.rs"]
 mod makings;
-#[path = "memory/many.rs"]
-mod many;
 #[path = "memory/queues.rs"]
 mod queues;
 #[allow(dead_code)]

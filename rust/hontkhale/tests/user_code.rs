@@ -26,7 +26,5 @@ mod set_aside;
 mod swapped_shards;
 #[path = "user_code/wakers_that_call.rs"]
 mod wakers_that_call;
-#[path = "user_code/wakes_that_call.rs"]
-mod wakes_that_call;
-#[path = "user_code/wakes_that_panic.rs"]
-mod wakes_that_panic;
+#[path = "user_code/wakes.rs"]
+mod wakes;

@@ -1,4 +1,5 @@
-//! Which types go to another thread, and which of them threads may share: both where their values do.
+//! Which types go to another thread, and which threads may share: both where their values do. And how much stands at the
+//! crate's top: what a newcomer reads first.
 
 use hontkhale::parts::cache::{CountedCache, Seen, TtlCache};
 use hontkhale::parts::owner::{
@@ -77,4 +78,34 @@ fn keys_stand_in_maps() -> Result<(), QueueError> {
     let entries: std::collections::BTreeSet<EntryId> = keys.iter().map(Key::entry).collect();
     assert_eq!(entries.len(), 2);
     Ok(())
+}
+
+/// The most types and traits at the crate's top.
+const MOST: usize = 15;
+
+/// What is beside them: what the queue is made of, and the iterators.
+const MODULES: [&str; 2] = ["parts", "iter"];
+
+/// The names that a `pub use` gives away.
+fn names(item: &str) -> usize {
+    let (_, inside) = item.split_once('{').unwrap_or(("", item));
+    inside
+        .split(',')
+        .filter(|name| name.contains(char::is_alphabetic))
+        .count()
+}
+
+#[test]
+fn few_items_stand_at_the_top() {
+    let source = include_str!("../../src/lib.rs");
+    // An item begins where a line does; what is inside of a module is set in.
+    let items = source.match_indices("\npub ").map(|(at, _)| {
+        let item = &source[at + 5..];
+        &item[..item.find(';').unwrap_or(item.len())]
+    });
+    let (modules, uses): (Vec<_>, Vec<_>) = items.partition(|item| item.starts_with("mod "));
+    let of_modules = modules.iter().filter_map(|item| item[4..].split([' ', '{']).next());
+    assert_eq!(of_modules.collect::<Vec<_>>(), MODULES);
+    let count: usize = uses.into_iter().map(names).sum();
+    assert!((1..=MOST).contains(&count), "{count} types at the top");
 }

@@ -4,7 +4,7 @@ use super::refusing::without_memory;
 use hontkhale::parts::cache::TtlCache;
 use hontkhale::parts::directory::{Clerk, MOST};
 use hontkhale::parts::owner::{
-    numbered_queue, CoreConfig, CoreError, DelayCore, Look, PlainQueue, PlainTurn, Turn, HANDLE_LIMIT,
+    numbered_queue, CoreConfig, CoreError, DelayCore, Look, ManyTurn, PlainQueue, PlainTurn, Turn, HANDLE_LIMIT,
 };
 use hontkhale::parts::shards::{Handle, QueueConfig, SharedDelayQueue};
 use hontkhale::parts::streams::{ExpiredStream, TickSource};
@@ -182,4 +182,18 @@ fn a_directory_is_read_without_memory() {
         assert_eq!((other.get(3), other.get(MOST)), (None, None));
         assert_eq!(clerk.given(), 3);
     });
+}
+
+#[test]
+fn polls_for_many_take_no_memory() {
+    let queue = SharedDelayQueue::new(QueueConfig::of(2, 100)).expect("a queue");
+    for number in 0..100 {
+        queue.insert_or_drop(1, Box::new(number), 5).expect("room");
+    }
+    let mut row = Vec::with_capacity(64);
+    without_memory(|| {
+        assert_eq!(queue.poll_many(1, 5, &mut row), Ok(ManyTurn::More));
+        assert!((0..64).eq(row.drain(..).map(|expired| *expired.value)));
+    });
+    assert_eq!((queue.poll_many(1, 5, &mut row), row.len()), (Ok(ManyTurn::Idle), 36));
 }

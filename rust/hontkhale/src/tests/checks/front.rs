@@ -1,9 +1,9 @@
 //! The numbers by which no queue is made: those of the front door, and the limits of a queue and of its words.
 
+use super::same;
 use crate::core::{BadNumber, CoreConfig, CoreError, DelayCore, Steps, VecWords};
 use crate::tests::kit::Fail;
 use crate::words::shared_queue;
-use super::same;
 
 pub fn plain_queue(capacity: usize) -> Result<DelayCore<char, VecWords>, CoreError> {
     DelayCore::with_capacity(capacity)
@@ -45,21 +45,14 @@ fn numbers_out_of_range_are_named() -> Result<(), Fail> {
 }
 
 // Why no queue is made of that many words, and how many came back; None where one is made.
-fn refusal(
-    config: CoreConfig,
-    rows: usize,
-) -> Result<Option<(CoreError, usize)>, CoreError> {
+fn refusal(config: CoreConfig, rows: usize) -> Result<Option<(CoreError, usize)>, CoreError> {
     let words = VecWords::new(rows)?;
-    let made: Result<DelayCore<char, VecWords>, (CoreError, VecWords)> = DelayCore::new(config, words,
-    );
+    let made: Result<DelayCore<char, VecWords>, (CoreError, VecWords)> = DelayCore::new(config, words);
     Ok(made.err().map(|refused| (refused.0, refused.1.rows())))
 }
 
 // A queue of those numbers is refused, or made.
-fn refuses(
-    (capacity, last_stamp, rows): (usize, u32, usize),
-    answer: Result<Option<(CoreError, usize)>, CoreError>,
-) {
+fn refuses((capacity, last_stamp, rows): (usize, u32, usize), answer: Result<Option<(CoreError, usize)>, CoreError>) {
     let config = CoreConfig {
         shard: 0,
         capacity,
@@ -72,13 +65,7 @@ fn refuses(
 #[test]
 fn bad_configs() {
     let bad = CoreError::BadConfig;
-    let refused: &[(usize, u32, usize)] = &[
-        (0, 1, 1),
-        (65537, 1, 65536),
-        (4, 0, 4),
-        (4, 1048576, 4),
-        (4, 1, 3),
-    ];
+    let refused: &[(usize, u32, usize)] = &[(0, 1, 1), (65537, 1, 65536), (4, 0, 4), (4, 1048576, 4), (4, 1, 3)];
     for numbers in refused {
         refuses(*numbers, Ok(Some((bad, numbers.2))));
     }

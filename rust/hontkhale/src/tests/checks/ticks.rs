@@ -1,8 +1,11 @@
 //! The digits of ticks, the readers of keys and entries, and packed words: what each is, and what keys print.
 
-use crate::tests::kit::Fail;
-use crate::ticks::{EntryId, Key, LAST_FIELD, LAST_STAMP, LAST_TICK, Mark, Parts, digit, field, is_live, is_same_entry, is_same_key, level_of, live_at, pack, slot_start, span, stamp, unpack};
 use super::same;
+use crate::tests::kit::Fail;
+use crate::ticks::{
+    digit, field, is_live, is_same_entry, is_same_key, level_of, live_at, pack, slot_start, span, stamp, unpack,
+    EntryId, Key, Mark, Parts, LAST_FIELD, LAST_STAMP, LAST_TICK,
+};
 
 // A tick, a later tick, and the level, the slot and the slot's start at which the second stands, seen from the
 // first.
@@ -57,22 +60,14 @@ fn top_level_is_the_highest() {
     same("level", level_of(0, LAST_TICK), Some(5));
     same("digit", digit(LAST_TICK, 5), 63);
     // 4095 spans lie behind the last tick, so the next with its digit begins 64 spans later.
-    same(
-        "start",
-        slot_start(LAST_TICK, 5, 63),
-        4159 * 1073741824,
-    );
+    same("start", slot_start(LAST_TICK, 5, 63), 4159 * 1073741824);
 }
 
 // promise: ticks.span
 #[test]
 fn spans_grow_by_64() {
     let spans = [span(0), span(1), span(2), span(3), span(4), span(5)];
-    same(
-        "spans",
-        spans,
-        [1, 64, 4096, 262144, 16777216, 1073741824],
-    );
+    same("spans", spans, [1, 64, 4096, 262144, 16777216, 1073741824]);
 }
 
 // A shard, an index, and the stamps of a birth and of a key.
@@ -123,11 +118,7 @@ fn keys_differ_by_each_part() {
     let key = Key::new(EntryId::new(1, 2, 3), 4);
     for (row, (shard, index, born, stamp, entry, whole)) in OTHERS.iter().enumerate() {
         let other = Key::new(EntryId::new(*shard, *index, *born), *stamp);
-        same(
-            row,
-            sameness(key, other),
-            [*entry, *entry, *whole, *whole],
-        );
+        same(row, sameness(key, other), [*entry, *entry, *whole, *whole]);
     }
 }
 
@@ -149,12 +140,7 @@ const WORDS: [(u32, Mark, u64, u64); 8] = [
     (1, Mark::ExpiredMark, 10, 0x0000_1800_0000_000a),
     (1, Mark::RemovedMark, 10, 0x0000_1c00_0000_000a),
     (2, Mark::LiveMark, 20, 0x0000_2000_0000_0014),
-    (
-        1048575,
-        Mark::RemovedMark,
-        4398046511103,
-        0xffff_ffff_ffff_ffff,
-    ),
+    (1048575, Mark::RemovedMark, 4398046511103, 0xffff_ffff_ffff_ffff),
     (1048575, Mark::LiveMark, 0, 0xffff_f000_0000_0000),
 ];
 

@@ -1,12 +1,12 @@
 //! What the readers of a cache tell, and what a login and a handle take of the queue below them, counted.
 
+use super::calls::plays_up_to;
+use super::calls::Call::{Capacity, Len, Moment, NextDeadline, Purge, Put, Seen};
 use crate::apps::IdleSessions;
 use crate::core::CoreError;
 use crate::shards::{QueueConfig, QueueError};
 use crate::tests::kit::Fail;
 use crate::ticks::LAST_STAMP;
-use super::calls::plays_up_to;
-use super::calls::Call::{Capacity, Len, Moment, NextDeadline, Purge, Put, Seen};
 
 // Where one session has room, one login fills it, and the audit counts one.
 // promise: sessions.into-queue-queue

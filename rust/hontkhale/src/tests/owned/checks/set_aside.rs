@@ -1,10 +1,10 @@
 //! What a queue of one owner does with a value that it lets go: it drops it before the call returns, or sets it aside. What is set
 //! aside is what it let go, less what was taken out: calls are drawn, and each value is followed until it comes out, once.
 
+use super::same;
 use crate::core::{CoreConfig, DelayCore, Expired, Piece, Turn, VecWords};
 use crate::tests::kit::{Draw, Fail, HeapBox, LocalHeap};
 use crate::ticks::Key;
-use super::same;
 
 type Boxes<'heap> = DelayCore<HeapBox<'heap, u64>, VecWords>;
 
@@ -139,7 +139,8 @@ impl<'heap> Play<'heap> {
     // A value that is taken out was let go, and waits no more.
     fn took(&mut self, value: &Value) {
         let at = self.waiting.iter().position(|number| *number == **value);
-        self.waiting.swap_remove(at.expect("a value that was let go, and wasn't taken out"));
+        self.waiting
+            .swap_remove(at.expect("a value that was let go, and wasn't taken out"));
     }
 
     fn inserts(&mut self, draw: &mut Draw) {

@@ -1,11 +1,11 @@
 //! A handle's callers, and two threads that insert into two shards.
 
-use crate::shards::{Handle, QueueConfig, QueueError, SharedDelayQueue};
-use crate::tests::kit::{Fail, join};
-use crate::tests::shard_checks::handles::out;
-use super::same;
 use super::calls::insert;
 use super::play::Letters;
+use super::same;
+use crate::shards::{Handle, QueueConfig, QueueError, SharedDelayQueue};
+use crate::tests::kit::{join, Fail};
+use crate::tests::shard_checks::handles::out;
 
 // An entry of the shard, whose one caller is the handle's, is cancelled by it.
 fn is_cancelled(queue: &Letters, handle: &mut Handle, shard: u64) -> Result<(), QueueError> {
