@@ -68,12 +68,13 @@ pub record IsSameLine (old new : LineState) : Type 0 where
   pub none_more : (j : ℕ) → StandsInLine new.roll j → StandsInLine old.roll j
   pub sleeps : AllSleepOn old.sleeps new.sleeps
 
--- one joins, awake
+-- one joins, awake, and no other
 pub record Joins (old : LineState) (i : ℕ) (new : LineState) : Type 0 where
   pub leader : new.leader ≡ old.leader
   pub closer : new.closer ≡ old.closer
   pub was_out : ¬ StandsInLine old.roll i
   pub is_in : StandsInLine new.roll i
+  pub stay : OthersStayInLine old.roll i new.roll
   pub awake : IsAwakeAt new.sleeps i
   pub others : OthersSleepOn old.sleeps i new.sleeps
   pub first : (f : ℕ) → first_in old.roll ≡ Some f → first_in new.roll ≡ Some f

@@ -86,9 +86,10 @@ impl<W, A: Allocator> Line<W, A> {
         let _ = &self.sleepers;
     }
 
-    /// It woke by itself: gives its `W`, where it slept.
+    /// It woke by itself: gives its `W`, where it slept. One that leads isn't rung any more.
     pub fn rise(&mut self, at: usize) -> Option<W>
         ensures awake { IsCalled self.old at self.new }
+        ensures told { first_in self.old.roll ≡ Some at → self.new.leader.until ≡ 0 }
         ensures own { is_some result ≡ slice_index_or self.old.sleeps at false }
     {
         if !self.roll.is_first(at) {

@@ -1,9 +1,12 @@
 //! A bell is played, and refused each allocation in turn.
+ghost use Rattle.dq_bell.specs.Lines.{IsFreshLine};
 ghost use Rattle.dq_bell.specs.Seats.{IsFreshLeader};
 
 use crate::closer::Closer;
 use crate::due::Due;
 use crate::leader::Leader;
+use crate::line::Line;
+use crate::sleepers::Call;
 use refusing_heap::RefusingHeap;
 use std::alloc::{AllocError, Allocator};
 use std::process::Abort;
@@ -60,6 +63,78 @@ fn each_allocation_of_a_bell_is_refused(rt: HostRuntime) {
         );
         if played.is_ok() {
             assert!(rt; grants > 3, "each was refused once");
+            return;
+        }
+    }
+    panic!(rt; "it takes memory without end");
+}
+
+// Two wait in line, each with a call that owns memory.
+fn wait_in_line<A: Allocator + Clone>(rt: &impl Abort, heap: A) -> Result<(), AllocError> {
+    let mut line = Line::new(heap.clone()?, 1)?;
+    let waited = two_wait(rt, &mut line, heap);
+    line.end();
+    waited
+}
+
+fn two_wait<A: Allocator + Clone>(
+    rt: &impl Abort,
+    line: &mut Line<Box<u64, A>, A>,
+    heap: A,
+) -> Result<(), AllocError>
+    requires { IsFreshLine 1 line.old }
+{
+    let mut due = Due::new(line.add_place()?);
+    let first = line.join()?;
+    let second = line.join()?;
+    let one = Box::new(heap.clone()?, 1)?;
+    let two = Box::new(heap.clone()?, 2)?;
+    let again = Box::new(heap, 3)?;
+    assert!(rt; line.sleep(second, 7, two).is_ok(), "who follows sleeps");
+    assert!(rt;
+        line.sleep(first, 100, one).is_ok(),
+        "nothing is due before"
+    );
+    assert!(rt; line.sleep(first, 100, again).is_err(), "it sleeps already");
+    assert!(rt;
+        told_by(line.ring(due.lower(100))) == 0,
+        "it sleeps no longer"
+    );
+    assert!(rt; told_by(line.ring(due.lower(50))) == 1, "it sleeps beyond");
+    assert!(rt; told_by(line.ring(due.lower(40))) == 0, "it was rung");
+    assert!(rt; line.rise(first).is_none(), "it was called");
+    assert!(rt; told_by(line.leave(first)) == 2, "the next one leads");
+    assert!(rt; told_by(line.close()) == 0, "nobody sleeps");
+    assert!(rt; line.rise(second).is_none(), "it was called");
+    assert!(rt; told_by(line.leave(second)) == 0, "nobody is left");
+    Ok(())
+}
+
+fn told_by<A: Allocator>(call: Option<Call<Box<u64, A>>>) -> u64 {
+    match call {
+        Some(Call(number)) => *number,
+        None => 0,
+    }
+}
+
+// promise: line.join line.sleep line.rise line.leave line.ring line.close
+#[test]
+fn two_wait_and_one_leads(rt: HostRuntime) -> Result<(), AllocError> {
+    wait_in_line(&rt, rt.alloc())
+}
+
+// promise: line.new line.join
+#[test]
+fn each_allocation_of_a_line_is_refused(rt: HostRuntime) {
+    for grants in 0..100u64 {
+        let heap = RefusingHeap::new(rt.alloc(), grants);
+        let waited = wait_in_line(&rt, &heap);
+        assert!(rt;
+            waited.is_err() == heap.has_refused(),
+            "refused where memory is"
+        );
+        if waited.is_ok() {
+            assert!(rt; grants > 6, "each was refused once");
             return;
         }
     }
