@@ -6,6 +6,7 @@ A mark is a comment that a reader of the page does not see:
     <!-- from FILE: NAME -->            the fenced block below is that definition (`NAME CLAUSE`: one clause of it); with
                                         `FILE` alone it stands in the file as it is
     <!-- carried by FILE: FUNCTION -->  the contract of that function cites the statement above, or leads to it
+    [`NAME`](..antt) [`FUNCTION`](..rt) in a row of a table: the contract of a function of the row leads to each definition of it
     <!-- names of others: Stream -->    these names in code font, and files, are none of this repository
 """
 
@@ -19,8 +20,19 @@ from tree import TOP, text_of
 TABLE = re.compile(r"(<!-- table ([^>]*?) -->\n)(.*?)(<!-- end -->)", re.S)
 QUOTE = re.compile(r"(<!-- from ([^>]*?) -->\n+```[a-z]*\n)((?:(?!```).*\n)*)(```)")
 CARRIER = re.compile(r"<!-- carried by (\S+): (\w+) -->")
+STATED = re.compile(r"\[`(\w+)`\]\(([^)#\s]+\.(antt|rt))\)")
 OTHERS = re.compile(r"<!-- names of others: ([^>]*?) -->")
 LINK = re.compile(r"\[[^\]]*\]\(([^)\s]+)\)")
+
+
+def stated(page):
+    """The rows of a page that name statements or what carries them: the definitions of each row, and its functions, with their files."""
+    for row in re.findall(r"(?m)^\|.*$", text_of(page)):
+        links = {"antt": [], "rt": []}
+        for name, path, kind in STATED.findall(row):
+            links[kind].append((str((page.parent / path).resolve().relative_to(TOP)), name))
+        if any(links.values()):
+            yield links["antt"], links["rt"]
 
 
 def headings(text):

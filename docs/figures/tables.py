@@ -5,7 +5,6 @@ import itertools
 import math
 import re
 import statistics
-import textwrap
 import tomllib
 
 import tree
@@ -381,23 +380,6 @@ def sizes():
         counts = [*(tree.lines(it, role) for it in kinds.values()), tree.edits(role)]
         rows.append([words, *(f"{it:,}" if it else "" for it in counts)])
     return grid(["Crates", *kinds, "Edits"], rows)
-
-
-def edit(name):
-    """An edit as a diff, and what `tools/test-edits` printed of it."""
-    crate, _, stem = name.partition("/")
-    lines, before = ["```diff"], ""
-    for word, text in re.findall(r"(?m)^(file|old|new): (.*)$", text_of(tree.CRATES / crate / "edits" / f"{stem}.edit")):
-        if word == "file":
-            lines.append(f"--- crates/{crate}/{text}")
-        elif word == "old":
-            before = text
-        else:
-            stays = text.startswith(before)
-            lines.append((" " if stays else "-") + "   " + before)
-            lines.append("+   " + (text[len(before):].strip() if stays else text))
-    told = textwrap.wrap(noted("refused")[name, "printed"], 110, break_on_hyphens=False)
-    return "\n".join([*lines, "```", "", "```text", f"$ tools/test-edits {name}", *told, "```"])
 
 
 RATES = (1000, 10000, 100000, 1000000)
