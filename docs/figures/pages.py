@@ -102,7 +102,7 @@ def words_of_the_code():
     """Every word of the sources, their edits and the scripts."""
     endings = (".rt", tree.LOAD_ENDING, ".antt", ".edit", ".rs", ".toml", ".lock", ".py", "")
     plain = [it for folder in tree.PLAIN for it in tree.files(folder, ".rs")]
-    plain += [it for part in ("src", "tests") for it in tree.files(TOP / "rust" / "hontkhale" / part, ".rs")]
+    plain += [it for crate in ("hontkhale", "hontkhale-tokio") for part in ("src", "tests") for it in tree.files(TOP / "rust" / crate / part, ".rs")]
     paths = [*tree.files(tree.CRATES, *endings), *tree.files(TOP / "bench", *endings), *plain, TOP / "crates.txt"]
     own = {word for it in paths for word in re.findall(r"\w+", text_of(it))}
     return own | {it.stem for it in paths} | {it.suffix[1:] for it in paths} | set(source.lines_of_crates())
