@@ -386,15 +386,6 @@ def evidence():
     return grid(["What", "How many"], told.items(), 2)
 
 
-def sizes():
-    """Lines by kind, and edits, of the crates of each role."""
-    kinds, rows = PLAN["kinds"], []
-    for words, role in PLAN["roles"].items():
-        counts = [*(tree.lines(it, role) for it in kinds.values()), tree.edits(role)]
-        rows.append([words, *(f"{it:,}" if it else "" for it in counts)])
-    return grid(["Crates", *kinds, "Edits"], rows)
-
-
 RATES = (1000, 10000, 100000, 1000000)
 # The units of a time, the greatest first: a time is told in the greatest of which it has two.
 UNITS = (("years", 365.25 * 24 * 3600), ("days", 24 * 3600), ("hours", 3600), ("minutes", 60))
