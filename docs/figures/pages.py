@@ -116,6 +116,14 @@ def unknown_names(text):
     return sorted(name for name, its in parts.items() if name not in others and not set(its) <= words_of_the_code())
 
 
+STRAY = re.compile(r"(?m)(?:\A|^(?!\|).*\n)(\|.*)\n(?!\|[-:| ]+\|$)")
+
+
+def stray_rows(text):
+    """The rows that stand in no table, since a table begins with its heads and a line of dashes."""
+    return [found[1] for found in STRAY.finditer(re.sub(r"(?ms)^```.*?^```$", "```", text))]
+
+
 def word_count(text):
     """The words of a page beside its code, its tables and what a reader doesn't see."""
     text = re.sub(r"(?ms)^```.*?^```", "", TABLE.sub("", text))
