@@ -6,6 +6,7 @@ A mark is a comment that a reader of the page does not see:
     <!-- from FILE: NAME -->            the fenced block below is that definition (`NAME CLAUSE`: one clause of it); with
                                         `FILE` alone it stands in the file as it is
     <!-- carried by FILE: FUNCTION -->  the contract of that function cites the statement above, or leads to it
+    [`NAME`](..antt) [`FUNCTION`](..rt) in a row of a table: the contract of a function of the row leads to each definition of it
     <!-- names of others: Stream -->    these names in code font, and files, are none of this repository
 """
 
@@ -19,8 +20,19 @@ from tree import TOP, text_of
 TABLE = re.compile(r"(<!-- table ([^>]*?) -->\n)(.*?)(<!-- end -->)", re.S)
 QUOTE = re.compile(r"(<!-- from ([^>]*?) -->\n+```[a-z]*\n)((?:(?!```).*\n)*)(```)")
 CARRIER = re.compile(r"<!-- carried by (\S+): (\w+) -->")
+STATED = re.compile(r"\[`(\w+)`\]\(([^)#\s]+\.(antt|rt))\)")
 OTHERS = re.compile(r"<!-- names of others: ([^>]*?) -->")
 LINK = re.compile(r"\[[^\]]*\]\(([^)\s]+)\)")
+
+
+def stated(page):
+    """The rows of a page that name statements or what carries them: the definitions of each row, and its functions, with their files."""
+    for row in re.findall(r"(?m)^\|.*$", text_of(page)):
+        links = {"antt": [], "rt": []}
+        for name, path, kind in STATED.findall(row):
+            links[kind].append((str((page.parent / path).resolve().relative_to(TOP)), name))
+        if any(links.values()):
+            yield links["antt"], links["rt"]
 
 
 def headings(text):
@@ -90,7 +102,7 @@ def words_of_the_code():
     """Every word of the sources, their edits and the scripts."""
     endings = (".rt", tree.LOAD_ENDING, ".antt", ".edits", ".rs", ".toml", ".lock", ".py", "")
     plain = [it for folder in tree.PLAIN for it in tree.files(folder, ".rs")]
-    plain += [it for part in ("src", "tests") for it in tree.files(TOP / "rust" / "hontkhale" / part, ".rs")]
+    plain += [it for crate in ("hontkhale", "hontkhale-tokio") for part in ("src", "tests") for it in tree.files(TOP / "rust" / crate / part, ".rs")]
     paths = [*tree.files(tree.CRATES, *endings), *tree.files(TOP / "bench", *endings), *plain, TOP / "crates.txt"]
     own = {word for it in paths for word in re.findall(r"\w+", text_of(it))}
     return own | {it.stem for it in paths} | {it.suffix[1:] for it in paths} | set(source.lines_of_crates())
@@ -102,6 +114,14 @@ def unknown_names(text):
     text = re.sub(r"(?ms)^```.*?^```", "", text)
     parts = {it: re.split(r"::|\.", it) for it in IDENTIFIER.findall(text) if not COMMIT.match(it)}
     return sorted(name for name, its in parts.items() if name not in others and not set(its) <= words_of_the_code())
+
+
+STRAY = re.compile(r"(?m)(?:\A|^(?!\|).*\n)(\|.*)\n(?!\|[-:| ]+\|$)")
+
+
+def stray_rows(text):
+    """The rows that stand in no table, since a table begins with its heads and a line of dashes."""
+    return [found[1] for found in STRAY.finditer(re.sub(r"(?ms)^```.*?^```$", "```", text))]
 
 
 def word_count(text):

@@ -35,6 +35,11 @@ def definition(path, name, clause=None):
     raise LookupError(f"{path}: {name} has no clause of {clause}")
 
 
+def is_defined(path, name):
+    """Whether a file of specs/ defines a name."""
+    return (TOP / path).is_file() and any(its == name for its, *_ in parts(path))
+
+
 def contract(path, name):
     """The head and the clauses of a function of a file, the first of its name, without its body."""
     for it in tree.file_of(TOP / path).functions:

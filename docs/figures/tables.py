@@ -5,7 +5,6 @@ import itertools
 import math
 import re
 import statistics
-import textwrap
 import tomllib
 
 import tree
@@ -104,18 +103,31 @@ def product_goals():
     return grid(["", "at most", *(f"{it} thread{'s' if it != '1' else ''}" for it in many)], rows)
 
 
-def headline():
-    """What a reader links by default, beside locked queues: the longest calls, then each call's median and best run."""
-    def both(name, threads, peers):
-        its = [(peer, name, "10000", threads) for peer in peers if (peer, name, "10000", threads) in run()]
-        return f"{ns_text(run()[its[0]])} ({ns_text(run(min)[its[0]])})" if its else ""
+def shape(name, entries, threads):
+    """A row's entries, shards and threads, in words."""
+    shards, many = name.partition("/")[2] or "1", f"{int(entries):,} entries"
+    parts = [f"{shards} shards of {many}" if shards != "1" else many, f"{threads} threads" if threads != "1" else ""]
+    return ", ".join([*filter(None, parts), *(["each thread its own"] if name.startswith("own-") else [])])
 
-    front, rows = PLAN["front"].values(), []
-    for call in ("cancel", "extend"):
-        taken = (longest_of(f"longest-{call}", its[0].removesuffix("-locked"), "65536") for its in front)
-        rows.append([f"longest poll after 65,536 {call}s, no locks", *(f"{us_text(it)} µs" for it in taken)])
-    rows += ([words, *(both(*its, peers) for peers in front)] for words, its in PLAN["front_rows"].items())
-    return grid(["", *PLAN["front"]], rows)
+
+def headline():
+    """The worst eight kinds of rows of what a reader links: each where ours takes most beside the fastest of the others, worst first."""
+    found = {}
+    for product, (words, peers) in PLAN["front"].items():
+        for peer, name, entries, threads in run():
+            kind = name.removeprefix("own-").partition("/")[0]
+            is_longest = name.startswith("longest-")
+            taken = (lambda it: longest_of(name, it, entries)) if is_longest else lambda it: run()[it, name, entries, threads]
+            others = [it for it in PLAN[peers] if (it, name, entries, threads) in run()]
+            if peer != product or kind not in PLAN["front_rows"] or not others:
+                continue
+            best = min(others, key=taken)
+            cells = [taken(product) / taken(best), taken(product), taken(best), PLAN[peers][best], taken(others[-1])]
+            text = (lambda it: f"{us_text(it)} µs") if is_longest else ns_text
+            row = [words, f"{PLAN['front_rows'][kind]}; {shape(name, entries, threads)}", text(cells[1]), f"{text(cells[2])}, {cells[3]}", text(cells[4])]
+            found[words, kind] = max(found.get((words, kind), (0,)), (cells[0], row))
+    worst = sorted(found.values(), reverse=True)[:8]
+    return grid(["", "Row", "ours", "the fastest other", "tokio-util's"], (row for _, row in worst), 2)
 
 
 def beside_delay_queue():
@@ -372,27 +384,6 @@ def evidence():
         "Compilers of each program": "2; what both print is compared with what is stored",
     }
     return grid(["What", "How many"], told.items(), 2)
-
-
-def sizes():
-    """Lines by kind, and edits, of the crates of each role."""
-    kinds, rows = PLAN["kinds"], []
-    for words, role in PLAN["roles"].items():
-        counts = [*(tree.lines(it, role) for it in kinds.values()), tree.edits(role)]
-        rows.append([words, *(f"{it:,}" if it else "" for it in counts)])
-    return grid(["Crates", *kinds, "Edits"], rows)
-
-
-def edit(name):
-    """An edit as a diff, and what `tools/test-edits` printed of it."""
-    pairs = next(it.pairs for crate in tree.crates(name.partition("/")[0]) for it in crate.edits() if it.told() == name)
-    lines = ["```diff", f"--- crates/{name.partition('/')[0]}/{pairs[0][0]}"]
-    for _, _, before, text in pairs:
-        stays = text.startswith(before)
-        lines.append((" " if stays else "-") + "   " + before)
-        lines.append("+   " + (text[len(before):].strip() if stays else text))
-    told = textwrap.wrap(noted("refused")[name, "printed"], 110, break_on_hyphens=False)
-    return "\n".join([*lines, "```", "", "```text", f"$ tools/test-edits {name}", *told, "```"])
 
 
 RATES = (1000, 10000, 100000, 1000000)

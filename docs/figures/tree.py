@@ -199,7 +199,7 @@ def wrong_uses():
     page = text_of(TOP / "docs" / "ARCHITECTURE.md").partition("## The crates")[2].partition("\n## ")[0]
     for crate in sorted(set(ours) ^ set(ROW.findall(page))):
         yield "docs/ARCHITECTURE.md", f"its table and crates.txt don't both have `{crate}`"
-    for block in re.findall(r"^```text\n(dq_ticks:.*?)^```", text_of(TOP / "docs" / "USING.md"), re.M | re.S):
+    for block in re.findall(r"^```text\n(dq_ticks:.*?)^```", text_of(TOP / "docs" / "PARTS.md"), re.M | re.S):
         for crate, parts in listed(block).items():
             if crate in ours and parts != ours[crate]:
-                yield "docs/USING.md", f"its crates.txt has `{crate}:{' '.join(['', *parts])}`, and ours `{' '.join(ours[crate])}`"
+                yield "docs/PARTS.md", f"its crates.txt has `{crate}:{' '.join(['', *parts])}`, and ours `{' '.join(ours[crate])}`"

@@ -38,8 +38,8 @@
 //!
 //! The [`parts`] are written in Rattle, which is Rust with contracts, and each of their functions is proved. This crate is
 //! that source with its contracts erased by a script. So the script and rustc are trusted, and so is the plain Rust by hand
-//! beside the erased code, which the README lists: the locks, memory and the shared words among it. The README has one
-//! function side by side, and what the script rewrites.
+//! beside the erased code, which the README lists: the locks, memory and the shared words among it. The script's own page
+//! has one function side by side, and what it rewrites.
 //!
 //! [`DelayQueue`] shares proved shards among threads by code that is written by hand, and tested.
 //!
