@@ -66,6 +66,8 @@ FROM (
 ) waiting"
 );
 
+/// Whether the tables are those of a worker.
+pub const KNOWN: &str = "SELECT FROM jobs_workers WHERE worker = $1::bigint";
 /// Tells who keeps this worker from coming, where one does.
 pub const ENTER: &str = "SELECT jobs_enter($1::bigint, $2::text, $3::text, $4::float8)";
 /// The worker lives, and its terms go on. One that was silent for too long has to come again.
