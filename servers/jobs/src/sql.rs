@@ -148,15 +148,13 @@ RETURNING id, attempt, lease_until, payload, started, due"
 );
 
 /// Begins the statement that takes jobs and has an effect at once; the effect stands within. Of a kind that is bounded one
-/// statement at a time has effects, one after another.
+/// statement at a time has effects, one after another: whoever asks for its room has its row.
 pub const BEGIN_EFFECT: &str = concat!(
     "
-WITH jobs_open AS MATERIALIZED (
-    SELECT kind FROM jobs_kinds WHERE kind = ANY($4::text[]) FOR NO KEY UPDATE SKIP LOCKED
-), jobs_free AS MATERIALIZED (
+WITH jobs_free AS MATERIALIZED (
     SELECT id FROM jobs
     WHERE id = ANY($3::bigint[]) AND state || '' = 'waiting' AND due <= now()
-        AND (kind <> ALL ($4::text[]) OR kind = ANY (ARRAY(SELECT kind FROM jobs_open)))
+        AND ($4::text[] = '{}' OR kind <> ALL ($4::text[]) OR jobs_room(kind) > 0)
         AND partition = ",
     owned!(),
     "
