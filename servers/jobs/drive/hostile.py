@@ -121,7 +121,11 @@ def nonsense(it):
 
 
 def flood(it):
+    """Notifications that the trigger didn't send: no session is given up for a job that isn't there."""
     worker = it.effect()
+    sessions = "FROM pg_stat_activity WHERE application_name LIKE 'jobs-work%'"
+    it.wait_for_number(f"SELECT count(*) {sessions}", 3)
+    before = it.sql(f"SELECT pid {sessions} ORDER BY 1")
     told = """
         SELECT pg_notify('jobs_' || 'jobs'::regclass::oid, CASE i % 4 WHEN 0 THEN '*' WHEN 1 THEN repeat('x', 7000) || i
             WHEN 2 THEN (1000000 + i) || ' ' || (extract(epoch FROM clock_timestamp()) * 1000000)::bigint || ' 0 '
@@ -143,6 +147,7 @@ def flood(it):
         stop.set()
         thread.join()
     assert it.number("SELECT count(*) FROM jobs WHERE attempt <> 1") == 0 and worker.poll() is None
+    assert it.sql(f"SELECT pid {sessions} ORDER BY 1") == before, "a session was given up"
     end(worker)
     say(f"{sent[0]} false notifications beside 5,000 jobs: each done once; ms late p50, p99, max: {lateness(it)}")
 

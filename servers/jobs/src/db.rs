@@ -3,6 +3,7 @@
 
 use crate::fault::{Asked, Error, Whose};
 use crate::metrics::Metrics;
+use crate::sql;
 use std::collections::HashMap;
 use std::future::{poll_fn, Future};
 use std::sync::atomic::{AtomicBool, AtomicUsize, Ordering::SeqCst};
@@ -160,13 +161,17 @@ impl Session {
     }
 
     /// The same, and whose fault it is where there is no answer. Only what the database refuses to read is the statement's.
+    /// The first parameter of what is asked for jobs is the worker's number.
     async fn query_rows(&self, sql: &str, params: &[Param<'_>], asked: Asked) -> Result<Vec<Row>, (Whose, Error)> {
         let own = |error: Error| (error.whose(Asked::Own), error);
         let statement = self.prepare(sql).await.map_err(own)?;
         let error = match self.limited(self.client.query(&statement, params)).await {
             Ok(rows) => {
-                // None of the jobs stands there: an effect may have set a path to other tables.
-                self.is_given_up.fetch_or(rows.is_empty() && matches!(asked, Asked::Jobs(_)), SeqCst);
+                if rows.is_empty() && matches!(asked, Asked::Jobs(_)) {
+                    // Another may have had them all. Or an effect has set a path to other tables.
+                    let known = self.query(sql::KNOWN, &params[..1]).await;
+                    self.is_given_up.fetch_or(!known.is_ok_and(|it| it.len() == 1), SeqCst);
+                }
                 return Ok(rows);
             }
             Err(error) => error,

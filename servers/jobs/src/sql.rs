@@ -66,6 +66,8 @@ FROM (
 ) waiting"
 );
 
+/// Whether the tables are those of a worker.
+pub const KNOWN: &str = "SELECT FROM jobs_workers WHERE worker = $1::bigint";
 /// Tells who keeps this worker from coming, where one does.
 pub const ENTER: &str = "SELECT jobs_enter($1::bigint, $2::text, $3::text, $4::float8)";
 /// The worker lives, and its terms go on. One that was silent for too long has to come again.
@@ -146,15 +148,13 @@ RETURNING id, attempt, lease_until, payload, started, due"
 );
 
 /// Begins the statement that takes jobs and has an effect at once; the effect stands within. Of a kind that is bounded one
-/// statement at a time has effects, one after another.
+/// statement at a time has effects, one after another: whoever asks for its room has its row.
 pub const BEGIN_EFFECT: &str = concat!(
     "
-WITH jobs_open AS MATERIALIZED (
-    SELECT kind FROM jobs_kinds WHERE kind = ANY($4::text[]) FOR NO KEY UPDATE SKIP LOCKED
-), jobs_free AS MATERIALIZED (
+WITH jobs_free AS MATERIALIZED (
     SELECT id FROM jobs
     WHERE id = ANY($3::bigint[]) AND state || '' = 'waiting' AND due <= now()
-        AND (kind <> ALL ($4::text[]) OR kind = ANY (ARRAY(SELECT kind FROM jobs_open)))
+        AND ($4::text[] = '{}' OR kind <> ALL ($4::text[]) OR jobs_room(kind) > 0)
         AND partition = ",
     owned!(),
     "
