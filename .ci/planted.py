@@ -22,6 +22,7 @@ import tomllib
 TOP = pathlib.Path(__file__).resolve().parent.parent
 # A function that isn't proved with the second text.
 LEN, WRONG_LEN = "self.handles.len()\n", "let most = self.most; most\n"
+BY_NO_GOAL = "REFUSED BY NO GOAL OF THE RIGHT BODY"
 REFUSED_TOO = "test-edits: small: a right body is refused too, as idle::Idle::len_right1: nothing is known of its edits"
 
 
@@ -200,7 +201,8 @@ def try_edits():
         told, later = told_of(small / "edits"), told_of(small / "later")
         one, half, beside = "put_hands_back_with_room", "len_of_half", "put_beside_a_wrong_len"
         cases = [("with those planted", ["-j", "2"], told), ("one by its name", [f"small/{one}"], {one: ""}),
-                 ("with those planted, as in the gate", ["--built", "-j", "2"], told)]
+                 ("with those planted, as in the gate", ["--built", "-j", "2"], told),
+                 ("by goals of the right bodies", ["--goals", "-j", "2"], {**told, "put_is_full_one_early": BY_NO_GOAL})]
         failed = sum(try_case(room, *case) for case in cases)
         # a body that isn't proved, as the crate stands, an edit of it, and one of another function beside it
         source = small / "src" / "idle.rt"

@@ -12,6 +12,8 @@ PROVED = re.compile(r"^(logic=proved |only=(\d+) proved=\2$)", re.M)
 REFUSED = re.compile(r"^(logic=not-proved|only=\d+ proved=)", re.M)
 # The words by which `rt must-fail` judges: an error of names says little of a contract, an unread text nothing.
 NAMES = re.compile(r"has no field|is not in scope|has no `|was not admitted")
+# Where a name in such an error is long, its words stand on the next line.
+WRAPPED = re.compile(r"\n  (?=(?:is not in scope|has no|was not admitted)\b)")
 UNREAD = re.compile(r"is not in scope|has no field|is no name|operand is missing|expected the end|cannot continue")
 ERROR = re.compile(r"(?:\./)?(src/\S+?|specs/\S+?):(\d+):\d+: error(\[[\w-]+\])?: (.*)")
 PLACED = re.compile(r"note: \S+:\d+:\d+:|\S+:\d+:\d+: error")
@@ -37,6 +39,12 @@ use {0}.Goals as goal
 pub {1} : goal.{1}
 {1} = tried.{1}
 """
+# The same answers of a copy of the right body, and the file beside them: it names the goals that are tried of wrong bodies. One
+# that the right body hasn't tells nothing: no answer is written for it, so the search for a proof of it may well fail.
+ASKED = "mod Asked\nuse {0}.Answers.Asked as asked\nuse {0}.Proof as proof\nuse {0}.Goals as goal\n"
+ASKED_BESIDE = "use {0}.Goals as goal\n"
+ASKED_GOAL = "pub {0} : goal.{0}\n{0} = {1}\n"
+NO_GOAL = re.compile(r"^(?:\./)?proofs/(\S+)_asked\d+/Answers/Asked\.antt:\S+ error: .* has no `([^`]+)`", re.M)
 # That file, if nobody wrote an answer: what rattle tries on each goal, which runs the last one with fewer steps first.
 SEARCHED = """use Rattle.std.proofs.Common.{{rules}}
 use Rattle.std.proofs.lemmas.Grind.{{common_steps, elements}}
@@ -59,7 +67,11 @@ TAKEN = "pub {0}_spec : Type 0\n{0}_spec = not_searched\n"
 OURS = "`not_searched`"
 
 # How a run tells what isn't refused.
-WORDS = {"proved": "NOT REFUSED", "bad": "BAD EDIT", "elsewhere": "REFUSED ELSEWHERE", "not judged": "NOT JUDGED"}
+WORDS = {"proved": "NOT REFUSED", "bad": "BAD EDIT", "elsewhere": "REFUSED ELSEWHERE", "not judged": "NOT JUDGED",
+         "by no goal": "REFUSED BY NO GOAL OF THE RIGHT BODY"}
+# The crates of which it isn't settled yet that each edit is refused by such a goal: there an answer that names what is gone counts
+# too. Whoever settles one takes it out, runs --goals and --right, and mends the edits that these name.
+UNSETTLED = {"dq_apps", "dq_bell", "dq_c", "dq_core", "dq_growing", "dq_parking", "dq_replay", "dq_shards", "dq_words"}
 
 
 def alone(text, goal):
@@ -89,7 +101,9 @@ def cost_of(note):
 class Answer:
     """What a check of a round said."""
 
-    def __init__(self, crate, status, text, searched=(), taken=()):
+    def __init__(self, crate, status, text, searched=(), taken=(), asks_right=False):
+        self.asks_right, self.is_settled = asks_right, crate not in UNSETTLED
+        text = WRAPPED.sub(" ", text) if self.is_settled else text
         self.status, self.text, self.searched, self.taken = status, text, searched, taken
         self.lines = text.rstrip("\n").split("\n")
         self.functions = {it[1].partition("::")[2]: (it[2], it[3] or "") for it in LINE.finditer(text)}
@@ -133,7 +147,8 @@ class Answer:
         return next(iter(self.notes.get(its[0], [])), "") or self.own_reason(its[0]) if its else ""
 
     def own_reason(self, name):
-        """The reason that the check gives of a function itself, which isn't that another one isn't proved."""
+        """The reason that the check gives of a function itself, which isn't that another one isn't proved, nor that an answer
+        names what isn't there, since that says nothing of a contract."""
         how, said = self.functions.get(name, ("", ""))
         if how in ("", "proved", "could not tell"):
             return ""
@@ -145,19 +160,31 @@ class Answer:
         if own or errors:
             return [*errors, *own][0]
         # with a word behind it, another function's proof is what it lacks
-        return next(iter(self.errors_of(name)), f"fn {name}: not proved") if (how, said) == ("not proved", "") else ""
+        if (how, said) != ("not proved", ""):
+            return ""
+        stale = next(iter(self.errors_of(name)), "")
+        return f"fn {name}: not proved" if not stale else "" if self.is_settled else stale
+
+    def fault_of(self, name):
+        """What a right body must not have: such a reason, or an answer that names what isn't there."""
+        how, _ = self.functions.get(name, ("", ""))
+        stale = self.errors_of(name) if self.is_settled and how not in ("", "proved") else ()
+        return self.own_reason(name) or next(iter(stale), "")
+
+    def has_goal(self, function, goal):
+        """Whether the right body of a function has a goal, which was asked of it."""
+        return (function.replace("::", "/"), goal) not in NO_GOAL.findall(self.text)
 
     def strays(self, edits):
         """The functions that the check refused though none of these edits changes them, and it had proofs of them."""
         mine = {self.name_of(name) for it in edits for name in [*it.wrong(), *it.added]}
-        return [it for it in self.functions if it not in mine and it not in self.taken and self.own_reason(it)]
+        return [it for it in self.functions if it not in mine and it not in self.taken and self.fault_of(it)]
 
-    def goal_of(self, edit):
-        """A goal of the copy of an edit's function that the check didn't prove: the one that cost least, or else one whose
-        written answer it refused."""
-        name = self.name_of(edit.wrong()[0])
+    def goals_of(self, name):
+        """The goals of a function that the check didn't prove: first those that cost it least, last those whose written answers
+        it refused."""
         errors = "\n".join(it for it in self.errors_of(name) if not NAMES.search(it))
-        return next(iter([*(goal for goal, _ in self.unproved(name)), *REFUSED_ANSWER.findall(errors)]), "")
+        return [*dict.fromkeys([*(goal for goal, _ in self.unproved(name)), *REFUSED_ANSWER.findall(errors)])]
 
     def all_unread(self):
         """The lines that say that a text couldn't be compiled or read, each with its file and its place there."""
@@ -184,14 +211,16 @@ def judge_alone(edit, answer):
         what = "what it changes" if edit.functions() else "the crate"
         edit.came_to, edit.why = "proved", f"{what} is proved with it"
     elif answer.refused and not edit.reaches_further and (answer.strays([edit]) or not answer.reason_of(edit)):
-        others = ", ".join(sorted(it for it in answer.functions if answer.own_reason(it)))
-        edit.came_to, edit.why = "elsewhere", f"these aren't proved: {others or 'none is named'}"
+        others = ", ".join(sorted(it for it in answer.functions if answer.fault_of(it)))
+        stale = next((it for name in edit.wrong() for it in answer.errors_of(answer.name_of(name))), "")
+        edit.came_to, edit.why = ("by no goal", stale) if stale else ("elsewhere", f"these aren't proved: {others or 'none is named'}")
     elif answer.refused:
         told = [it for it in answer.lines if PLACED.match(it)]
         own = answer.reason_of(edit)
         edit.came_to, edit.why = "refused", own or next((it for it in told if not NAMES.search(it)), "")
         if not edit.why:
-            edit.why = f"only since a proof names what it took away: {next(iter(told), '')}"
+            edit.came_to = "by no goal" if answer.is_settled else "refused"
+            edit.why = f"a proof names what it took away: {next(iter(told), '')}"
     elif answer.status == 3 and LIMIT.search(answer.text):
         edit.came_to, edit.why = "refused", f"by a limit of the prover alone: {LIMIT.search(answer.text)[0]}"
     else:
@@ -230,15 +259,36 @@ def judge(crate, edits, answer):
             it.copy = it.copy if it.most > 1 else ()
         return
     for edit in edits:
-        own = answer.reason_of(edit)
-        if own:
-            edit.came_to, edit.why = "refused", own
-        elif edit.goal:
-            # its goal is proved, or isn't there any more: next all are tried
-            edit.goal = ""
+        if edit.is_tried_alone(crate):
+            judge_goal(crate, edit, answer)
+        elif answer.reason_of(edit):
+            judge_whole(crate, edit, answer)
         else:
             edit.tries += 1
             waits = any(answer.functions.get(answer.name_of(it), ("",))[0].startswith("no") for it in edit.wrong())
             edit.most = edit.most if waits and edit.tries < 2 else 1
             # one that stands alone stands in its place
             edit.copy = edit.copy if edit.most > 1 else ()
+
+
+def judge_goal(crate, edit, answer):
+    """What became of a copy of which one goal was tried: if that tells nothing, the next is tried, or first all."""
+    own = answer.reason_of(edit) if answer.has_goal(crate.name_of(*edit.bodies), edit.goal) else ""
+    if own:
+        edit.came_to, edit.why = "refused", own
+    elif edit.goals:
+        edit.goal = edit.goals.pop(0)
+    elif edit.goals is None:
+        edit.goal = ""
+    else:
+        edit.came_to, edit.why = "by no goal", "the right body has none of the goals that aren't proved, or their answers are out of date"
+
+
+def judge_whole(crate, edit, answer):
+    """What became of an edit of which all goals were tried: of a copy, each goal that isn't proved is then tried alone, if it is
+    to be one of the right body too."""
+    goals = answer.goals_of(answer.name_of(edit.wrong()[0])) if edit.copy and answer.asks_right else []
+    if goals and crate.tries_alone(edit):
+        edit.goal, *edit.goals = goals
+    else:
+        edit.came_to, edit.why = "refused", answer.reason_of(edit)

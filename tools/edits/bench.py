@@ -17,9 +17,9 @@ from source import TOP
 class Bench:
     """The copies in which crates are checked."""
 
-    def __init__(self, room, crates, graph, lines, asks):
+    def __init__(self, room, crates, graph, lines, asks_right):
         self.room, self.crates, self.graph, self.lines, self.is_over = room, crates, graph, lines, False
-        self.notes_goals = asks.goals
+        self.asks_right = asks_right
         self.checks, self.numbers, self.lock = set(), itertools.count(1), threading.Lock()
         self.seconds = {}
 
@@ -96,19 +96,21 @@ class Bench:
             shutil.copytree(kept, folder / "out" / "incremental", copy_function=link)
             for edit in (it for it in edits if it.copy):
                 copy_proof(crate, folder, edit)
-            taken = take_contracts(crate, folder, edits) if takes_contracts else ()
-            for path, text in crate.texts_with(edits, taken).items():
+            asked = ask_for_goals(crate, folder, edits) if self.asks_right else []
+            taken = take_contracts(crate, folder, edits) if takes_contracts else []
+            for path, text in crate.texts_with([*edits, *asked], taken).items():
                 if text != crate.texts[path]:
                     (folder / path).write_text(text, encoding="utf-8")
             searched = self.search(crate, folder, edits)
-            only = sorted({name for it in edits for name in it.functions()})
+            only = sorted({name for it in [*edits, *asked] for name in it.functions()})
             status, said = self.ran(crate.name, folder, self.rattle(crate.name, folder, only))
             if answers.NO_FUNCTION.search(said):
                 # a name that the check gives otherwise: it is asked for all
                 status, said = self.ran(crate.name, folder, self.rattle(crate.name, folder, ()))
             if not any(it.reaches_further for it in edits):
-                keep_work(folder / "out" / "incremental", kept, [crate.name_of(name) for it in edits for name in it.wrong()])
-            answer = answers.Answer(crate.name, status, said, searched, taken)
+                keep_work(folder / "out" / "incremental", kept, [crate.name_of(name) for it in [*edits, *asked] for name in it.wrong()])
+            taken += [crate.name_of(it.wrong()[0]) for it in asked]
+            answer = answers.Answer(crate.name, status, said, searched, taken, self.asks_right)
             answer.controls = [answer.name_of(it.wrong()[0]) for it in controls]
             return answer
         finally:
@@ -124,8 +126,8 @@ class Bench:
             if not (at / "Proof.antt").exists():
                 found.append(its)
                 at.mkdir(parents=True, exist_ok=True)
-                if edit.goal and edit.copy and not self.notes_goals and not crate.has_tactics(function):
-                    try_alone(at, f"Rattle.{crate.name}.proofs.{its.replace('::', '.')}", edit.goal, crate.has_types(function))
+                if edit.is_tried_alone(crate):
+                    try_alone(at, crate.module_of_proof(its), edit.goal, crate.has_types(function))
                 else:
                     offer_nothing(at)
         return found
@@ -172,6 +174,36 @@ def offer_nothing(folder):
     """Adds an answer that is refused to a function's file, so that no other is offered."""
     with (folder / "Answers.antt").open("a", encoding="utf-8") as file:
         file.write(f"\n{answers.OFFERS_NOTHING}")
+
+
+def apart(goals):
+    """Goals in groups in which none is a part of another: rattle makes such a goal whole or in its parts, as the answers name it."""
+    groups = []
+    for goal in sorted(goals):
+        into = next((its for its in groups if not any(goal.startswith(f"{it}-") for it in its)), None)
+        if into is None:
+            groups.append(into := [])
+        into.append(goal)
+    return groups
+
+
+def ask_for_goals(crate, folder, edits):
+    """Has a check tell which of the goals that are tried alone the right bodies haven't, in copies of these: the copies."""
+    goals, groups = {}, []
+    for edit in (it for it in edits if it.is_tried_alone(crate)):
+        goals.setdefault(next(iter(edit.bodies)), (edit, set()))[1].add(edit.goal)
+    for edit, its in goals.values():
+        groups += [(edit, group) for group in apart(its)]
+    copies = crate.right([edit for edit, _ in groups], end="asked")
+    for it, (_, group) in zip(copies, groups):
+        copy_proof(crate, folder, it)
+        name = crate.name_of(it.wrong()[0])
+        at = folder / "proofs" / name.replace("::", "/")
+        (at / "Answers").mkdir(parents=True, exist_ok=True)
+        for file, head, answer in (("Answers", answers.ASKED, "asked.{0}"), ("Answers/Asked", answers.ASKED_BESIDE, "not_searched")):
+            text = "".join(answers.ASKED_GOAL.format(goal, answer.format(goal)) for goal in group)
+            (at / f"{file}.antt").write_text(head.format(crate.module_of_proof(name)) + text, encoding="utf-8")
+    return copies
 
 
 def try_alone(folder, module, goal, has_types):

@@ -32,6 +32,8 @@ class Edit:
     asks: list = dataclasses.field(default_factory=list)
     # the goal that is tried of a copy of its function
     goal: str = ""
+    # the goals that a check of all of them didn't prove, which are still to be tried alone; none before such a check
+    goals: list = None
     error: str = ""
     # the name and the text of a copy of its function with the wrong body, which stands beside the right one
     copy: tuple = ()
@@ -53,6 +55,10 @@ class Edit:
     def is_searched(self):
         """Whether a check of it only has to tell which goals aren't proved, and offers no answers for them."""
         return not self.error and not self.tries and not self.is_alone()
+
+    def is_tried_alone(self, crate):
+        """Whether a check tries one goal of its function alone, the one that its file names or one that isn't proved."""
+        return bool(self.goal) and self.is_searched() and crate.tries_alone(self)
 
     def wrong(self):
         """The functions that have the wrong bodies."""
@@ -224,13 +230,20 @@ class Crate:
         text = file.copied(next(it for it in file.functions if it.name == function), name)
         return text and (name, text)
 
-    def right(self, edits):
-        """Of each of these edits that is a copy, a copy with the right body, as an edit that changes nothing."""
+    def tries_alone(self, edit):
+        """Whether one goal of an edit's function can be tried alone: of a copy, which nothing calls."""
+        return bool(edit.copy) and not self.has_tactics(next(iter(edit.bodies)))
+
+    def right(self, edits, more="", end="right"):
+        """Of each of these edits that is a copy, a copy with the right body, as an edit that changes nothing; with a text more
+        at the body's begin."""
         found = []
         for number, edit in enumerate((it for it in edits if it.copy), 1):
             (function,) = edit.bodies
-            plain = f"{function.rpartition('::')[2]}_right{number}"
-            copy = self.copied(self.sources[self.place_of(function)[0]], function, plain)
+            plain = f"{function.rpartition('::')[2]}_{end}{number}"
+            path, it = self.place_of(function)
+            text = self.texts[path]
+            copy = self.copied(file_of(path, f"{text[:it.body + 1]}{more}{text[it.body + 1:]}"), function, plain)
             found.append(Edit(self.name, edit.name, copy=copy, bodies={function: None}, goal=edit.goal))
         return found
 
@@ -243,6 +256,10 @@ class Crate:
         """Whether a function names tactics of its own."""
         path, it = self.place_of(function)
         return "#[tactic(" in self.texts[path][it.above:it.begin]
+
+    def module_of_proof(self, name):
+        """The module of the proof of a function, by the name that a check gives it."""
+        return f"Rattle.{self.name}.proofs.{name.replace('::', '.')}"
 
     def free(self):
         """The functions beside which others may stand, as a check is likely to name them."""
