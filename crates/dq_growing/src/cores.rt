@@ -213,6 +213,17 @@ impl<T, W: Words, A: Allocator> Cores<T, W, A> {
         None
     }
 
+    // The core of an entry's number.
+    pub(crate) fn of(&self, entry: &EntryId) -> Option<&DelayCore<T, W, A>>
+        ensures found { IfSome result (λ c. (i : ℕ) × HasAt self.now.cores entry.now.shard i c.now) }
+        ensures none { IfNone result (HasNo self.now.cores entry.now.shard) }
+    {
+        let Some(at) = self.place_of(entry.shard()) else {
+            return None;
+        };
+        Some(&self.cores[at])
+    }
+
     /// Takes a live entry out, and returns its value with its key and its current deadline, a tick of one millisecond.
     /// Constant time, and no memory is taken.
     ///

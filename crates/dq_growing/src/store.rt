@@ -8,7 +8,7 @@ ghost use Rattle.dq_growing.specs.Stands.{OneLeaves, SameStand};
 ghost use Rattle.dq_growing.specs.Store.{key_as, key_told, removed_as, expired_as, moved_as, answer_as, NotesMoved, NotesAnswered, IsStore, KeysAreApart, StandsFor, ComesFor, GoesOnFor, RemovesFor, TellsFor, RelocatesFor, PollsFor, PeeksFor, piece_as, NotesAfter, ReapsFor, ResetsFor};
 ghost use Rattle.dq_growing.specs.Moving.{IfTo, IfCameOut};
 ghost use Rattle.dq_growing.specs.Polls.{DoesPoll, DoesPiece};
-ghost use Rattle.dq_growing.specs.Notes.{HasNoteRoom, HasNoNumber, user_at, with_id};
+ghost use Rattle.dq_growing.specs.Notes.{HasNoteRoom, ArePastIn, user_at, with_id};
 
 use crate::cores::{Cores, TakeError, missing_at};
 use crate::moving::{Moved, NextDeadline};
@@ -401,7 +401,7 @@ impl<T, W: Words, A: Allocator + Clone> Store<T, W, A> {
     ///
     /// # Errors
     /// The core comes back, and nothing changes. In this order:
-    /// - `UsedNumber` if an entry is known by an id of that number that was moved away from there, or to there.
+    /// - `UsedNumber` if a moved entry is known by an id of that number with a stamp that the core may give anew.
     /// - `StillLinked` if an entry is linked in the core.
     /// - `UsedNumber` if a core of the store has its number, or it is the last one of all.
     /// - `NoMemory` if memory is refused.
@@ -409,14 +409,15 @@ impl<T, W: Words, A: Allocator + Clone> Store<T, W, A> {
         &mut self,
         core: DelayCore<T, W, A>,
     ) -> Result<(), (TakeError, DelayCore<T, W, A>)>
-        // It comes in as cores do, under a number that no note has, and the notes stay.
+        // It comes in as cores do, where it gives no id anew that a note has, and the notes stay.
         ensures takes { OnOk result (TakesIn self.old.cores core self.new.cores) }
-        ensures free { OnOk result (HasNoNumber self.old.notes.places core.shard
-            × HasNoNumber self.old.notes.users core.shard) }
+        ensures past { OnOk result (ArePastIn self.old.notes.places core
+            × ArePastIn self.old.notes.users core) }
         ensures back { IfErr result (λ e. (e.1 ≡ core) × (self.new.cores ≡ self.old.cores)) }
         ensures notes { self.new.notes ≡ self.old.notes }
     {
-        if self.notes.has_number(core.shard()) {
+        core.law();
+        if !self.notes.are_past_in(&core) {
             return Err((TakeError::UsedNumber, core));
         }
         let answer = self.cores.take_in(core);

@@ -1,4 +1,4 @@
-use Rattle.std.proofs.Common.{inl, inr, ◌≡◌, ◌≤◌, ◌<◌, ◌+◌, ℕ, None, length, ap, refl, ◌∙◌, arith}
+use Rattle.std.proofs.Common.{inl, inr, ◌≡◌, ◌+◌, None, length, arith}
 use Rattle.dq_core.specs.Readers.{NoneBetween}
 use Rattle.dq_core.specs.Slots.{row_at}
 use Rattle.dq_core.specs.Core.{machine}

@@ -1,4 +1,4 @@
-use Rattle.std.proofs.Common.{◌≤◌, ℕ}
+use Rattle.std.proofs.Common.{◌≤◌}
 use Rattle.dq_core.specs.Readers.{NoneBetween}
 use Rattle.dq_core.proofs.queue.DelayCore.entry_from.Given as goal
 
