@@ -1,5 +1,5 @@
 -- What the readers of a queue tell.
-use Rattle.std.specs.Prelude.{◌≡◌, ℕ, ◌+◌, Option, Some, None}
+use Rattle.std.specs.Prelude.{◌≡◌, ℕ, ◌+◌, ◌<◌, ◌≤◌, Option, Some, None}
 use Rattle.std.specs.List.{count_by}
 use Rattle.dq_wheel.specs.State.{filed_at, IsLeast}
 use Rattle.dq_wheel.specs.Lawful.{IsLawfulWheel}
@@ -30,6 +30,21 @@ TellsLeast c None = NoneLinked (machine c)
 TellsLeast c (Some k) =
     IsLinked c k.entry × ((table_at (machine c) k.entry.index).stamp ≡ k.stamp)
     × IsLeast c.wheel.filing.filed k.entry.index
+
+-- the birth of an id isn't after its slot's stamp: no new entry gets that id
+abbrev pub IsPast : {T W : Type 0} → Core T W → EntryId → Type 0
+IsPast c id = id.born ≤ (table_at (machine c) id.index).stamp
+
+-- no entry is linked at the slots from one on, before another
+abbrev pub NoneBetween : {T W : Type 0} → Core T W → ℕ → ℕ → Type 0
+NoneBetween c from end =
+    (i : ℕ) → from ≤ i → i < end → (table_at (machine c) i).entry ≡ None
+
+-- the linked entry of the first of those slots that has one, none exactly where none has
+abbrev pub TellsFirst : {T W : Type 0} → Core T W → ℕ → ℕ → Option EntryId → Type 0
+TellsFirst c from end None = NoneBetween c from end
+TellsFirst c from end (Some id) =
+    IsLinked c id × (from ≤ id.index) × (id.index < end) × NoneBetween c from id.index
 
 -- no live entry has a deadline before the tick by which that entry is filed
 abbrev pub NoneLiveBeforeFiled : {T W : Type 0} → Core T W → Key → Type 0

@@ -1,8 +1,10 @@
 //! What a queue tells of itself and of its entries.
 
-ghost use Rattle.std.specs.Prelude.{◌≡◌, ℕ};
+ghost use Rattle.std.specs.Prelude.{◌≡◌, ℕ, ◌+◌, true, false};
 ghost use Rattle.std.specs.List.{count_by};
 ghost use Rattle.dq_core.specs.Slots.{is_worn};
+ghost use Rattle.dq_core.specs.Core.{machine};
+ghost use Rattle.dq_core.specs.Machine.{table_at};
 
 use crate::outcomes::Tally;
 use crate::queue::DelayCore;
@@ -12,7 +14,7 @@ use dq_wheel::Place;
 use std::alloc::Allocator;
 
 impl<T, W: Words, A: Allocator> DelayCore<T, W, A> {
-    ghost use Rattle.dq_core.specs.Readers.{IsTally, TellsLeast, TellsPlace, TellsFiled};
+    ghost use Rattle.dq_core.specs.Readers.{IsTally, IsPast, TellsFirst, TellsLeast, TellsPlace, TellsFiled};
 
     /// Returns the number of worn slots, which hold no entry and have no stamp left.
     pub fn worn(&self) -> usize
@@ -65,6 +67,44 @@ impl<T, W: Words, A: Allocator> DelayCore<T, W, A> {
         let born = self.slots.born(index).unwrap();
         let entry = EntryId::new(self.shard, index as u32, born);
         Some(Key::new(entry, self.slots.stamp(index)))
+    }
+
+    /// Returns the entry that stands first in `count` slots from `from` on, live or cancelled. It returns none if none
+    /// stands there.
+    pub fn entry_from(&self, from: usize, count: usize) -> Option<EntryId>
+        ensures { TellsFirst self.now from (from + count) result }
+    {
+        let capacity = self.slots.capacity();
+        let first = from.min(capacity);
+        let end = first + count.min(capacity - first);
+        for index in first..end {
+            if let Some(born) = self.slots.born(index) {
+                return Some(EntryId::new(self.shard, index as u32, born));
+            }
+        }
+        None
+    }
+
+    // The stamp of a slot, 0 past the last one.
+    fn stamp_at(&self, index: usize) -> u32
+        ensures { result ≡ (table_at (machine self.now) index).stamp }
+    {
+        if index >= self.slots.capacity() {
+            return 0;
+        }
+        self.slots.stamp(index)
+    }
+
+    /// Whether an entry of that name was here, or its stamp has been given: no insert gives that name. The number of the
+    /// queue isn't asked.
+    pub fn is_past(&self, entry: &EntryId) -> bool
+        ensures yes { result ≡ true → IsPast self.now entry.now }
+        ensures no { result ≡ false → ¬ IsPast self.now entry.now }
+    {
+        if entry.born() > self.stamp_at(entry.index() as usize) {
+            return false;
+        }
+        true
     }
 
     /// Returns where an entry stands in the wheel. It returns none if the entry isn't in the queue.

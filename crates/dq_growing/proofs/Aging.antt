@@ -9,9 +9,8 @@ use Rattle.dq_core.specs.declared.outcomes.Piece.{Piece}
 use Rattle.dq_core.specs.declared.outcomes.Turn.{Turn}
 use Rattle.dq_core.specs.Pieces.{PollsSome}
 use Rattle.dq_core.specs.Calls.{Inserts, Removes, Resets, TellsDeadline, Polls}
-use Rattle.dq_core.specs.Sweeps.{Reaps}
+use Rattle.dq_core.specs.Sweeps.{Reaps, SweepsSome}
 use Rattle.dq_core.specs.declared.errors.ReapError.{ReapError}
-use Rattle.dq_core.specs.declared.errors.ReapError.TheVariants.{Missing as NotThere}
 use Rattle.dq_core.specs.Core.{Core, machine}
 use Rattle.dq_core.specs.Machine.{Entry}
 use Rattle.dq_core.specs.RunsOfCalls.{GoesByRun, given, given_by_piece}
@@ -156,3 +155,6 @@ module _ {T W : Type 0} where
 
   pub reap_run : (shared : Bool) (b c : Core T W) (id : EntryId) (r : Result (Unit {0}) ReapError) → Reaps shared b id r c → (ds : List ℕ) × GoesByRun b ds c
   reap_run shared b c id r did = ([], (calls_are_runs T W shared b c).reap id r did)
+
+  pub sweep_run : (shared : Bool) (b c : Core T W) (from upto n : ℕ) → SweepsSome shared b from upto n c → (ds : List ℕ) × GoesByRun b ds c
+  sweep_run shared b c from upto n did = ([], (calls_are_runs T W shared b c).sweep_some from upto n did)

@@ -1,5 +1,5 @@
 -- Keys of a list of pairs, one after the other.
-use Rattle.std.proofs.Common.{◌≡◌, ◌≢◌, ◌⊎◌, ℕ, Bool, true, false, ◌&&◌, nat_eq, List, [], ◌∷◌, Some, refl, sym, ap, ◌∙◌, subst, inl, inr, ⊎_elim}
+use Rattle.std.proofs.Common.{◌≡◌, ◌⊎◌, ℕ, Bool, true, false, ◌&&◌, nat_eq, List, [], ◌∷◌, Some, refl, sym, subst, inl, inr, ⊎_elim}
 use Rattle.std.proofs.lemmas.Bool.{eqb-true}
 use Rattle.std.specs.Map.{lookup, keys_of}
 use Rattle.dq_ticks.specs.declared.keys.EntryId.{EntryId}
@@ -38,12 +38,12 @@ found_among (x ∷ es) k o e =
       | inr other ↦ inr (found_among es k o (rw other at e))
     ]
 
-pub one_less : (number : ℕ) (k x : ℕ × ℕ × ℕ) (xs ys : List (ℕ × ℕ × ℕ)) → ys ≡ x ∷ xs → x.0 ≢ number → Among k ys ⊎ (k.0 ≢ number) → Among k xs ⊎ (k.0 ≢ number)
-one_less number k x xs ys is other (inr far) = inr far
-one_less number k x xs ys is other (inl among) =
+pub one_less : (Q : ℕ × ℕ × ℕ → Type 0) (k x : ℕ × ℕ × ℕ) (xs ys : List (ℕ × ℕ × ℕ)) → ys ≡ x ∷ xs → Q x → Among k ys ⊎ Q k → Among k xs ⊎ Q k
+one_less Q k x xs ys is here (inr far) = inr far
+one_less Q k x xs ys is here (inl among) =
     let P : List (ℕ × ℕ × ℕ) → Type 0 = λ l. Among k l in
-    ⊎_elim (λ (e : k ≡ x). inr (λ z. other (sym (ap (λ m. m.0) e) ∙ z))) (λ (e : Among k xs). inl e) (subst P is among)
+    ⊎_elim (λ (e : k ≡ x). inr (subst Q (sym e) here)) (λ (e : Among k xs). inl e) (subst P is among)
 
-pub none_left : (number : ℕ) (k : ℕ × ℕ × ℕ) (ys : List (ℕ × ℕ × ℕ)) → ys ≡ [] → Among k ys ⊎ (k.0 ≢ number) → k.0 ≢ number
-none_left number k ys is (inr far) = far
-none_left number k ys is (inl among) = let P : List (ℕ × ℕ × ℕ) → Type 0 = λ l. Among k l in absurd (subst P is among)
+pub none_left : (Q : ℕ × ℕ × ℕ → Type 0) (k : ℕ × ℕ × ℕ) (ys : List (ℕ × ℕ × ℕ)) → ys ≡ [] → Among k ys ⊎ Q k → Q k
+none_left Q k ys is (inr far) = far
+none_left Q k ys is (inl among) = let P : List (ℕ × ℕ × ℕ) → Type 0 = λ l. Among k l in absurd (subst P is among)

@@ -1,29 +1,42 @@
 -- A store under its users' ids.
-use Rattle.std.proofs.Common.{◌≡◌, ◌≢◌, ◌⊎◌, ℕ, ◌<◌, ◌≤◌, ◌+◌, Bool, List, length, remove, IfSome, IfNone, IfErr, OnOk, Option, Some, None, Result, Ok, Err, IfOk, OnErr, refl, sym, ap, ◌∙◌, subst, inl, inr, ⊎_elim}
+use Rattle.std.proofs.Common.{◌≡◌, ◌≢◌, ◌⊎◌, ℕ, ◌<◌, ◌≤◌, ◌+◌, Bool, true, false, List, length, remove, IfSome, IfNone, IfErr, OnOk, is_some, Option, MatchOption, Some, None, Result, Ok, Err, IfOk, OnErr, refl, sym, ap, ◌∙◌, subst, inl, inr, ⊎_elim}
 use Rattle.dq_ticks.specs.declared.keys.Key.{Key}
 use Rattle.dq_ticks.specs.declared.keys.EntryId.{EntryId}
 use Rattle.dq_core.specs.declared.errors.CoreError.{CoreError}
 use Rattle.dq_core.specs.declared.errors.CoreError.TheVariants.{Missing}
 use Rattle.dq_core.specs.declared.outcomes.Removed.{Removed}
-use Rattle.dq_core.specs.Calls.{Removes, Resets, base_for}
-use Rattle.dq_core.specs.Core.{Core}
-use Rattle.dq_core.specs.Machine.{Entry}
-use Rattle.dq_growing.specs.Cores.{CoreRow, AreCores, IsCoreAt, OnCoreOr, OnCoreAt, InsertsIn, InsertsBeside, closed_error, missing_error}
-use Rattle.dq_growing.specs.Stands.{IsPastIn, IsAheadIn, Ages, HasEntry, SameStand, OneLeaves, OneComes}
+use Rattle.dq_core.specs.declared.outcomes.Turn.TheVariants.{Out as CameOut, Waiting, Idle}
+use Rattle.dq_core.specs.declared.outcomes.Piece.{Piece}
+use Rattle.dq_core.specs.declared.outcomes.Piece.TheVariants.{Answer, Working}
+use Rattle.dq_core.specs.Calls.{IsMissing, Removes, Resets, base_for}
+use Rattle.dq_core.specs.Core.{Core, IsLawfulCore, machine, entry_of, due_by}
+use Rattle.dq_core.specs.Readers.{TellsLeast, TellsFirst}
+use Rattle.dq_core.specs.Words.{word_at}
+use Rattle.dq_core.specs.AtTheCall.{HoldsValue}
+use Rattle.dq_core.proofs.Ways.{table_row_is}
+use Rattle.dq_core.specs.Machine.{Entry, table_at}
+use Rattle.dq_growing.specs.Cores.{CoreRow, AreCores, IsCoreAt, HasAt, HasNo, OnCoreOr, OnCoreAt, InsertsIn, InsertsBeside, closed_error, missing_error}
+use Rattle.dq_growing.specs.Stands.{IsThere, IsPastAt, IsPastIn, IsAheadIn, Ages, HasEntry, SameStand, OneLeaves, OneComes}
 use Rattle.dq_growing.specs.Moving.{IfTo, IfCameOut, GoesOnIn}
 use Rattle.dq_growing.specs.declared.moving.Moved.{Moved}
 use Rattle.dq_growing.specs.declared.moving.Moved.TheVariants.{To, Out}
+use Rattle.dq_growing.specs.Polls.{TakesAsideIn}
 use Rattle.dq_growing.specs.Notes.{Book, AreNotes, SameNotes, Forgets, IsNoted, with_id, or_own, user_at, place_by, meant_place}
-use Rattle.dq_growing.specs.Store.{answer_as, NotesAnswered, AfterReset, ResetsFor, GoesOnFor, StoreState, IsStore, StandsFor, KeysAreApart, RemovesFor, ComesFor, removed_as}
+use Rattle.dq_growing.specs.Store.{entry_told, TellsFirstIn, TellsFrom, HasFor, NoneStandsFor, NotesAfter, answer_as, NotesAnswered, AfterReset, ResetsFor, GoesOnFor, StoreState, IsStore, StandsFor, KeysAreApart, RemovesFor, ComesFor, removed_as}
 use Rattle.dq_growing.specs.declared.cores.TakeError.{TakeError}
-use Rattle.dq_growing.specs.Notes.{HasNoNumber}
+use Rattle.dq_growing.specs.Notes.{ArePastIn}
+use Rattle.dq_core.specs.AtTheCall.{linked_in}
+use Rattle.dq_core.specs.Slots.{row_at}
+use Rattle.dq_core.specs.declared.slots.Held.{Held}
+use Rattle.dq_ticks.specs.declared.words.Parts.{Parts}
+use Rattle.dq_core.proofs.Renewing.{none_held_at}
 use Rattle.dq_growing.specs.Cores.{GivesDrained, NoneDrained, TakesIn, TakeRefused, opened_without}
-use Rattle.dq_growing.proofs.Rows.{removed_at, at_snoc}
+use Rattle.dq_growing.proofs.Rows.{one_at, removed_at, at_snoc}
 use Rattle.dq_growing.proofs.Leasts.{some_not_none}
 use Rattle.dq_growing.proofs.Pairing.{one_or_two}
 use Rattle.dq_growing.proofs.Standing.{some_is, comes_there, comes_in, inserted_ahead}
 use Rattle.dq_growing.proofs.Moves.{other_key, ok_not_err, found_refused, taken_out}
-use Rattle.dq_growing.proofs.Aging.{resets_age, ages_on, inserts_number, inserts_run}
+use Rattle.dq_growing.proofs.Aging.{AgesAt, ages_in, all_age, resets_age, ages_on, inserts_number, inserts_run}
 
 -- what is noted of a place, and its user's id
 by_note : (p : EntryId) (o : Option EntryId) → ((o ≡ None) × (or_own p o ≡ p)) ⊎ ((w : EntryId) × (o ≡ Some w) × (or_own p o ≡ w))
@@ -43,6 +56,11 @@ placed n u p None (Some w) law at of is = absurd (some_not_none p (sym is))
 
 pub place_is : (n : Book) (u p : EntryId) → AreNotes n → meant_place n u ≡ Some p → user_at n p ≡ u
 place_is n u p law is = placed n u p (with_id n.places u) (with_id n.users u) law refl refl is
+
+-- a row that holds nothing has no entry
+empty_row : {T : Type 0} (o : Option (Held T)) (w : Parts) (e : Entry T) → is_some o ≡ false → entry_of o w ≡ Some e → ⊥
+empty_row None w e none is = some_not_none e (sym is)
+empty_row (Some h) w e none is = absurd (cc)
 
 -- what a note that is taken away leaves
 forgets_fewer : (n m : Book) (p : EntryId) (o : Option EntryId) → Forgets n p o m → (u q : EntryId) → with_id m.places u ≡ Some q → with_id n.places u ≡ Some q
@@ -99,8 +117,19 @@ module _ {T W : Type 0} where
   pub law_same_notes : (s : StoreState T W) (cores : CoreRow T W) → IsStore s → Ages s.cores cores → IsStore (stored cores s.notes)
   law_same_notes s cores law ages = law_kept s (stored cores s.notes) law ages law.noted (λ u p at. at)
 
+  pub law_stays : (s t : StoreState T W) → IsStore s → Ages s.cores t.cores → t.notes ≡ s.notes → IsStore t
+  law_stays s t law ages same = let P : Book → Type 0 = λ n. IsStore (stored t.cores n) in subst P (sym same) (law_same_notes s t.cores law ages)
+
   pub law_forgets : (s t : StoreState T W) (p : EntryId) (o : Option EntryId) → IsStore s → Ages s.cores t.cores → AreNotes t.notes → Forgets s.notes p o t.notes → IsStore t
   law_forgets s t p o law ages noted f = law_kept s t law ages noted (forgets_fewer s.notes t.notes p o f)
+
+  -- after a poll what came out leaves no note
+  pub law_after : (s t : StoreState T W) (made : Result (Piece T) CoreError) → IsStore s → Ages s.cores t.cores → AreNotes t.notes → NotesAfter s.notes made t.notes → IsStore t
+  law_after s t (Ok (Answer (CameOut x))) law ages noted after = law_forgets s t x.key.entry after.0 law ages noted after.1
+  law_after s t (Ok (Answer (Waiting next))) law ages noted after = law_stays s t law ages after
+  law_after s t (Ok (Answer Idle)) law ages noted after = law_stays s t law ages after
+  law_after s t (Ok Working) law ages noted after = law_stays s t law ages after
+  law_after s t (Err e) law ages noted after = law_stays s t law ages after
 
   -- what leaves its place leaves under its user's id
   pub leaves_for : (s t : StoreState T W) (u p : EntryId) (o : Option EntryId) (v : T) → IsStore s → meant_place s.notes u ≡ Some p
@@ -405,33 +434,42 @@ module _ {T W : Type 0} where
       let P : CoreRow T W → Type 0 = λ t. Ages s.cores t in
       law_same_notes s cores law (subst P (sym gives.rest) (same_or_fewer s.cores (record s.cores { cores = remove s.cores.cores i; opened = opened_without s.cores.opened i }) from))
 
-  -- a core comes in whose number no note has
-  pub law_takes : (s : StoreState T W) (cores : CoreRow T W) (c : Core T W) → IsStore s → TakesIn s.cores c cores → HasNoNumber s.notes.places c.shard → HasNoNumber s.notes.users c.shard
+  -- nothing stands in a core in which nothing is linked
+  unlinked : (c : Core T W) → IsLawfulCore c → linked_in c ≡ 0 → (u : EntryId) (e : Entry T) → IsThere c u e → ⊥
+  unlinked c lawful none u e x =
+      let w = word_at c.known u.index in
+      let row = ap (λ r. r.entry) (table_row_is c.slots.rows c.known lawful.as_known u.index) in
+      empty_row (row_at c.slots.rows u.index).held w e (none_held_at c.slots.rows none u.index) (sym row ∙ x.linked)
+
+  -- a core comes in that gives no id anew which a note has
+  pub law_takes : (s : StoreState T W) (cores : CoreRow T W) (c : Core T W) → IsStore s → IsLawfulCore c → TakesIn s.cores c cores → ArePastIn s.notes.places c → ArePastIn s.notes.users c
       → IsStore (stored cores s.notes)
-  law_takes s cores c law takes no_user no_place =
+  law_takes s cores c law lawful takes users_past places_past =
       let old = s.cores.cores in
       let L : List (Core T W) → Type 0 = λ l. (j : ℕ) (d : Core T W) → IsCoreAt l j d → IsCoreAt old j d ⊎ (c ≡ d) in
       let from : L cores.cores = subst L (sym takes.cores) (λ j d x. ⊎_elim (λ (y : IsCoreAt old j d). inl y) (λ (y : (j ≡ length old) × (c ≡ d)). inr y.1) (at_snoc old c d j x)) in
-      let N : Core T W → ℕ = λ k. k.shard in
-      let past : (id : EntryId) → id.shard ≢ c.shard → IsPastIn s.cores id → IsPastIn cores id = λ id other was j d x number.
-      ⊎_elim (λ (y : IsCoreAt old j d). was j d y number) (λ (y : c ≡ d). absurd (other (sym number ∙ sym (ap N y)))) (from j d x)
+      let past : (id : EntryId) → (id.shard ≡ c.shard → IsPastAt c id) → IsPastIn s.cores id → IsPastIn cores id = λ id own was j d x number.
+      let P : Core T W → Type 0 = λ k. k.shard ≡ id.shard → IsPastAt k id in
+      let here : P c = λ n. own (sym n) in
+      ⊎_elim (λ (y : IsCoreAt old j d). was j d y number) (λ (y : c ≡ d). (subst P y here) number) (from j d x)
       in
       record {
         noted = law.noted;
         away = λ u p at e z.
+            let N : Core T W → Type 0 = λ k. (v : EntryId) (f : Entry T) → IsThere k v f → ⊥ in
             ⊎_elim
             (λ (y : IsCoreAt old z.0 z.1). law.away u p at e (z.0, z.1, y, z.3))
-            (λ (y : c ≡ z.1). no_user u p at (z.3.shard ∙ sym (ap N y)))
+            (λ (y : c ≡ z.1). (subst N y (unlinked c lawful takes.may.0)) u e z.3)
             (from z.0 z.1 z.2);
-        user_past = λ u p at. past u (no_user u p at) (law.user_past u p at);
-        place_past = λ u p at. past p (no_place p u ((law.noted u p).0 at)) (law.place_past u p at);
+        user_past = λ u p at. past u (users_past u p at) (law.user_past u p at);
+        place_past = λ u p at. past p (places_past p u ((law.noted u p).0 at)) (law.place_past u p at);
       }
 
-  pub law_answers : (s : StoreState T W) (cores : CoreRow T W) (c : Core T W) (r : Result (Unit {0}) (TakeError × Core T W)) → IsStore s
+  pub law_answers : (s : StoreState T W) (cores : CoreRow T W) (c : Core T W) (r : Result (Unit {0}) (TakeError × Core T W)) → IsStore s → IsLawfulCore c
       → OnOk r (TakesIn s.cores c cores) → IfErr r (λ e. TakeRefused s.cores c e.0 × (e.1 ≡ c) × (cores ≡ s.cores))
-      → HasNoNumber s.notes.places c.shard → HasNoNumber s.notes.users c.shard → IsStore (stored cores s.notes)
-  law_answers s cores c (Ok x) law takes refused no_user no_place = law_takes s cores c law takes no_user no_place
-  law_answers s cores c (Err e) law takes refused no_user no_place = let P : CoreRow T W → Type 0 = λ t. IsStore (stored t s.notes) in subst P (sym refused.2) law
+      → ArePastIn s.notes.places c → ArePastIn s.notes.users c → IsStore (stored cores s.notes)
+  law_answers s cores c (Ok x) law lawful takes refused users_past places_past = law_takes s cores c law lawful takes users_past places_past
+  law_answers s cores c (Err e) law lawful takes refused users_past places_past = let P : CoreRow T W → Type 0 = λ t. IsStore (stored t s.notes) in subst P (sym refused.2) law
 
   pub law_given : (s : StoreState T W) (cores : CoreRow T W) (o : Option (Core T W)) → IsStore s → IfSome o (λ c. GivesDrained s.cores c cores)
       → IfNone o (NoneDrained s.cores × (cores ≡ s.cores)) → IsStore (stored cores s.notes)
@@ -441,3 +479,111 @@ module _ {T W : Type 0} where
 pub on_ok : {X E P : Type 0} (r : Result X E) → P → OnOk r P
 on_ok {X} {E} {P} (Ok x) p = p
 on_ok {X} {E} {P} (Err e) p = tt {0}
+
+module _ {T W : Type 0} where
+  -- another core is open
+  pub opened_ages : (s t : CoreRow T W) (place : ℕ) → t ≡ record s { opened = place } → Ages s t
+  opened_ages s t place is = let P : CoreRow T W → Type 0 = λ k. Ages s k in subst P (sym is) (all_age s)
+
+  pub law_same_cores : (s : StoreState T W) (cores : CoreRow T W) → IsStore s → cores ≡ s.cores → IsStore (stored cores s.notes)
+  law_same_cores s cores law same = let P : CoreRow T W → Type 0 = λ t. IsStore (stored t s.notes) in subst P (sym same) law
+
+  pub law_opens : (s : StoreState T W) (cores : CoreRow T W) (o : Bool) (place : ℕ) → IsStore s
+      → (o ≡ true → (place < length s.cores.cores) × (cores ≡ record s.cores { opened = place }))
+      → (o ≡ false → (length s.cores.cores ≤ place) × (cores ≡ s.cores)) → IsStore (stored cores s.notes)
+  law_opens s cores true place law opens refused = law_same_notes s cores law (opened_ages s.cores cores place (opens refl).1)
+  law_opens s cores false place law opens refused = law_same_cores s cores law (refused refl).1
+
+  -- a value that was set aside is taken out
+  aside_ages : (s t : CoreRow T W) (o : Option T) → AreCores s → TakesAsideIn s o t → Ages s t
+  aside_ages s t None has did = let P : CoreRow T W → Type 0 = λ k. Ages s k in subst P (sym did.1) (all_age s)
+  aside_ages s t (Some v) has did =
+      let on = did.1 in
+      let b = on.before in
+      let c = on.after in
+      let same : c ≡ record b { aside = c.aside } = on.did.1 in
+      let number : c.shard ≡ b.shard = ap (λ k. k.shard) same in
+      let P : Core T W → Type 0 = λ k. AgesAt b k in
+      let ages : AgesAt b c = subst P (sym same) (λ id past. (past, λ e x. (e, record { shard = x.shard; linked = x.linked; born = x.born }, refl))) in
+      let Q : CoreRow T W → Type 0 = λ k. Ages s k in
+      subst Q (sym on.rest) (ages_in s did.0 b c has on.at number ages)
+
+  pub law_takes_aside : (s : StoreState T W) (cores : CoreRow T W) (o : Option T) → IsStore s → AreCores s.cores → TakesAsideIn s.cores o cores → IsStore (stored cores s.notes)
+  law_takes_aside s cores o law has did = law_same_notes s cores law (aside_ages s.cores cores o has did)
+
+-- a user's id under which an entry stands at a place means that place
+module _ {T W : Type 0} (s : StoreState T W) (law : IsStore s) (u q : EntryId) (e : Entry T) (has : HasEntry s.cores q e) where
+  meant_own : (a b : Option EntryId) → a ≡ with_id s.notes.places u → b ≡ None → q ≡ u → place_by u a b ≡ Some q
+  meant_own (Some p) b at of same = let P : EntryId → Type 0 = λ k. HasEntry s.cores k e in absurd (law.away u p (sym at) e (subst P same has))
+  meant_own None None at of same = ap (λ k. let o : Option EntryId = Some k in o) (sym same)
+  meant_own None (Some w) at of same = absurd (some_not_none w of)
+
+  meant_noted : (a b : Option EntryId) → a ≡ Some q → place_by u a b ≡ Some q
+  meant_noted (Some p) b at = at
+  meant_noted None b at = absurd (some_not_none q (sym at))
+
+  pub stands_meant : user_at s.notes q ≡ u → meant_place s.notes u ≡ Some q
+  stands_meant named =
+      ⊎_elim
+      (λ (x : (with_id s.notes.users q ≡ None) × (user_at s.notes q ≡ q)).
+      let same : q ≡ u = sym x.1 ∙ named in
+      let Q : EntryId → Type 0 = λ k. with_id s.notes.users k ≡ None in
+      meant_own (with_id s.notes.places u) (with_id s.notes.users u) refl (subst Q same x.0) same)
+      (λ (x : (w : EntryId) × (with_id s.notes.users q ≡ Some w) × (user_at s.notes q ≡ w)).
+      let P : EntryId → Type 0 = λ k. with_id s.notes.places k ≡ Some q in
+      meant_noted (with_id s.notes.places u) (with_id s.notes.users u) (subst P (sym x.2 ∙ named) ((law.noted x.0 q).1 x.1)))
+      (by_note q (with_id s.notes.users q))
+
+module _ {T W : Type 0} (s : StoreState T W) (law : IsStore s) (u : EntryId) where
+  pub none_meant : meant_place s.notes u ≡ None → NoneStandsFor s u
+  none_meant none e z = some_not_none z.0 (sym (stands_meant s law u z.0 e z.2 z.1) ∙ none)
+
+  -- an entry under a user's id is in the core of the place that is meant
+  pub stands_there : (p : EntryId) → meant_place s.notes u ≡ Some p → (e : Entry T) → StandsFor s u e → HasEntry s.cores p e
+  stands_there p at e z =
+      let same : z.0 ≡ p = some_is z.0 p (sym (stands_meant s law u z.0 e z.2 z.1) ∙ at) in
+      let P : EntryId → Type 0 = λ k. HasEntry s.cores k e in
+      subst P same z.2
+
+  pub none_number : (p : EntryId) → meant_place s.notes u ≡ Some p → HasNo s.cores.cores p.shard → NoneStandsFor s u
+  none_number p at no_core e z =
+      let there = stands_there p at e z in
+      no_core there.0 there.1 there.2 (sym there.3.shard)
+
+  -- what its core tells of it
+  pub none_found : AreCores s.cores → (p : EntryId) (i : ℕ) (c : Core T W) → meant_place s.notes u ≡ Some p → HasAt s.cores.cores p.shard i c → IsMissing c p → NoneStandsFor s u
+  none_found cores p i c at here missing e z =
+      let there = stands_there p at e z in
+      let place : there.0 ≡ i = cores.apart there.0 i there.1 c there.2 here.0 (sym there.3.shard ∙ sym here.1) in
+      let A : ℕ → Type 0 = λ k. IsCoreAt s.cores.cores k there.1 in
+      let same : there.1 ≡ c = one_at s.cores.cores i there.1 c (subst A place there.2) here.0 in
+      let P : Core T W → Type 0 = λ k. IsThere k p e in
+      let x = subst P same there.3 in
+      missing x.shard e x.linked x.born
+
+  pub value_found : (p : EntryId) (i : ℕ) (c : Core T W) (v : T) → IsLawfulCore c → meant_place s.notes u ≡ Some p → HasAt s.cores.cores p.shard i c → HoldsValue c p v → HasFor s u v
+  value_found p i c v lawful at here holds =
+      let w = word_at c.known p.index in
+      let e : Entry T = record { born = p.born; value = v; due = due_by w.mark w.field } in
+      let linked : (table_at (machine c) p.index).entry ≡ Some e =
+      ap (λ r. r.entry) (table_row_is c.slots.rows c.known lawful.as_known p.index) ∙ ap (λ o. entry_of o w) holds.1 in
+      (e, (p, place_is s.notes u p law.noted at, (i, c, here.0, record { shard = holds.0; linked = linked; born = refl })), refl)
+
+  pub found_by : AreCores s.cores → (p : EntryId) (i : ℕ) (c : Core T W) → meant_place s.notes u ≡ Some p → HasAt s.cores.cores p.shard i c → IsLawfulCore c → {X : Type 0} → (v : X → T) (o : Option X)
+      → MatchOption o (IsMissing c p) (λ x. HoldsValue c p (v x)) → MatchOption o (NoneStandsFor s u) (λ x. HasFor s u (v x))
+  found_by cores p i c at here lawful {X} v None missing = none_found cores p i c at here missing
+  found_by cores p i c at here lawful {X} v (Some x) holds = value_found p i c (v x) lawful at here holds
+
+-- what a core tells of its first entries
+module _ {T W : Type 0} (s : StoreState T W) (place : ℕ) (c : Core T W) (at : IsCoreAt s.cores.cores place c) where
+  pub first_none : (o : Option Key) → TellsLeast c o → o ≡ None → TellsFirstIn s place None
+  first_none o tells is = inr (c, at, (o, tells, sym (ap entry_told is)))
+
+  pub first_some : (o : Option Key) (k : Key) (u : EntryId) → TellsLeast c o → o ≡ Some k → u ≡ user_at s.notes k.entry → TellsFirstIn s place (Some u)
+  first_some o k u tells is named = (c, k.entry, at, (o, tells, sym (ap entry_told is)), named)
+
+  pub from_none : (from end : ℕ) (o : Option EntryId) → TellsFirst c from end o → o ≡ None → TellsFrom s place from end None
+  from_none from end o tells is = let P : Option EntryId → Type 0 = λ x. TellsFirst c from end x in inr (c, at, subst P is tells)
+
+  pub from_some : (from end : ℕ) (o : Option EntryId) (p u : EntryId) → TellsFirst c from end o → o ≡ Some p → u ≡ user_at s.notes p → TellsFrom s place from end (Some u)
+  from_some from end o p u tells is named = let P : Option EntryId → Type 0 = λ x. TellsFirst c from end x in (c, p, at, subst P is tells, named)

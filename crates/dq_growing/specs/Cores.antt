@@ -14,6 +14,8 @@ use Rattle.dq_growing.specs.declared.cores.TakeError.TheVariants.{StillLinked, U
 use Rattle.dq_core.specs.Asides.{aside_at, with_aside}
 use Rattle.dq_core.specs.Folds.{IsFoldable}
 use Rattle.dq_core.specs.AtTheCall.{linked_in, HoldsValue}
+use Rattle.dq_core.specs.Sweeps.{SweepsSome}
+use Rattle.dq_core.specs.declared.outcomes.Swept.{Swept}
 use Rattle.dq_core.specs.Calls.{IsMissing, Inserts}
 
 -- a store: its cores, the place of the one that takes inserts, a number above each that a core had,
@@ -123,6 +125,11 @@ module _ {T W : Type 0} where
   -- the slot to go on from, none behind the core's last
   abbrev pub next_slot : Core T W → ℕ → Option ℕ
   next_slot c end = if nat_lt end (length c.slots.rows) then Some end else None
+
+  -- a sweep of some slots of a core, and where to go on
+  abbrev pub SweepsFrom : Bool → ℕ → ℕ → Swept → Core T W → Core T W → Type 0
+  SweepsFrom shared from end swept b c =
+      SweepsSome shared b from end swept.reaped c × (swept.next ≡ next_slot b end)
 
   -- no core takes inserts
   abbrev pub IsClosed : CoreRow T W → Type 0

@@ -1,7 +1,9 @@
 -- Where moved entries are, by the ids that their users have.
-use Rattle.std.specs.Prelude.{◌≡◌, ◌≢◌, ℕ, ◌<◌, Bool, ◌&&◌, nat_eq, List, Option, Some, None}
+use Rattle.std.specs.Prelude.{◌≡◌, ◌≢◌, ℕ, ◌<◌, ◌≤◌, Bool, ◌&&◌, nat_eq, List, Option, Some, None}
 use Rattle.std.specs.Map.{lookup}
 use Rattle.dq_ticks.specs.declared.keys.EntryId.{EntryId}
+use Rattle.dq_core.specs.Core.{Core, machine}
+use Rattle.dq_core.specs.Machine.{table_at}
 
 -- the numbers of an id, by which it is found
 abbrev pub numbers_of : EntryId → ℕ × ℕ × ℕ
@@ -30,9 +32,13 @@ abbrev pub TakesPair : Pairs → Option EntryId → Pairs → Type 0
 TakesPair p None q = q ≡ p
 TakesPair p (Some id) q = SetsPair p id None q
 
--- no id with that number has another with it
-abbrev pub HasNoNumber : Pairs → ℕ → Type 0
-HasNoNumber p number = (k o : EntryId) → with_id p k ≡ Some o → k.shard ≢ number
+-- the id of those numbers isn't ahead of its slot's stamp in a core, if it has the core's number
+abbrev pub ArePastBy : {T W : Type 0} → ℕ × ℕ × ℕ → Core T W → Type 0
+ArePastBy k c = k.0 ≡ c.shard → k.2 ≤ (table_at (machine c) k.1).stamp
+
+-- so of each id that has another with it
+abbrev pub ArePastIn : {T W : Type 0} → Pairs → Core T W → Type 0
+ArePastIn p c = (k o : EntryId) → with_id p k ≡ Some o → ArePastBy (numbers_of k) c
 
 -- every id has what it had
 abbrev pub SamePairs : Pairs → Pairs → Type 0

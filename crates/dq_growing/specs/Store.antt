@@ -1,5 +1,5 @@
 -- A store as its users see it: they know an entry by the id that it came in with, wherever it is.
-use Rattle.std.specs.Prelude.{◌≡◌, ◌≢◌, ◌⊎◌, ℕ, Bool, Option, Some, None, Result, Ok, Err}
+use Rattle.std.specs.Prelude.{◌≡◌, ◌≢◌, ◌⊎◌, ◌≤◌, ℕ, length, Bool, Option, Some, None, Result, Ok, Err}
 use Rattle.dq_ticks.specs.declared.keys.Key.{Key}
 use Rattle.dq_ticks.specs.declared.keys.EntryId.{EntryId}
 use Rattle.dq_core.specs.declared.errors.CoreError.{CoreError}
@@ -17,9 +17,11 @@ use Rattle.dq_core.specs.Calls.{Resets, TellsDeadline, FindRefused}
 use Rattle.dq_core.specs.Sweeps.{Reaps}
 use Rattle.dq_core.specs.declared.errors.ReapError.{ReapError}
 use Rattle.dq_core.specs.declared.errors.ReapError.TheVariants.{Missing as NotThere}
+use Rattle.dq_core.specs.Core.{Core}
 use Rattle.dq_core.specs.Machine.{Entry}
-use Rattle.dq_growing.specs.Cores.{CoreRow, OnCoreOr, missing_error}
-use Rattle.dq_growing.specs.Polls.{PollsRow, DoesPiece, PeeksIn}
+use Rattle.dq_core.specs.Readers.{TellsLeast, TellsFirst}
+use Rattle.dq_growing.specs.Cores.{CoreRow, IsCoreAt, OnCoreOr, missing_error}
+use Rattle.dq_growing.specs.Polls.{PollsRow, PeeksIn}
 use Rattle.dq_growing.specs.Stands.{HasEntry, IsPastIn, OneComes, OthersStand}
 use Rattle.dq_growing.specs.Moving.{IsTakenOut, IsBaseIn, Relocates}
 use Rattle.dq_growing.specs.Notes.{Book, AreNotes, SameNotes, LosesNote, IsNoted, with_id, user_at, meant_place}
@@ -78,6 +80,11 @@ abbrev pub peeked_as : Book → Option Key → Option Key
 peeked_as n None = None
 peeked_as n (Some k) = Some (key_as (user_at n k.entry) k)
 
+-- the id of a key, where there is one
+abbrev pub entry_told : Option Key → Option EntryId
+entry_told None = None
+entry_told (Some k) = Some k.entry
+
 -- the key of a moved entry
 abbrev pub key_told : {T : Type 0} → Result (Moved T) CoreError → Result Key CoreError
 key_told (Ok (To k d)) = Ok k
@@ -100,6 +107,14 @@ module _ {T W : Type 0} where
   -- under a user's id a value is in force until that tick
   abbrev pub InForce : StoreState T W → EntryId → ℕ → T → Type 0
   InForce s u d v = (e : Entry T) × StandsFor s u e × (e.value ≡ v) × (e.due ≡ Some d)
+
+  -- no entry stands under a user's id
+  abbrev pub NoneStandsFor : StoreState T W → EntryId → Type 0
+  NoneStandsFor s u = (e : Entry T) → ¬ StandsFor s u e
+
+  -- under a user's id an entry stands with that value, live or cancelled
+  abbrev pub HasFor : StoreState T W → EntryId → T → Type 0
+  HasFor s u v = (e : Entry T) × StandsFor s u e × (e.value ≡ v)
 
   -- no two entries have one user's id
   abbrev pub KeysAreApart : StoreState T W → Type 0
@@ -193,17 +208,36 @@ module _ {T W : Type 0} where
       × AfterReset shared (record s { cores = m }) u when made r t)
       ((r ≡ (Err (missing_error when), None)) × (t ≡ s))
 
-  -- a piece of a poll, as users know what came out
-  abbrev pub PollsSomeFor : Bool → StoreState T W → ℕ → ℕ → Result (Piece T) CoreError →
-      StoreState T W → Type 0
-  PollsSomeFor shared s tick most r t =
-      (made : Result (Piece T) CoreError)
-      × PollsRow (DoesPiece shared most) s.cores tick made t.cores
+  -- a poll, or a piece of one, as users know what came out
+  abbrev pub PollsFor : (ℕ → Piece T → Core T W → Core T W → Type 0) → StoreState T W → ℕ →
+      Result (Piece T) CoreError → StoreState T W → Type 0
+  PollsFor Did s tick r t =
+      (made : Result (Piece T) CoreError) × PollsRow Did s.cores tick made t.cores
       × (r ≡ piece_as s.notes made) × NotesAfter s.notes made t.notes
 
   -- what is scheduled first, as its user knows it
   abbrev pub PeeksFor : StoreState T W → Option Key → Type 0
   PeeksFor s r = (k : Option Key) × PeeksIn s.cores k × (r ≡ peeked_as s.notes k)
+
+  -- what a core tells by its own ids of an entry of it, by the id that the entry's user has; none where
+  -- there is no such core
+  abbrev pub TellsAs : StoreState T W → ℕ → (Core T W → Option EntryId → Type 0) → Option EntryId →
+      Type 0
+  TellsAs s place Tells None =
+      (length s.cores.cores ≤ place)
+      ⊎ ((c : Core T W) × IsCoreAt s.cores.cores place c × Tells c None)
+  TellsAs s place Tells (Some u) =
+      (c : Core T W) × (p : EntryId) × IsCoreAt s.cores.cores place c × Tells c (Some p)
+      × (u ≡ user_at s.notes p)
+
+  -- the entry that a core names as scheduled first
+  abbrev pub TellsFirstIn : StoreState T W → ℕ → Option EntryId → Type 0
+  TellsFirstIn s place r =
+      TellsAs s place (λ c o. (k : Option Key) × TellsLeast c k × (o ≡ entry_told k)) r
+
+  -- the entry of the first of some slots of a core that has one
+  abbrev pub TellsFrom : StoreState T W → ℕ → ℕ → ℕ → Option EntryId → Type 0
+  TellsFrom s place from end r = TellsAs s place (λ c o. TellsFirst c from end o) r
 
   -- the notes after a reap: what was reaped leaves none
   abbrev pub NotesReaped : StoreState T W → Result (Unit {0}) ReapError → StoreState T W →

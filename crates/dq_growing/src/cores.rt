@@ -14,7 +14,7 @@ ghost use Rattle.dq_growing.specs.Cores.{MayComeIn, CoreRow, AreCores, IsCoreAt,
 
 use dq_core::{CoreError, DelayCore, Removed, Words};
 use dq_ticks::{EntryId, Key, LAST_TICK};
-use std::alloc::{Allocator, Global};
+use std::alloc::{AllocError, Allocator, Global};
 use std::marker::Model;
 
 /// Why a core doesn't come into a store.
@@ -213,6 +213,17 @@ impl<T, W: Words, A: Allocator> Cores<T, W, A> {
         None
     }
 
+    // The core of an entry's number.
+    pub(crate) fn of(&self, entry: &EntryId) -> Option<&DelayCore<T, W, A>>
+        ensures found { IfSome result (λ c. (i : ℕ) × HasAt self.now.cores entry.now.shard i c.now) }
+        ensures none { IfNone result (HasNo self.now.cores entry.now.shard) }
+    {
+        let Some(at) = self.place_of(entry.shard()) else {
+            return None;
+        };
+        Some(&self.cores[at])
+    }
+
     /// Takes a live entry out, and returns its value with its key and its current deadline, a tick of one millisecond.
     /// Constant time, and no memory is taken.
     ///
@@ -333,6 +344,16 @@ impl<T, W: Words, A: Allocator> Cores<T, W, A> {
             return Err(TakeError::UsedNumber);
         }
         Ok(())
+    }
+
+    /// Takes memory for `cores` more in the list of cores.
+    ///
+    /// # Errors
+    /// If memory is refused.
+    pub fn reserve(&mut self, cores: usize) -> Result<(), AllocError>
+        ensures { self.new ≡ self.old }
+    {
+        self.cores.reserve(cores)
     }
 
     /// Takes a core in, which is open from then on. The one that was open drains. A later tick that the core noted is

@@ -1,9 +1,10 @@
 //! Where moved entries are, by the ids that their users have.
 
-ghost use Rattle.std.specs.Prelude.{◌≡◌, false, ◌<◌, ◌≤◌, IfOk, OnOk, None, Some};
+ghost use Rattle.std.specs.Prelude.{◌≡◌, true, ◌<◌, ◌≤◌, IfOk, OnOk, None, Some};
 ghost use Rattle.dq_ticks.specs.Keys.{EntryName};
-ghost use Rattle.dq_growing.specs.Notes.{numbers_of, with_id, HasNoNumber, user_at, meant_place, SetsPair, SamePairs, TakesPair, AreNotes, HasNoteRoom, SameNotes, IsNoted, Forgets};
+ghost use Rattle.dq_growing.specs.Notes.{numbers_of, with_id, ArePastBy, ArePastIn, user_at, meant_place, SetsPair, SamePairs, TakesPair, AreNotes, HasNoteRoom, SameNotes, IsNoted, Forgets};
 
+use dq_core::{DelayCore, Words};
 use dq_ticks::EntryId;
 use std::alloc::{AllocError, Allocator, Global};
 use std::collections::HashMap;
@@ -15,6 +16,19 @@ fn numbers_of(id: &EntryId) -> (u32, u32, u32)
     ensures { result ≡ numbers_of id.now }
 {
     (id.shard(), id.index(), id.born())
+}
+
+// Whether the id of those numbers isn't ahead in a core, if it has the core's number.
+fn is_past_in<T, W: Words, A: Allocator>(
+    numbers: &(u32, u32, u32),
+    core: &DelayCore<T, W, A>,
+) -> bool
+    ensures { result ≡ true → ArePastBy numbers.now core.now }
+{
+    if numbers.0 != core.shard() {
+        return true;
+    }
+    core.is_past(&EntryId::new(numbers.0, numbers.1, numbers.2))
 }
 
 // Ids, each with another.
@@ -50,16 +64,16 @@ impl<A: Allocator + Clone> PairTable<A> {
         found
     }
 
-    // Whether an id has that number.
-    fn has_number(&self, number: u32) -> bool
-        ensures { result ≡ false → HasNoNumber self.now number }
+    // Whether no id is ahead in a core of its number.
+    fn are_past_in<T, W: Words, C: Allocator>(&self, core: &DelayCore<T, W, C>) -> bool
+        ensures { result ≡ true → ArePastIn self.now core.now }
     {
         for numbers in self.map.keys() {
-            if numbers.0 == number {
-                return true;
+            if !is_past_in(numbers, core) {
+                return false;
             }
         }
-        false
+        true
     }
 
     // Takes memory for one more.
@@ -166,12 +180,12 @@ impl<A: Allocator + Clone> Notes<A> {
         user
     }
 
-    /// Whether an id of a note has that number: a user's, or a place's.
-    pub fn has_number(&self, number: u32) -> bool
-        ensures { result ≡ false → HasNoNumber self.now.places number
-            × HasNoNumber self.now.users number }
+    /// Whether no id of a note, a user's or a place's, is ahead of its slot's stamp in a core of its number.
+    pub fn are_past_in<T, W: Words, C: Allocator>(&self, core: &DelayCore<T, W, C>) -> bool
+        ensures { result ≡ true → ArePastIn self.now.places core.now
+            × ArePastIn self.now.users core.now }
     {
-        self.places.has_number(number) || self.users.has_number(number)
+        self.places.are_past_in(core) && self.users.are_past_in(core)
     }
 
     /// Takes memory for one note more.

@@ -2,9 +2,9 @@
 
 ghost use Rattle.std.specs.Prelude.{◌≡◌, ◌<◌, ◌≤◌, ◌+◌, MatchOption, Some, None, Err, length};
 ghost use Rattle.dq_core.specs.declared.errors.ReapError.TheVariants.{Missing};
-ghost use Rattle.dq_core.specs.Sweeps.{Clears, Reaps, SweepsSome};
+ghost use Rattle.dq_core.specs.Sweeps.{Clears, Reaps};
 ghost use Rattle.dq_growing.specs.Stands.{Ages};
-ghost use Rattle.dq_growing.specs.Cores.{OnCoreAt, OnCoreOr, next_slot};
+ghost use Rattle.dq_growing.specs.Cores.{OnCoreAt, OnCoreOr, SweepsFrom};
 
 use crate::cores::Cores;
 use dq_core::{ReapError, Swept, Words};
@@ -34,11 +34,12 @@ impl<T, W: Words, A: Allocator> Cores<T, W, A> {
     /// the slot to go on from. It returns none where there is no such place. No value is dropped: each waits until it is
     /// taken out.
     pub fn sweep_some(&mut self, place: usize, from: usize, count: usize) -> Option<Swept>
+        // No id that an entry has had is given anew.
+        ensures ages { Ages self.old self.new }
         ensures sweeps { MatchOption result
             ((length self.old.cores ≤ place) × (self.new ≡ self.old))
             (λ swept. OnCoreAt place
-            (λ b c. SweepsSome W.shared b from (from + count) swept.reaped c
-            × (swept.next ≡ next_slot b (from + count))) self.old self.new) }
+            (SweepsFrom W.shared from (from + count) swept) self.old self.new) }
     {
         if place >= self.cores.len() {
             return None;

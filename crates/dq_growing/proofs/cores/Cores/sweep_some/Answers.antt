@@ -2,14 +2,23 @@ use Rattle.std.proofs.Common.{sym, arith, length, ◌<◌, rules}
 use Rattle.dq_growing.specs.Cores.{CoreRow, IsCoreAt}
 use Rattle.dq_growing.proofs.Quiet.{quiet_after, sweeps_late}
 use Rattle.dq_growing.proofs.Rows.{keeps_law, on_place}
+use Rattle.dq_growing.proofs.Aging.{ages_at, sweep_run}
 use Rattle.dq_growing.proofs.cores.Cores.sweep_some.Goals as goal
 
-pub returns : goal.returns
-returns g c =
+pub returns-clause-sweeps : goal.returns-clause-sweeps
+returns-clause-sweeps g c =
     let inside : c.args.place < length c.self.inside.cores.items = search rules in
     let a = c.sweep_some_deferring-swept in
     rw (← c.self.view_is)
-    (record { sweeps = on_place _ c.args.place _ c.index_mut.result.now a.new.self inside c.index_mut.ensures.value (a.ensures.sweeps, a.ensures.next) })
+    (on_place _ c.args.place _ c.index_mut.result.now a.new.self inside c.index_mut.ensures.value (a.ensures.sweeps, a.ensures.next))
+
+pub returns-clause-ages : goal.returns-clause-ages
+returns-clause-ages g c =
+    let inside : c.args.place < length c.self.inside.cores.items = search rules in
+    let a = c.sweep_some_deferring-swept in
+    rw (← c.self.view_is)
+    (ages_at _ c.args.place c.index_mut.result.now a.new.self c.self.invariant.0 inside c.index_mut.ensures.value a.ensures.same.0
+    (sweep_run g.W.Words.shared c.index_mut.result.now a.new.self _ _ _ a.ensures.sweeps))
 
 pub invariant_of-self : goal.invariant_of-self
 invariant_of-self g c =

@@ -5,9 +5,9 @@ pub invariant_of-self : goal.invariant_of-self
 invariant_of-self g c =
     let i = c.self.inside in
     let a = c.take_in-answer in
-    let none = rw c.shard.ensures at (c.has_number.ensures c.if-has_number.false) in
-    law_answers (stored i.cores i.notes) a.new.self c.args.core a.result c.self.invariant a.ensures.takes a.ensures.refused none.0 none.1
+    let past = c.are_past_in.ensures c.if-not-are_past_in.false in
+    law_answers (stored i.cores i.notes) a.new.self c.args.core a.result c.self.invariant c.law.ensures.shard a.ensures.takes a.ensures.refused past.0 past.1
 
-pub returns-clause-free : goal.returns-clause-free
-returns-clause-free g c =
-    rw (← c.self.view_is) (on_ok c.take_in-answer.result (rw c.shard.ensures at (c.has_number.ensures c.if-has_number.false)))
+pub returns-clause-past : goal.returns-clause-past
+returns-clause-past g c =
+    rw (← c.self.view_is) (on_ok c.take_in-answer.result (c.are_past_in.ensures c.if-not-are_past_in.false))

@@ -1,0 +1,8 @@
+use Rattle.dq_growing.proofs.Stored.{stored, law_same_notes}
+use Rattle.dq_growing.proofs.store.Store.sweep_some.Goals as goal
+
+pub invariant_of-self : goal.invariant_of-self
+invariant_of-self g c =
+    let i = c.self.inside in
+    let a = c.sweep_some-swept in
+    law_same_notes (stored i.cores i.notes) a.new.self c.self.invariant a.ensures.ages

@@ -1,0 +1,122 @@
+//! Calls that read a store, and that keep it of the right size.
+
+ghost use Rattle.std.specs.Prelude.{◌≡◌, ◌+◌, true, false, ◌<◌, ◌≤◌, MatchOption, OnOk, length};
+ghost use Rattle.dq_growing.specs.Cores.{OnCoreAt, SweepsFrom};
+ghost use Rattle.dq_growing.specs.Notes.{HasNoteRoom, SameNotes};
+ghost use Rattle.dq_growing.specs.Polls.{TakesAsideIn};
+ghost use Rattle.dq_growing.specs.Store.{HasFor, NoneStandsFor, TellsFirstIn, TellsFrom};
+
+use crate::cores::Cores;
+use crate::store::Store;
+use dq_core::{Swept, Words};
+use dq_ticks::EntryId;
+use std::alloc::{AllocError, Allocator};
+
+impl<T, W: Words, A: Allocator + Clone> Store<T, W, A> {
+    /// Returns the cores, to be read.
+    #[inline(always)]
+    pub fn cores(&self) -> &Cores<T, W, A>
+        ensures { result.now ≡ self.now.cores }
+    {
+        &self.cores
+    }
+
+    /// Returns the value of an entry. It returns none if the entry isn't in the store any more, or never was. A cancelled
+    /// entry has its value until it is freed. Constant time.
+    pub fn get(&self, entry: &EntryId) -> Option<&T>
+        ensures { MatchOption result (NoneStandsFor self.now entry.now)
+            (λ v. HasFor self.now entry.now v.now) }
+    {
+        let Some(place) = self.notes.place(entry) else {
+            return None;
+        };
+        self.cores.law();
+        let Some(core) = self.cores.of(&place) else {
+            return None;
+        };
+        core.law();
+        core.get(&place)
+    }
+
+    /// Returns the id of the entry that is scheduled first in the core at a place, possibly a cancelled one. It returns
+    /// none if no entry is linked there, or there is no such place.
+    pub fn first_in(&self, place: usize) -> Option<EntryId>
+        ensures { TellsFirstIn self.now place result }
+    {
+        let Some(core) = self.cores.get(place) else {
+            return None;
+        };
+        let Some(key) = core.peek() else {
+            return None;
+        };
+        let user = self.notes.user(&key.entry());
+        Some(user)
+    }
+
+    /// Returns the id of the entry that stands first in `count` slots from `from` on of the core at a place, live or
+    /// cancelled. It returns none if none stands there, or there is no such place.
+    pub fn entry_from(&self, place: usize, from: usize, count: usize) -> Option<EntryId>
+        ensures { TellsFrom self.now place from (from + count) result }
+    {
+        let Some(core) = self.cores.get(place) else {
+            return None;
+        };
+        let Some(entry) = core.entry_from(from, count) else {
+            return None;
+        };
+        let user = self.notes.user(&entry);
+        Some(user)
+    }
+
+    /// Opens the core at a place, so that inserts go there from now on. It returns whether there is such a place.
+    pub fn open(&mut self, place: usize) -> bool
+        ensures opens { result ≡ true → (place < length self.old.cores.cores)
+            × (self.new.cores ≡ record self.old.cores { opened = place }) }
+        ensures refused { result ≡ false → (length self.old.cores.cores ≤ place)
+            × (self.new.cores ≡ self.old.cores) }
+        ensures notes { self.new.notes ≡ self.old.notes }
+    {
+        let opens = self.cores.open(place);
+        opens
+    }
+
+    /// Takes memory for `cores` more in the list of cores, and for one note.
+    ///
+    /// # Errors
+    /// If memory is refused.
+    pub fn reserve(&mut self, cores: usize) -> Result<(), AllocError>
+        ensures cores { self.new.cores ≡ self.old.cores }
+        ensures notes { SameNotes self.old.notes self.new.notes }
+        ensures room { OnOk result (HasNoteRoom self.new.notes) }
+    {
+        self.cores.reserve(cores)?;
+        let reserved = self.notes.reserve();
+        self.notes.law();
+        reserved
+    }
+
+    /// Reaps each linked entry that is found cancelled at `count` slots from `from` on of the core at a place, and tells
+    /// the slot to go on from. It returns none where there is no such place. No value is dropped: each waits until it is
+    /// taken out. The notes stay.
+    pub fn sweep_some(&mut self, place: usize, from: usize, count: usize) -> Option<Swept>
+        ensures sweeps { MatchOption result
+            ((length self.old.cores.cores ≤ place) × (self.new.cores ≡ self.old.cores))
+            (λ swept. OnCoreAt place
+            (SweepsFrom W.shared from (from + count) swept) self.old.cores self.new.cores) }
+        ensures notes { self.new.notes ≡ self.old.notes }
+    {
+        let swept = self.cores.sweep_some(place, from, count);
+        swept
+    }
+
+    /// Takes out a freed value that waits for its drop. It returns none if no value waits.
+    pub fn take_aside(&mut self) -> Option<T>
+        // One comes exactly while one waits, and nothing else changes.
+        ensures takes { TakesAsideIn self.old.cores result self.new.cores }
+        ensures notes { self.new.notes ≡ self.old.notes }
+    {
+        self.cores.law();
+        let value = self.cores.take_aside();
+        value
+    }
+}
