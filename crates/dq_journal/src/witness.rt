@@ -110,6 +110,7 @@ impl<E, A: Allocator> Witness<E, A> {
         requires table { self.old.table ≡ caller.old.table }
         ensures once { EntersOnce self.old.view caller.old.view (Some what.now) caller.new.view }
         ensures log { self.new.view.log ≡ caller.new.view.log }
+        ensures made { self.new.view.made ≡ self.old.view.made }
         ensures keeper { IsUnderLock self.new.view }
         ensures caller { IsWithNumber caller.new.view }
         ensures tables { (self.new.table ≡ self.old.table) × (caller.new.table ≡ caller.old.table) }
@@ -136,6 +137,7 @@ impl<E, A: Allocator> Witness<E, A> {
         requires table { self.old.table ≡ caller.old.table }
         ensures told { IsTold self.old.view caller.old.view caller.new.view }
         ensures log { self.new.view.log ≡ self.old.view.log }
+        ensures made { self.new.view.made ≡ self.old.view.made }
         ensures keeper { IsUnderLock self.new.view }
         ensures caller { IsWithNumber caller.new.view }
         ensures tables { (self.new.table ≡ self.old.table) × (caller.new.table ≡ caller.old.table) }

@@ -1,0 +1,10 @@
+use Rattle.std.proofs.Common.{subst}
+use Rattle.dq_queue.specs.Calls.{StorePollsSome}
+use Rattle.dq_queue.specs.Shards.{Held}
+use Rattle.dq_queue.proofs.shard.Held.poll_some.Goals as goal
+
+pub returns-clause-polls : goal.returns-clause-polls
+returns-clause-polls g c =
+    let made = c.poll_some-answer in
+    let P : Held _ → Type 0 = λ h. StorePollsSome c.args.tick c.args.most made.result h.store made.new.self in
+    subst P c.self.view_is made.ensures.polls

@@ -1,0 +1,69 @@
+-- What one call does to what lies behind a shard's lock.
+use Rattle.std.specs.Prelude.{◌≡◌, ◌⊎◌, ℕ, true, Option, Result, IfErr, IfSome, IfNone, OnOk}
+use Rattle.dq_ticks.specs.declared.keys.Key.{Key}
+use Rattle.dq_ticks.specs.declared.keys.EntryId.{EntryId}
+use Rattle.dq_core.specs.declared.errors.CoreError.{CoreError}
+use Rattle.dq_core.specs.declared.outcomes.Removed.{Removed}
+use Rattle.dq_core.specs.declared.outcomes.Piece.{Piece}
+use Rattle.dq_core.specs.Core.{Core}
+use Rattle.dq_growing.specs.declared.cores.TakeError.{TakeError}
+use Rattle.dq_growing.specs.Cores.{InsertsIn, TakesIn, GivesDrained, NoneDrained}
+use Rattle.dq_growing.specs.Polls.{PollsRow, DoesPiece}
+use Rattle.dq_growing.specs.Store.{StoreState, RemovesFor, TellsFor, ResetsFor, piece_as, NotesAfter}
+use Rattle.dq_words.specs.Seats.{Sat}
+
+module _ {T : Type 0} where
+  -- a value comes in at a deadline, and the notes stay
+  abbrev pub StoreInserts : T → ℕ → Result Key (CoreError × T) × Option T → StoreState T Sat →
+      StoreState T Sat → Type 0
+  StoreInserts v when r s t = InsertsIn s.cores v when r t.cores × (t.notes ≡ s.notes)
+
+  -- an entry is taken out
+  abbrev pub StoreRemoves : EntryId → Result (Removed T) CoreError → StoreState T Sat →
+      StoreState T Sat → Type 0
+  StoreRemoves id r s t = RemovesFor true s id r t
+
+  -- an entry gets another deadline
+  abbrev pub StoreResets : EntryId → ℕ → Result Key CoreError × Option T → StoreState T Sat →
+      StoreState T Sat → Type 0
+  StoreResets id when r s t = ResetsFor true s id when r t
+
+  -- an entry's deadline is told
+  abbrev pub StoreTells : EntryId → Result ℕ CoreError → StoreState T Sat → StoreState T Sat → Type 0
+  StoreTells id r s t = TellsFor true s id r t
+
+  -- a tick is noted, and a piece of a poll is done
+  abbrev pub StorePollsSome : ℕ → ℕ → Result (Piece T) CoreError → StoreState T Sat →
+      StoreState T Sat → Type 0
+  StorePollsSome tick most r s t =
+      (made : Result (Piece T) CoreError)
+      × PollsRow (DoesPiece true most) s.cores tick made t.cores
+      × (r ≡ piece_as s.notes made) × NotesAfter s.notes made t.notes
+
+  -- a core comes in, which is open from then on; or it comes back, and the store stays
+  abbrev pub StoreTakesIn : Core T Sat → Result (Unit {0}) (TakeError × Core T Sat) →
+      StoreState T Sat → StoreState T Sat → Type 0
+  StoreTakesIn c r s t =
+      OnOk r (TakesIn s.cores c t.cores) × IfErr r (λ e. (e.1 ≡ c) × (t.cores ≡ s.cores))
+      × (t.notes ≡ s.notes)
+
+  -- a core that has drained is taken out; none is exactly where none has
+  abbrev pub StoreGives : Option (Core T Sat) → StoreState T Sat → StoreState T Sat → Type 0
+  StoreGives r s t =
+      IfSome r (λ c. GivesDrained s.cores c t.cores)
+      × IfNone r (NoneDrained s.cores × (t.cores ≡ s.cores)) × (t.notes ≡ s.notes)
+
+  -- one call took a store from one state to another
+  abbrev pub IsCall : StoreState T Sat → StoreState T Sat → Type 0
+  IsCall s t =
+      ((v : T) × (when : ℕ) × (r : Result Key (CoreError × T) × Option T)
+      × StoreInserts v when r s t)
+      ⊎ (((id : EntryId) × (r : Result (Removed T) CoreError) × StoreRemoves id r s t)
+      ⊎ (((id : EntryId) × (when : ℕ) × (r : Result Key CoreError × Option T)
+      × StoreResets id when r s t)
+      ⊎ (((id : EntryId) × (r : Result ℕ CoreError) × StoreTells id r s t)
+      ⊎ (((tick : ℕ) × (most : ℕ) × (r : Result (Piece T) CoreError)
+      × StorePollsSome tick most r s t)
+      ⊎ (((c : Core T Sat) × (r : Result (Unit {0}) (TakeError × Core T Sat))
+      × StoreTakesIn c r s t)
+      ⊎ ((r : Option (Core T Sat)) × StoreGives r s t))))))

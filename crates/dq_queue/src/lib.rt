@@ -1,0 +1,15 @@
+//! A delay queue that grows and shrinks, and that many threads share.
+//!
+//! A queue has a row of shards, each a [`dq_growing::Store`] behind one lock. A call by name takes the lock of one shard.
+//! Each shard has one history, for contracts: it has each call by name once.
+#![tactic(auto)]
+
+mod making;
+mod queue;
+mod shard;
+mod words;
+
+pub use making::{MakeError, numbered_core};
+pub use queue::{GrowingQueue, QueueError};
+pub use shard::{Caller, Held, Rooms, Shard};
+pub use words::{Promise, QueueWords};

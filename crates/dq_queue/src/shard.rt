@@ -1,0 +1,410 @@
+//! What lies behind a shard's lock, and the calls that callers make of it there: each is entered once in the shard's history.
+ghost use Rattle.std.specs.Prelude.{◌≡◌, ◌<◌, ◌+◌, IfOk, IfErr, IfSome, IfNone, OnErr};
+ghost use Rattle.dq_journal.specs.Once.{IsTold};
+ghost use Rattle.dq_journal.specs.Views.{first_witness, new_witness};
+ghost use Rattle.dq_growing.specs.Store.{IsStore};
+ghost use Rattle.dq_queue.specs.Calls.{StoreInserts, StoreRemoves, StoreResets, StoreTells, StorePollsSome};
+ghost use Rattle.dq_queue.specs.Calls.{StoreTakesIn, StoreGives};
+ghost use Rattle.dq_queue.specs.Shards.{Once, OneMore, IsHistory, no_table};
+
+use dq_core::{CoreError, DelayCore, Piece, Removed};
+use dq_growing::{Store, TakeError};
+use dq_journal::Witness;
+use dq_ticks::{EntryId, Key};
+use dq_words::Keeper;
+use std::alloc::{AllocError, Allocator, Global};
+use std::marker::{Brand, Model, PhantomData};
+
+/// Names a queue: how many shards it has and, of each by its number, the history.
+pub trait Rooms {
+    ghost use Rattle.std.specs.Prelude.{ℕ};
+    ghost use Rattle.atomic_table.specs.Seated.{TableId};
+
+    ghost shards: { ℕ };
+
+    ghost history: { ℕ → TableId };
+}
+
+impl Rooms for Brand {
+    ghost shards = { 0 };
+
+    ghost history = { λ _. no_table };
+}
+
+/// A shard's number, and its store.
+#[derive(Drop)]
+pub struct Held<T, A: Allocator = Global> {
+    number: u32,
+    store: Store<T, Keeper<A>, A>,
+}
+
+impl<T, A: Allocator> Model for Held<T, A> {
+    ghost use Rattle.dq_queue.specs.Shards.{Held as HeldView};
+
+    ghost Value = { HeldView T };
+
+    ghost view = { λ s. record { number = s.number; store = s.store } };
+}
+
+impl<T, A: Allocator> Held<T, A> {
+    /// The store of the shard of that number.
+    pub fn new(number: u32, store: Store<T, Keeper<A>, A>) -> Held<T, A>
+        ensures number { result.number ≡ number }
+        ensures store { result.store ≡ store }
+    {
+        Held { number, store }
+    }
+}
+
+// The store's calls, each between two laws.
+impl<T, A: Allocator + Clone> Held<T, A> {
+    fn insert(&mut self, value: T, when: u64) -> (Result<Key, (CoreError, T)>, Option<T>)
+        ensures number { self.new.number ≡ self.old.number }
+        ensures stores { IsStore self.old.store × IsStore self.new.store }
+        ensures inserts { StoreInserts value when result self.old.store self.new.store }
+    {
+        self.store.law();
+        let answer = self.store.insert(value, when);
+        self.store.law();
+        answer
+    }
+
+    fn remove(&mut self, entry: &EntryId) -> Result<Removed<T>, CoreError>
+        ensures number { self.new.number ≡ self.old.number }
+        ensures stores { IsStore self.old.store × IsStore self.new.store }
+        ensures removes { StoreRemoves entry.now result self.old.store self.new.store }
+    {
+        self.store.law();
+        let answer = self.store.remove(entry);
+        self.store.law();
+        answer
+    }
+
+    fn reset(&mut self, entry: &EntryId, when: u64) -> (Result<Key, CoreError>, Option<T>)
+        ensures number { self.new.number ≡ self.old.number }
+        ensures stores { IsStore self.old.store × IsStore self.new.store }
+        ensures resets { StoreResets entry.now when result self.old.store self.new.store }
+    {
+        self.store.law();
+        let answer = self.store.reset(entry, when);
+        self.store.law();
+        answer
+    }
+
+    fn deadline(&mut self, entry: &EntryId) -> Result<u64, CoreError>
+        ensures number { self.new.number ≡ self.old.number }
+        ensures stores { IsStore self.old.store × IsStore self.new.store }
+        ensures tells { StoreTells entry.now result self.old.store self.new.store }
+    {
+        self.store.law();
+        let answer = self.store.deadline(entry);
+        self.store.law();
+        answer
+    }
+
+    fn poll_some(&mut self, tick: u64, most: u32) -> Result<Piece<T>, CoreError>
+        ensures number { self.new.number ≡ self.old.number }
+        ensures stores { IsStore self.old.store × IsStore self.new.store }
+        ensures polls { StorePollsSome tick most result self.old.store self.new.store }
+    {
+        self.store.law();
+        let answer = self.store.poll_some(tick, most);
+        self.store.law();
+        answer
+    }
+
+    fn take_in(
+        &mut self,
+        core: DelayCore<T, Keeper<A>, A>,
+    ) -> Result<(), (TakeError, DelayCore<T, Keeper<A>, A>)>
+        ensures number { self.new.number ≡ self.old.number }
+        ensures stores { IsStore self.old.store × IsStore self.new.store }
+        ensures takes { StoreTakesIn core result self.old.store self.new.store }
+    {
+        self.store.law();
+        let answer = self.store.take_in(core);
+        self.store.law();
+        answer
+    }
+
+    fn take_drained(&mut self) -> Option<DelayCore<T, Keeper<A>, A>>
+        ensures number { self.new.number ≡ self.old.number }
+        ensures stores { IsStore self.old.store × IsStore self.new.store }
+        ensures gives { StoreGives result self.old.store self.new.store }
+    {
+        self.store.law();
+        let answer = self.store.take_drained();
+        self.store.law();
+        answer
+    }
+}
+
+/// A shard, whose history is that which its number names.
+#[derive(Drop)]
+pub struct Shard<T, J: Rooms, A: Allocator = Global> {
+    held: Held<T, A>,
+    history: Witness<Held<T, A>, A>,
+    rooms: PhantomData<J>,
+}
+
+impl<T, J: Rooms, A: Allocator> Model for Shard<T, J, A> {
+    ghost use Rattle.std.specs.Prelude.{◌≡◌, ◌<◌};
+    ghost use Rattle.dq_journal.specs.Once.{IsUnderLock};
+    ghost use Rattle.dq_queue.specs.Shards.{ShardView, Follows, IsHistory};
+
+    ghost Value = { ShardView T };
+
+    ghost view = { λ s. record { held = s.held; history = s.history.view } };
+
+    ghost invariant = { λ s. (s.held.number < J.shards)
+        × (s.history.table ≡ J.history s.held.number) × IsUnderLock s.history.view
+        × Follows s.history.view.log s.held × IsHistory s.history.view.log };
+}
+
+/// A caller of one shard, in any thread.
+#[derive(Drop)]
+pub struct Caller<T, J: Rooms, A: Allocator = Global> {
+    shard: u32,
+    history: Witness<Held<T, A>, A>,
+    rooms: PhantomData<J>,
+}
+
+impl<T, J: Rooms, A: Allocator> Model for Caller<T, J, A> {
+    ghost use Rattle.std.specs.Prelude.{◌≡◌, ◌<◌};
+    ghost use Rattle.dq_journal.specs.Once.{IsWithNumber};
+    ghost use Rattle.dq_queue.specs.Shards.{CallerView};
+
+    ghost Value = { CallerView T };
+
+    ghost view = { λ c. record { shard = c.shard; history = c.history.view } };
+
+    ghost invariant = { λ c. (c.shard < J.shards) × (c.history.table ≡ J.history c.shard)
+        × IsWithNumber c.history.view };
+}
+
+impl<T, J: Rooms, A: Allocator> Caller<T, J, A> {
+    /// Returns the number of its shard.
+    pub fn shard(&self) -> u32
+        ensures shard { result ≡ self.now.shard }
+        ensures range { result < J.shards }
+    {
+        self.shard
+    }
+}
+
+impl<T, J: Rooms, A: Allocator> Shard<T, J, A> {
+    /// A shard with a history in which nothing is yet, under the names of its number.
+    pub fn of(held: Held<T, A>, history: Witness<Held<T, A>, A>) -> Shard<T, J, A>
+        requires number { held.number < J.shards }
+        requires history { (history.table ≡ J.history held.number)
+            × (history.view ≡ first_witness) }
+        ensures held { result.held ≡ held }
+        ensures history { result.history ≡ first_witness }
+    {
+        Shard {
+            held,
+            history,
+            rooms: PhantomData,
+        }
+    }
+
+    /// Returns the shard's number.
+    pub fn number(&self) -> u32
+        ensures { result ≡ self.now.held.number }
+    {
+        self.held.number
+    }
+
+    /// Makes one caller more of this shard, which may go to any thread.
+    ///
+    /// # Errors
+    /// If the history has too many holders.
+    pub fn issue(&mut self) -> Result<Caller<T, J, A>, AllocError>
+        // It has no call in the history yet.
+        ensures history { IfOk result (λ c. c.history ≡ new_witness self.old.history) }
+        ensures number { IfOk result (λ c. c.shard ≡ self.old.held.number) }
+        ensures one_more { IfOk result
+            (λ _. self.new.history.made ≡ self.old.history.made + 1) }
+
+        // The store stays, and no call is entered.
+        ensures held { self.new.held ≡ self.old.held }
+        ensures log { self.new.history.log ≡ self.old.history.log }
+        ensures refused { OnErr result (self.new ≡ self.old) }
+    {
+        let history = self.history.open()?;
+        Ok(Caller {
+            shard: self.held.number,
+            history,
+            rooms: PhantomData,
+        })
+    }
+
+    /// Tells a caller the whole history of the shard: of its own calls it has those that it made, each once.
+    pub fn tell(&mut self, me: &mut Caller<T, J, A>)
+        requires { me.old.shard ≡ self.old.held.number }
+        ensures told { IsTold self.old.history me.old.history me.new.history }
+        ensures history { IsHistory self.old.history.log }
+        ensures same { (me.new.shard ≡ me.old.shard) × (self.new.held ≡ self.old.held)
+            × (self.new.history.log ≡ self.old.history.log) }
+    {
+        self.history.tell(&mut me.history);
+    }
+}
+
+impl<T, J: Rooms, A: Allocator + Clone> Shard<T, J, A> {
+    /// Puts `value` in, to come out at the tick `when` of one millisecond, and returns its key. No value is dropped: one
+    /// that waits for its drop in the slot that the entry takes comes out beside the key. Constant time, and no memory is
+    /// taken.
+    ///
+    /// # Errors
+    /// `value` comes back. In this order:
+    /// - `TooFar` if `when` is beyond the last tick.
+    /// - `Full` if no core is open, or the open one has no slot free.
+    pub fn insert(
+        &mut self,
+        me: &mut Caller<T, J, A>,
+        value: T,
+        when: u64,
+    ) -> (Result<Key, (CoreError, T)>, Option<T>)
+        requires { me.old.shard ≡ self.old.held.number }
+        ensures once { Once me.old (λ s t. StoreInserts value when result s t) me.new }
+        ensures one_more { OneMore self.old me.old self.new }
+        ensures inserts { StoreInserts value when result self.old.held.store self.new.held.store }
+        ensures number { self.new.held.number ≡ self.old.held.number }
+    {
+        let answer = self.held.insert(value, when);
+        self.history.enter_for(&mut me.history, &self.held);
+        answer
+    }
+
+    /// Takes a live entry out, and returns its value with its key and its current deadline, a tick of one millisecond.
+    /// Constant time, and no memory is taken.
+    ///
+    /// # Errors
+    /// In this order:
+    /// - `Missing` if the entry isn't in the shard any more, or never was.
+    /// - `WasCancelled` if the entry was cancelled.
+    pub fn remove(
+        &mut self,
+        me: &mut Caller<T, J, A>,
+        entry: &EntryId,
+    ) -> Result<Removed<T>, CoreError>
+        requires { me.old.shard ≡ self.old.held.number }
+        ensures once { Once me.old (λ s t. StoreRemoves entry.now result s t) me.new }
+        ensures one_more { OneMore self.old me.old self.new }
+        ensures removes { StoreRemoves entry.now result self.old.held.store self.new.held.store }
+        ensures number { self.new.held.number ≡ self.old.held.number }
+    {
+        let answer = self.held.remove(entry);
+        self.history.enter_for(&mut me.history, &self.held);
+        answer
+    }
+
+    /// Gives a live entry the deadline `when`, a tick of one millisecond, sooner or later than the one that it has, and
+    /// returns its new key. No value is dropped: one that waits for its drop in the slot that the entry goes on in comes
+    /// out beside the key. Constant time. No memory is taken, but for a note where the entry goes on in another core.
+    ///
+    /// # Errors
+    /// In this order:
+    /// - `TooFar` if `when` is beyond the last tick.
+    /// - `Missing` if the entry isn't in the shard any more, or never was.
+    /// - `WasCancelled` if the entry was cancelled.
+    /// - `NoMemory` if the entry has to go on in the open core, and memory for its note is refused.
+    /// - `Full` if it has to, and no core is open, or the open one has no free slot.
+    pub fn reset(
+        &mut self,
+        me: &mut Caller<T, J, A>,
+        entry: &EntryId,
+        when: u64,
+    ) -> (Result<Key, CoreError>, Option<T>)
+        requires { me.old.shard ≡ self.old.held.number }
+        ensures once { Once me.old (λ s t. StoreResets entry.now when result s t) me.new }
+        ensures one_more { OneMore self.old me.old self.new }
+        ensures resets { StoreResets entry.now when result self.old.held.store self.new.held.store }
+        ensures number { self.new.held.number ≡ self.old.held.number }
+    {
+        let answer = self.held.reset(entry, when);
+        self.history.enter_for(&mut me.history, &self.held);
+        answer
+    }
+
+    /// Returns the current deadline of a live entry, a tick of one millisecond. Constant time.
+    ///
+    /// # Errors
+    /// In this order:
+    /// - `Missing` if the entry isn't in the shard any more, or never was.
+    /// - `WasCancelled` if the entry was cancelled.
+    pub fn deadline(&mut self, me: &mut Caller<T, J, A>, entry: &EntryId) -> Result<u64, CoreError>
+        requires { me.old.shard ≡ self.old.held.number }
+        ensures once { Once me.old (λ s t. StoreTells entry.now result s t) me.new }
+        ensures one_more { OneMore self.old me.old self.new }
+        ensures tells { StoreTells entry.now result self.old.held.store self.new.held.store }
+        ensures number { self.new.held.number ≡ self.old.held.number }
+    {
+        let answer = self.held.deadline(entry);
+        self.history.enter_for(&mut me.history, &self.held);
+        answer
+    }
+
+    /// Notes a tick, of one millisecond, and makes at most `most` steps of a poll: it takes out one entry whose deadline
+    /// in force is reached by the greatest tick noted, or tells when to come again, or has more to do. No value is
+    /// dropped: that of each cancelled entry which it reaps waits until it is taken out.
+    ///
+    /// # Errors
+    /// `TickTooLarge` beyond the last tick, which is not noted then.
+    pub fn poll_some(
+        &mut self,
+        me: &mut Caller<T, J, A>,
+        tick: u64,
+        most: u32,
+    ) -> Result<Piece<T>, CoreError>
+        requires { me.old.shard ≡ self.old.held.number }
+        ensures once { Once me.old (λ s t. StorePollsSome tick most result s t) me.new }
+        ensures one_more { OneMore self.old me.old self.new }
+        ensures polls { StorePollsSome tick most result self.old.held.store self.new.held.store }
+        ensures number { self.new.held.number ≡ self.old.held.number }
+    {
+        let answer = self.held.poll_some(tick, most);
+        self.history.enter_for(&mut me.history, &self.held);
+        answer
+    }
+
+    /// Takes a core in, which is open from then on. The one that was open drains. It takes memory for the list of cores
+    /// alone.
+    ///
+    /// # Errors
+    /// The core comes back, and nothing changes. In this order:
+    /// - `UsedNumber` if an entry is known by an id of that number that was moved away from there, or to there.
+    /// - `StillLinked` if an entry is linked in the core.
+    /// - `UsedNumber` if a core of the shard has its number, or it is the last one of all.
+    /// - `NoMemory` if memory is refused.
+    pub fn take_in(
+        &mut self,
+        me: &mut Caller<T, J, A>,
+        core: DelayCore<T, Keeper<A>, A>,
+    ) -> Result<(), (TakeError, DelayCore<T, Keeper<A>, A>)>
+        requires { me.old.shard ≡ self.old.held.number }
+        ensures once { Once me.old (λ s t. StoreTakesIn core result s t) me.new }
+        ensures one_more { OneMore self.old me.old self.new }
+        ensures takes { StoreTakesIn core result self.old.held.store self.new.held.store }
+        ensures number { self.new.held.number ≡ self.old.held.number }
+    {
+        let answer = self.held.take_in(core);
+        self.history.enter_for(&mut me.history, &self.held);
+        answer
+    }
+
+    /// Takes a core out that has drained: it isn't the open one, and holds nothing, not even a value that waits for its
+    /// drop.
+    pub fn take_drained(&mut self, me: &mut Caller<T, J, A>) -> Option<DelayCore<T, Keeper<A>, A>>
+        requires { me.old.shard ≡ self.old.held.number }
+        ensures once { Once me.old (λ s t. StoreGives result s t) me.new }
+        ensures one_more { OneMore self.old me.old self.new }
+        ensures gives { StoreGives result self.old.held.store self.new.held.store }
+        ensures number { self.new.held.number ≡ self.old.held.number }
+    {
+        let answer = self.held.take_drained();
+        self.history.enter_for(&mut me.history, &self.held);
+        answer
+    }
+}
