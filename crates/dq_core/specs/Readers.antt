@@ -32,8 +32,8 @@ TellsLeast c (Some k) =
     × IsLeast c.wheel.filing.filed k.entry.index
 
 -- the birth of an id isn't after its slot's stamp: no new entry gets that id
-abbrev pub IsPast : {T W : Type 0} → Core T W → EntryId → Type 0
-IsPast c id = id.born ≤ (table_at (machine c) id.index).stamp
+abbrev pub HasGivenName : {T W : Type 0} → Core T W → EntryId → Type 0
+HasGivenName c id = id.born ≤ (table_at (machine c) id.index).stamp
 
 -- no entry is linked at the slots from one on, before another
 abbrev pub NoneBetween : {T W : Type 0} → Core T W → ℕ → ℕ → Type 0

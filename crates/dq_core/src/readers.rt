@@ -14,7 +14,7 @@ use dq_wheel::Place;
 use std::alloc::Allocator;
 
 impl<T, W: Words, A: Allocator> DelayCore<T, W, A> {
-    ghost use Rattle.dq_core.specs.Readers.{IsTally, IsPast, TellsFirst, TellsLeast, TellsPlace, TellsFiled};
+    ghost use Rattle.dq_core.specs.Readers.{IsTally, HasGivenName, TellsFirst, TellsLeast, TellsPlace, TellsFiled};
 
     /// Returns the number of worn slots, which hold no entry and have no stamp left.
     pub fn worn(&self) -> usize
@@ -98,8 +98,8 @@ impl<T, W: Words, A: Allocator> DelayCore<T, W, A> {
     /// Whether an entry of that name was here, or its stamp has been given: no insert gives that name. The number of the
     /// queue isn't asked.
     pub fn is_past(&self, entry: &EntryId) -> bool
-        ensures yes { result ≡ true → IsPast self.now entry.now }
-        ensures no { result ≡ false → ¬ IsPast self.now entry.now }
+        ensures yes { result ≡ true → HasGivenName self.now entry.now }
+        ensures no { result ≡ false → ¬ HasGivenName self.now entry.now }
     {
         if entry.born() > self.stamp_at(entry.index() as usize) {
             return false;
