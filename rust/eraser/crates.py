@@ -8,8 +8,8 @@ import indexes
 import kit
 import laws
 import paths
-from patterns import TABLES, made
-from rattle import Refused, item_start, text_of, tokens_of
+from patterns import GUARDS, TABLES, made
+from rattle import Refused, close_of, functions, item_start, text_of, tokens_of
 
 TOP = Path(__file__).resolve().parent.parent.parent
 OUT = TOP / "rust" / "hontkhale" / "src"
@@ -136,6 +136,13 @@ def put_uses(tokens, found):
         tokens[at:at] = new
 
 
+def guard_names(tokens):
+    """The functions of a file that answer the guard of a lock."""
+    for _, _, name, head, body in functions(tokens):
+        if any(token.text == "MutexGuard" for token in tokens[close_of(tokens, head):body]):
+            yield name
+
+
 def changed(source, rule, *arguments):
     source.tokens = guarded(source, rule, source.tokens, *arguments)
 
@@ -150,6 +157,7 @@ def erased(hand, closed):
         changed(source, laws.without_laws, names)
         fields.setdefault(source.crate, set()).update(guarded(source, handed.without_fields, source.tokens))
         guarded(source, closed.close, source)
+        GUARDS.update(guard_names(source.tokens))
     closed.all_found()
     for source in found:
         changed(source, ghosts.erased)

@@ -13,8 +13,15 @@ def forever(tokens, lent):
             words = {token.text for token in tokens[at + 9:close]}
             if "break" in words:
                 raise Refused(f"line {tokens[at].line}: a `break` leaves what a rule takes for a loop without end")
-            returns = "return" in words
+            returns = "return" in words or "?" in words
+            if not returns and not only_waits(tokens, at + 9, close):
+                raise Refused(f"line {tokens[at].line}: a loop without end that does more than wait for a lock")
             tokens[at:at + 8 if returns else close + 1] = made("loop" if returns else f'panic!("{lent}");', tokens[at])
+
+
+def only_waits(tokens, at, end):
+    """Whether what stands there is `let _again = self.shards[place].lock(rt);`."""
+    return " ".join(token.text for token in tokens[at:end]) == "let _again = self . shards [ place ] . lock ( rt ) ;"
 
 
 def early(tokens, lent):

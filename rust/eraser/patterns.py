@@ -49,6 +49,10 @@ def matched(tokens, at, parts):
     return found, at
 
 
+# The functions whose answer is the guard of a lock, which the sources add: a rule says `guards` for all of them.
+GUARDS = {"lock", "try_lock"}
+
+
 def rewritten(tokens, name):
     """Rewrites tokens by the rules of a table."""
     by_first = {}
@@ -64,8 +68,8 @@ def rewritten(tokens, name):
                 raise Refused(f"line {tokens[at].line}: {new[1:]}")
             if its:
                 new, _, without = new.partition(" unless ")
-                refused = {token.text for found in its[0].values() for token in found} & set(without.split(", "))
-                if refused:
+                refused = GUARDS & {token.text for found in its[0].values() for token in found}
+                if without == "guards" and refused:
                     raise Refused(f"line {tokens[at].line}: `{min(refused)}` in a value that a rule moves")
                 new, before = parts_of(new), tokens[at].before
                 tokens[at:its[1]] = [token for part in new for token in its[0].get(part.text, [part])]
