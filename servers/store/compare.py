@@ -27,8 +27,6 @@ SHORT = 4_000  # milliseconds; a batch that is compared ends before
 SLOW = 100  # as many slow batches aren't the machine's doing any more
 NAMES = [f"name:{it}" for it in range(40)]
 TIMES = {"ttl": 1_000, "pttl": 1, "expiretime": 1_000, "pexpiretime": 1}
-
-
 CASES = pathlib.Path(__file__).resolve().with_name("cases.txt")
 # A connection's number, in the reply to HELLO.
 NUMBER = re.compile(rb"(?<=\$2\r\nid\r\n:)\d+")

@@ -1,18 +1,24 @@
 """Measures how late jobs are, and what they cost.
 
-At two rates, three times each for twenty seconds: some three minutes. The table of README.md is written.
+    rates.py [OTHER]
+
+At two rates, five turns of twenty seconds each, in turns with OTHER, an older program, where one is given. What was measured
+stands in measured.tsv, and the table of README.md is made of it.
 """
+import contextlib
 import os
 import pathlib
 import re
 import statistics
+import sys
 import time
 
-from cluster import EFFECT, HERE, cluster, end, lateness
+import cluster
+from cluster import EFFECT, HERE, end, lateness
 
 HERTZ = os.sysconf("SC_CLK_TCK")
-WORKERS = TURNS = 3
-SECONDS = 20
+WORKERS, TURNS, SECONDS, RATES = 3, 5, 20, (1000, 10000)
+STORED = HERE / "measured.tsv"
 
 
 def times(pid):
@@ -26,11 +32,9 @@ def database_seconds(it):
     children = pathlib.Path(f"/proc/{parent}/task/{parent}/children").read_text().split()
     total = sum(times(parent))
     for child in children:
-        try:
+        # One that has ended stands in its parent's sum from now on.
+        with contextlib.suppress(FileNotFoundError, ProcessLookupError):
             total += times(child)[0]
-        except (FileNotFoundError, ProcessLookupError):
-            # It has ended, and stands in its parent's sum from now on.
-            pass
     return total
 
 
@@ -52,27 +56,41 @@ def load(it, rate):
     return [*map(float, lateness(it).split()), *[(now - then) / took for now, then in zip(after, before)]]
 
 
-def main():
-    before = os.getloadavg()[0]
-    rows = ["| A second | p50 ms | p99 ms | max ms | cores of workers | of database |", "| --- |" + " --: |" * 5]
-    with cluster() as it:
-        for rate in (1000, 10000):
-            turns = [load(it, rate) for _ in range(TURNS)]
-            cells = [f"{rate:,}", *[f"{statistics.median(it):.3g}" for it in zip(*turns)]]
-            p99 = [turn[1] for turn in turns]
-            cells[2] += f" ({min(p99):g} to {max(p99):g})"
-            rows.append(f"| {' | '.join(cells)} |")
-            print(rows[-1], f"load {os.getloadavg()[0]:.1f}", flush=True)
-    text = "\n".join([
-        f"On {time.strftime('%Y-%m-%d')}, {os.cpu_count()} cores, {SECONDS} s a row, at a load of {before:.1f} at the start and",
-        f"{os.getloadavg()[0]:.1f} at the end. Medians of three turns, and the least and the most p99.",
-        "",
-        *rows,
-    ])
+def measure(programs):
+    """Each turn of each program, one after the other, each with a database of its own."""
+    model = re.search(r"^model name\s*: (.*)", pathlib.Path("/proc/cpuinfo").read_text(), re.M)[1]
+    with contextlib.ExitStack() as stack, open(STORED, "w") as out:
+        print(f"# {time.strftime('%Y-%m-%d')}, {model}, {os.cpu_count()} cores, {SECONDS} s a turn", file=out)
+        print("a second, program, ms late p50, p99, max, cores of workers, of database, load at the end", file=out)
+        databases = {}
+        for name, cluster.JOBS in programs.items():
+            databases[name] = stack.enter_context(cluster.cluster())
+        for turn in range(TURNS):
+            for rate in RATES:
+                for name in list(programs)[:: 1 if turn % 2 else -1]:
+                    cluster.JOBS = programs[name]
+                    row = [*(f"{it:.4g}" for it in load(databases[name], rate)), f"{os.getloadavg()[0]:.1f}"]
+                    print(rate, name, *row, sep="\t", file=out, flush=True)
+
+
+def table():
+    note, _, *lines = STORED.read_text().splitlines()
+    turns = {}
+    for line in lines:
+        rate, name, *row = line.split("\t")
+        turns.setdefault((int(rate), name), []).append([float(it) for it in row])
+    loads = [row[-1] for rows in turns.values() for row in rows]
+    rows = ["| A second | Program | p50 ms | p99 ms | max ms | cores of workers | of database |", "| --- | --- |" + " --: |" * 5]
+    for (rate, name), its in sorted(turns.items()):
+        cells = [f"{statistics.median(it):.3g}" for it in zip(*its)][:-1]
+        cells[1] += f" ({min(it[1] for it in its):g} to {max(it[1] for it in its):g})"
+        rows.append(f"| {rate:,} | {' | '.join([name, *cells])} |")
+    text = f"{note[2:]}. Medians of {len(its)} turns, and\nthe least and the most p99. The load was {min(loads)} to {max(loads)}.\n\n" + "\n".join(rows)
     page = HERE / "README.md"
     mark = re.compile("(<!-- table jobs -->\n).*?(\n<!-- end -->)", re.S)
     page.write_text(mark.sub(lambda it: it[1] + text + it[2], page.read_text(), count=1))
 
 
 if __name__ == "__main__":
-    main()
+    measure({"this": cluster.JOBS, **{"older": it for it in sys.argv[1:]}})
+    table()

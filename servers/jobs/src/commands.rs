@@ -41,10 +41,10 @@ pub enum Command {
 
 impl Command {
     pub fn of(args: Args) -> Command {
-        let (name, args) = match args.split_first() {
-            None => return Command::Refused("ERR there is no command".to_owned()),
-            Some((name, args)) => (name.to_ascii_uppercase(), args),
+        let Some((name, args)) = args.split_first() else {
+            return Command::Refused("ERR there is no command".to_owned());
         };
+        let name = name.to_ascii_uppercase();
         let command = match &name[..] {
             b"JOBS.TAKE" => take(args),
             b"JOBS.BEAT" => attempt(args, 2).map(Command::Beat),

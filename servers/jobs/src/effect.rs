@@ -42,16 +42,12 @@ pub async fn run(worker: Arc<Worker>, statement: Arc<str>, mut jobs: UnboundedRe
     loop {
         let Ok(permit) = free.clone().acquire_owned().await else { return };
         if left.is_empty() {
-            match jobs.recv().await {
-                Some(ids) => left = ids,
-                None => break,
-            }
+            let Some(first) = jobs.recv().await else { break };
+            left = first;
         }
         while left.len() < BATCH {
-            match jobs.try_recv() {
-                Ok(ids) => left.extend(ids),
-                Err(_) => break,
-            }
+            let Ok(more) = jobs.try_recv() else { break };
+            left.extend(more);
         }
         left.sort_by_key(|it: &Waiting| (Reverse(it.priority), it.due));
         let rest = left.split_off(left.len().min(BATCH));
@@ -133,14 +129,8 @@ async fn fail(worker: &Worker, id: i64, error: &Error) {
     let reason = error.to_string();
     tell(format_args!("job {id} failed: {reason}"));
     worker.metrics.failed.add(1);
-    match worker
-        .links
-        .insist(
-            sql::FAIL_WAITING,
-            &[&worker.number, &worker.partitions.terms(), &id, &reason, &worker.options.attempts],
-        )
-        .await
-    {
+    let (terms, attempts) = (worker.partitions.terms(), worker.options.attempts);
+    match worker.links.insist(sql::FAIL_WAITING, &[&worker.number, &terms, &id, &reason, &attempts]).await {
         Ok(rows) if rows.iter().any(|row| row.get::<_, &str>(0) == "dead") => worker.metrics.dead.add(1),
         Ok(_) => {}
         Err(error) => tell(format_args!("the failure of job {id} isn't written: {error}")),

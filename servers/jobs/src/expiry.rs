@@ -19,10 +19,8 @@ const LOCKED: Duration = Duration::from_millis(300);
 pub async fn run(worker: Arc<Worker>, mut ended: UnboundedReceiver<Vec<(i64, i32)>>) {
     while let Some(mut leases) = ended.recv().await {
         while leases.len() < BATCH {
-            match ended.try_recv() {
-                Ok(more) => leases.extend(more),
-                Err(_) => break,
-            }
+            let Ok(more) = ended.try_recv() else { break };
+            leases.extend(more);
         }
         leases.sort_unstable();
         for piece in leases.chunks(BATCH) {
@@ -33,11 +31,8 @@ pub async fn run(worker: Arc<Worker>, mut ended: UnboundedReceiver<Vec<(i64, i32
 
 async fn expire(worker: &Worker, leases: &[(i64, i32)]) {
     let (ids, attempts): (Vec<i64>, Vec<i32>) = leases.iter().copied().unzip();
-    let rows = match worker
-        .links
-        .insist(sql::EXPIRE, &[&worker.number, &worker.partitions.terms(), &ids, &attempts, &worker.options.attempts])
-        .await
-    {
+    let (terms, most) = (worker.partitions.terms(), worker.options.attempts);
+    let rows = match worker.links.insist(sql::EXPIRE, &[&worker.number, &terms, &ids, &attempts, &most]).await {
         Ok(rows) => rows,
         Err(error) => {
             tell(format_args!("leases that have ended aren't written: {error}"));

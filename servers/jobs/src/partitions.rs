@@ -321,10 +321,8 @@ impl Partitions {
     pub fn note_out(&self, id: i64) -> Option<Waiting> {
         let mut partition = self.of_job(id);
         let held = partition.held.get_mut(&id)?;
-        let job = match held {
-            Held::Waiting { job, .. } => job.clone(),
-            _ => return None,
-        };
+        let Held::Waiting { job, .. } = held else { return None };
+        let job = job.clone();
         *held = Held::Out(job.clone());
         Some(job)
     }
@@ -342,10 +340,8 @@ impl Partitions {
             Some(Held::Out(job)) if self.clock.now() - job.due < most.as_micros() as i64 => job.clone(),
             _ => return false,
         };
-        match self.queue.insert(Due::Job(id), by) {
-            Ok(key) => partition.held.insert(id, Held::Waiting { key, job }).is_some(),
-            Err(_) => false,
-        }
+        let key = self.queue.insert(Due::Job(id), by);
+        key.is_ok_and(|key| partition.held.insert(id, Held::Waiting { key, job }).is_some())
     }
 
     /// The table has been asked about jobs that were out: they aren't held any more. Where one still waits, since not

@@ -139,10 +139,7 @@ impl Ready {
         let mut ready = self.enter();
         let mut taken = Vec::new();
         while taken.len() < count {
-            let (kind, place) = match ready.first(kinds) {
-                Some(first) => first,
-                None => break,
-            };
+            let Some((kind, place)) = ready.first(kinds) else { break };
             ready.remove(&kind, &place);
             if partitions.may_be_given(place.2, &kind) {
                 taken.push((place.2, kind));

@@ -231,10 +231,7 @@ pub fn set_until(client: &mut Client<'_>, words: Words<'_>, command: &'static st
 pub fn get_and_expire(client: &mut Client<'_>, words: Words<'_>) -> Answer {
     let options = Options::of_getex(&words[2..])?;
     change(client, words[1], |place| {
-        let value = match place.value() {
-            None => return Ok(Reply::Nil),
-            Some(value) => value.clone(),
-        };
+        let Some(value) = place.value().cloned() else { return Ok(Reply::Nil) };
         if options.is_endless {
             place.persist();
         } else if let Some(time) = &options.time {
