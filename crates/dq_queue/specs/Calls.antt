@@ -9,7 +9,10 @@ use Rattle.dq_core.specs.Core.{Core}
 use Rattle.dq_growing.specs.declared.cores.TakeError.{TakeError}
 use Rattle.dq_growing.specs.Cores.{InsertsIn, TakesIn, GivesDrained, NoneDrained}
 use Rattle.dq_growing.specs.Polls.{PollsRow, DoesPiece}
-use Rattle.dq_growing.specs.Store.{StoreState, RemovesFor, TellsFor, ResetsFor, piece_as, NotesAfter}
+use Rattle.dq_core.specs.declared.errors.ReapError.{ReapError}
+use Rattle.dq_growing.specs.declared.moving.Moved.{Moved}
+use Rattle.dq_growing.specs.declared.moving.NextDeadline.{NextDeadline}
+use Rattle.dq_growing.specs.Store.{StoreState, RemovesFor, TellsFor, ResetsFor, RelocatesFor, ReapsFor, piece_as, NotesAfter}
 use Rattle.dq_words.specs.Seats.{Sat}
 
 module _ {T : Type 0} where
@@ -53,9 +56,19 @@ module _ {T : Type 0} where
       IfSome r (λ c. GivesDrained s.cores c t.cores)
       × IfNone r (NoneDrained s.cores × (t.cores ≡ s.cores)) × (t.notes ≡ s.notes)
 
+  -- an entry goes on in the open core
+  abbrev pub StoreRelocates : EntryId → NextDeadline → Result (Moved T) CoreError × Option T →
+      StoreState T Sat → StoreState T Sat → Type 0
+  StoreRelocates id next r s t = RelocatesFor true s id next r t
+
+  -- a cancelled entry is freed
+  abbrev pub StoreReaps : EntryId → Result (Unit {0}) ReapError → StoreState T Sat →
+      StoreState T Sat → Type 0
+  StoreReaps id r s t = ReapsFor true s id r t
+
   -- one call took a store from one state to another
-  abbrev pub IsCall : StoreState T Sat → StoreState T Sat → Type 0
-  IsCall s t =
+  abbrev pub IsStoreCall : StoreState T Sat → StoreState T Sat → Type 0
+  IsStoreCall s t =
       ((v : T) × (when : ℕ) × (r : Result Key (CoreError × T) × Option T)
       × StoreInserts v when r s t)
       ⊎ (((id : EntryId) × (r : Result (Removed T) CoreError) × StoreRemoves id r s t)
@@ -66,4 +79,7 @@ module _ {T : Type 0} where
       × StorePollsSome tick most r s t)
       ⊎ (((c : Core T Sat) × (r : Result (Unit {0}) (TakeError × Core T Sat))
       × StoreTakesIn c r s t)
-      ⊎ ((r : Option (Core T Sat)) × StoreGives r s t))))))
+      ⊎ (((r : Option (Core T Sat)) × StoreGives r s t)
+      ⊎ (((id : EntryId) × (next : NextDeadline) × (r : Result (Moved T) CoreError × Option T)
+      × StoreRelocates id next r s t)
+      ⊎ ((id : EntryId) × (r : Result (Unit {0}) ReapError) × StoreReaps id r s t))))))))

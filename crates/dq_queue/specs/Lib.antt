@@ -1,3 +1,4 @@
 pub mod Calls
+pub mod Endings
 pub mod Shards
 pub mod Words

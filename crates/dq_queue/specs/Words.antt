@@ -37,15 +37,15 @@ RefusedSo Refused rows k e None =
 RefusedSo Refused rows k e (Some p) = IsPromise rows k p × Refused p.claim.thing e (Some p.receipt)
 
 -- a cancel is refused
-abbrev pub CancelRefused : List Named → KeyName → CallError → Option PromiseView → Type 0
-CancelRefused rows k e p = RefusedSo (λ o err r. OpenRefused o k err r) rows k e p
+abbrev pub QueueCancelRefused : List Named → KeyName → CallError → Option PromiseView → Type 0
+QueueCancelRefused rows k e p = RefusedSo (λ o err r. OpenRefused o k err r) rows k e p
 
 -- an extend is refused first by its deadline, which lies beyond the last tick, and then by the key
-abbrev pub ExtendRefused : List Named → KeyName → ℕ → CallError → Option PromiseView → Type 0
-ExtendRefused rows k when e p =
+abbrev pub QueueExtendRefused : List Named → KeyName → ℕ → CallError → Option PromiseView → Type 0
+QueueExtendRefused rows k when e p =
     ((e ≡ TooFar LAST_TICK) × (LAST_TICK < when) × (p ≡ None))
     ⊎ ((when ≤ LAST_TICK) × RefusedSo (λ o err r. OpenExtendRefused o k when err r) rows k e p)
 
 -- a look is refused
-abbrev pub LookRefused : List Named → KeyName → CallError → Option PromiseView → Type 0
-LookRefused rows k e p = RefusedSo (λ o err r. OpenLookRefused o k err r) rows k e p
+abbrev pub QueueLookRefused : List Named → KeyName → CallError → Option PromiseView → Type 0
+QueueLookRefused rows k e p = RefusedSo (λ o err r. OpenLookRefused o k err r) rows k e p

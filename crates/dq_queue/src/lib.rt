@@ -4,6 +4,7 @@
 //! Each shard has one history, for contracts: it has each call by name once.
 #![tactic(auto)]
 
+pub mod endings;
 mod making;
 mod queue;
 mod shard;

@@ -3,9 +3,10 @@ ghost use Rattle.std.specs.Prelude.{◌≡◌, ◌<◌, ◌≤◌, ◌^◌, vec_
 ghost use Rattle.std.specs.Sync.Mutex.{mutex_guard_value};
 ghost use Rattle.dq_queue.specs.declared.queue.QueueError.TheVariants.{Unknown};
 ghost use Rattle.dq_queue.specs.Calls.{StoreInserts, StoreRemoves, StoreResets, StoreTells, StorePollsSome};
-ghost use Rattle.dq_queue.specs.Shards.{Once};
+ghost use Rattle.dq_queue.specs.Shards.{MadeOnce};
 
 use crate::shard::{Caller, Rooms, Shard};
+use crate::words::QueueWords;
 use dq_core::{CoreError, Piece, Removed};
 use dq_ticks::{EntryId, Key};
 use std::alloc::{Allocator, Global};
@@ -26,6 +27,7 @@ pub enum QueueError {
 #[derive(Drop)]
 pub struct GrowingQueue<T, J: Rooms, A: Allocator = Global> {
     row: Vec<Mutex<Shard<T, J, A>>, A>,
+    words: QueueWords<J, A>,
 }
 
 impl<T, J: Rooms, A: Allocator> Model for GrowingQueue<T, J, A> {
@@ -39,12 +41,23 @@ impl<T, J: Rooms, A: Allocator> Model for GrowingQueue<T, J, A> {
 }
 
 impl<T, J: Rooms, A: Allocator> GrowingQueue<T, J, A> {
-    /// A queue of these shards, as many as are named, of which each stands at the place of its number.
-    pub fn of(row: Vec<Mutex<Shard<T, J, A>>, A>) -> GrowingQueue<T, J, A>
+    /// A queue of these shards, as many as are named, of which each stands at the place of its number, and of the words of
+    /// its cores.
+    pub fn of(row: Vec<Mutex<Shard<T, J, A>>, A>, words: QueueWords<J, A>) -> GrowingQueue<T, J, A>
         requires { vec_len row ≡ J.shards }
         ensures { result ≡ vec_len row }
     {
-        GrowingQueue { row }
+        GrowingQueue { row, words }
+    }
+
+    /// The words of the queue's cores, by which any thread extends and cancels entries, and looks at them, without a lock.
+    #[inline]
+    pub fn words(&self) -> &QueueWords<J, A>
+        ensures { result.now ≡ J.rows }
+    {
+        let words = &self.words;
+        words.law();
+        words
     }
 
     /// Returns how many shards there are.
@@ -136,7 +149,7 @@ impl<T, J: Rooms, A: Allocator + Clone> GrowingQueue<T, J, A> {
         value: T,
         when: u64,
     ) -> (Result<Key, (CoreError, T)>, Option<T>)
-        ensures once { Once me.old (λ s t. StoreInserts value when result s t) me.new }
+        ensures once { MadeOnce me.old (λ s t. StoreInserts value when result s t) me.new }
     {
         let mut shard = self.locked_for(rt, me);
         let answer = shard.insert(me, value, when);
@@ -157,7 +170,7 @@ impl<T, J: Rooms, A: Allocator + Clone> GrowingQueue<T, J, A> {
         me: &mut Caller<T, J, A>,
         entry: &EntryId,
     ) -> Result<Removed<T>, CoreError>
-        ensures once { Once me.old (λ s t. StoreRemoves entry.now result s t) me.new }
+        ensures once { MadeOnce me.old (λ s t. StoreRemoves entry.now result s t) me.new }
     {
         let mut shard = self.locked_for(rt, me);
         let answer = shard.remove(me, entry);
@@ -184,7 +197,7 @@ impl<T, J: Rooms, A: Allocator + Clone> GrowingQueue<T, J, A> {
         entry: &EntryId,
         when: u64,
     ) -> (Result<Key, CoreError>, Option<T>)
-        ensures once { Once me.old (λ s t. StoreResets entry.now when result s t) me.new }
+        ensures once { MadeOnce me.old (λ s t. StoreResets entry.now when result s t) me.new }
     {
         let mut shard = self.locked_for(rt, me);
         let answer = shard.reset(me, entry, when);
@@ -205,7 +218,7 @@ impl<T, J: Rooms, A: Allocator + Clone> GrowingQueue<T, J, A> {
         me: &mut Caller<T, J, A>,
         entry: &EntryId,
     ) -> Result<u64, CoreError>
-        ensures once { Once me.old (λ s t. StoreTells entry.now result s t) me.new }
+        ensures once { MadeOnce me.old (λ s t. StoreTells entry.now result s t) me.new }
     {
         let mut shard = self.locked_for(rt, me);
         let answer = shard.deadline(me, entry);
@@ -227,7 +240,7 @@ impl<T, J: Rooms, A: Allocator + Clone> GrowingQueue<T, J, A> {
         tick: u64,
         most: u32,
     ) -> Result<Piece<T>, CoreError>
-        ensures once { Once me.old (λ s t. StorePollsSome tick most result s t) me.new }
+        ensures once { MadeOnce me.old (λ s t. StorePollsSome tick most result s t) me.new }
     {
         let mut shard = self.locked_for(rt, me);
         let answer = shard.poll_some(me, tick, most);

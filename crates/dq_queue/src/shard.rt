@@ -1,34 +1,39 @@
 //! What lies behind a shard's lock, and the calls that callers make of it there: each is entered once in the shard's history.
-ghost use Rattle.std.specs.Prelude.{◌≡◌, ◌<◌, ◌+◌, IfOk, IfErr, IfSome, IfNone, OnErr};
+ghost use Rattle.std.specs.Prelude.{◌≡◌, ◌<◌, ◌+◌, [], IfOk, IfErr, IfSome, IfNone, OnErr};
 ghost use Rattle.dq_journal.specs.Once.{IsTold};
 ghost use Rattle.dq_journal.specs.Views.{first_witness, new_witness};
 ghost use Rattle.dq_growing.specs.Store.{IsStore};
 ghost use Rattle.dq_queue.specs.Calls.{StoreInserts, StoreRemoves, StoreResets, StoreTells, StorePollsSome};
-ghost use Rattle.dq_queue.specs.Calls.{StoreTakesIn, StoreGives};
-ghost use Rattle.dq_queue.specs.Shards.{Once, OneMore, IsHistory, no_table};
+ghost use Rattle.dq_queue.specs.Calls.{StoreTakesIn, StoreGives, StoreRelocates, StoreReaps};
+ghost use Rattle.dq_queue.specs.Shards.{MadeOnce, OneMore, IsStoreHistory, unnamed};
 
-use dq_core::{CoreError, DelayCore, Piece, Removed};
-use dq_growing::{Store, TakeError};
+use dq_core::{CoreError, DelayCore, Piece, ReapError, Removed};
+use dq_growing::{Moved, NextDeadline, Store, TakeError};
 use dq_journal::Witness;
 use dq_ticks::{EntryId, Key};
 use dq_words::Keeper;
 use std::alloc::{AllocError, Allocator, Global};
 use std::marker::{Brand, Model, PhantomData};
 
-/// Names a queue: how many shards it has and, of each by its number, the history.
+/// Names a queue: how many shards it has and, of each by its number, the history; and the directory of its cores' words.
 pub trait Rooms {
-    ghost use Rattle.std.specs.Prelude.{ℕ};
+    ghost use Rattle.std.specs.Prelude.{ℕ, List};
     ghost use Rattle.atomic_table.specs.Seated.{TableId};
+    ghost use Rattle.boxcar.specs.Slot.{Named};
 
     ghost shards: { ℕ };
 
     ghost history: { ℕ → TableId };
+
+    ghost rows: { List Named };
 }
 
 impl Rooms for Brand {
     ghost shards = { 0 };
 
-    ghost history = { λ _. no_table };
+    ghost history = { λ _. unnamed };
+
+    ghost rows = { [] };
 }
 
 /// A shard's number, and its store.
@@ -137,6 +142,32 @@ impl<T, A: Allocator + Clone> Held<T, A> {
         self.store.law();
         answer
     }
+
+    fn relocate(
+        &mut self,
+        entry: &EntryId,
+        next: NextDeadline,
+    ) -> (Result<Moved<T>, CoreError>, Option<T>)
+        ensures number { self.new.number ≡ self.old.number }
+        ensures stores { IsStore self.old.store × IsStore self.new.store }
+        ensures relocates { StoreRelocates entry.now next result self.old.store self.new.store }
+    {
+        self.store.law();
+        let answer = self.store.relocate(entry, next);
+        self.store.law();
+        answer
+    }
+
+    fn reap(&mut self, entry: &EntryId) -> Result<(), ReapError>
+        ensures number { self.new.number ≡ self.old.number }
+        ensures stores { IsStore self.old.store × IsStore self.new.store }
+        ensures reaps { StoreReaps entry.now result self.old.store self.new.store }
+    {
+        self.store.law();
+        let answer = self.store.reap(entry);
+        self.store.law();
+        answer
+    }
 }
 
 /// A shard, whose history is that which its number names.
@@ -150,15 +181,15 @@ pub struct Shard<T, J: Rooms, A: Allocator = Global> {
 impl<T, J: Rooms, A: Allocator> Model for Shard<T, J, A> {
     ghost use Rattle.std.specs.Prelude.{◌≡◌, ◌<◌};
     ghost use Rattle.dq_journal.specs.Once.{IsUnderLock};
-    ghost use Rattle.dq_queue.specs.Shards.{ShardView, Follows, IsHistory};
+    ghost use Rattle.dq_queue.specs.Shards.{HeldShard, IsAsLeft, IsStoreHistory};
 
-    ghost Value = { ShardView T };
+    ghost Value = { HeldShard T };
 
     ghost view = { λ s. record { held = s.held; history = s.history.view } };
 
     ghost invariant = { λ s. (s.held.number < J.shards)
         × (s.history.table ≡ J.history s.held.number) × IsUnderLock s.history.view
-        × Follows s.history.view.log s.held × IsHistory s.history.view.log };
+        × IsAsLeft s.history.view.log s.held × IsStoreHistory s.history.view.log };
 }
 
 /// A caller of one shard, in any thread.
@@ -243,7 +274,7 @@ impl<T, J: Rooms, A: Allocator> Shard<T, J, A> {
     pub fn tell(&mut self, me: &mut Caller<T, J, A>)
         requires { me.old.shard ≡ self.old.held.number }
         ensures told { IsTold self.old.history me.old.history me.new.history }
-        ensures history { IsHistory self.old.history.log }
+        ensures history { IsStoreHistory self.old.history.log }
         ensures same { (me.new.shard ≡ me.old.shard) × (self.new.held ≡ self.old.held)
             × (self.new.history.log ≡ self.old.history.log) }
     {
@@ -267,7 +298,7 @@ impl<T, J: Rooms, A: Allocator + Clone> Shard<T, J, A> {
         when: u64,
     ) -> (Result<Key, (CoreError, T)>, Option<T>)
         requires { me.old.shard ≡ self.old.held.number }
-        ensures once { Once me.old (λ s t. StoreInserts value when result s t) me.new }
+        ensures once { MadeOnce me.old (λ s t. StoreInserts value when result s t) me.new }
         ensures one_more { OneMore self.old me.old self.new }
         ensures inserts { StoreInserts value when result self.old.held.store self.new.held.store }
         ensures number { self.new.held.number ≡ self.old.held.number }
@@ -290,7 +321,7 @@ impl<T, J: Rooms, A: Allocator + Clone> Shard<T, J, A> {
         entry: &EntryId,
     ) -> Result<Removed<T>, CoreError>
         requires { me.old.shard ≡ self.old.held.number }
-        ensures once { Once me.old (λ s t. StoreRemoves entry.now result s t) me.new }
+        ensures once { MadeOnce me.old (λ s t. StoreRemoves entry.now result s t) me.new }
         ensures one_more { OneMore self.old me.old self.new }
         ensures removes { StoreRemoves entry.now result self.old.held.store self.new.held.store }
         ensures number { self.new.held.number ≡ self.old.held.number }
@@ -318,7 +349,7 @@ impl<T, J: Rooms, A: Allocator + Clone> Shard<T, J, A> {
         when: u64,
     ) -> (Result<Key, CoreError>, Option<T>)
         requires { me.old.shard ≡ self.old.held.number }
-        ensures once { Once me.old (λ s t. StoreResets entry.now when result s t) me.new }
+        ensures once { MadeOnce me.old (λ s t. StoreResets entry.now when result s t) me.new }
         ensures one_more { OneMore self.old me.old self.new }
         ensures resets { StoreResets entry.now when result self.old.held.store self.new.held.store }
         ensures number { self.new.held.number ≡ self.old.held.number }
@@ -336,7 +367,7 @@ impl<T, J: Rooms, A: Allocator + Clone> Shard<T, J, A> {
     /// - `WasCancelled` if the entry was cancelled.
     pub fn deadline(&mut self, me: &mut Caller<T, J, A>, entry: &EntryId) -> Result<u64, CoreError>
         requires { me.old.shard ≡ self.old.held.number }
-        ensures once { Once me.old (λ s t. StoreTells entry.now result s t) me.new }
+        ensures once { MadeOnce me.old (λ s t. StoreTells entry.now result s t) me.new }
         ensures one_more { OneMore self.old me.old self.new }
         ensures tells { StoreTells entry.now result self.old.held.store self.new.held.store }
         ensures number { self.new.held.number ≡ self.old.held.number }
@@ -359,7 +390,7 @@ impl<T, J: Rooms, A: Allocator + Clone> Shard<T, J, A> {
         most: u32,
     ) -> Result<Piece<T>, CoreError>
         requires { me.old.shard ≡ self.old.held.number }
-        ensures once { Once me.old (λ s t. StorePollsSome tick most result s t) me.new }
+        ensures once { MadeOnce me.old (λ s t. StorePollsSome tick most result s t) me.new }
         ensures one_more { OneMore self.old me.old self.new }
         ensures polls { StorePollsSome tick most result self.old.held.store self.new.held.store }
         ensures number { self.new.held.number ≡ self.old.held.number }
@@ -384,7 +415,7 @@ impl<T, J: Rooms, A: Allocator + Clone> Shard<T, J, A> {
         core: DelayCore<T, Keeper<A>, A>,
     ) -> Result<(), (TakeError, DelayCore<T, Keeper<A>, A>)>
         requires { me.old.shard ≡ self.old.held.number }
-        ensures once { Once me.old (λ s t. StoreTakesIn core result s t) me.new }
+        ensures once { MadeOnce me.old (λ s t. StoreTakesIn core result s t) me.new }
         ensures one_more { OneMore self.old me.old self.new }
         ensures takes { StoreTakesIn core result self.old.held.store self.new.held.store }
         ensures number { self.new.held.number ≡ self.old.held.number }
@@ -398,12 +429,57 @@ impl<T, J: Rooms, A: Allocator + Clone> Shard<T, J, A> {
     /// drop.
     pub fn take_drained(&mut self, me: &mut Caller<T, J, A>) -> Option<DelayCore<T, Keeper<A>, A>>
         requires { me.old.shard ≡ self.old.held.number }
-        ensures once { Once me.old (λ s t. StoreGives result s t) me.new }
+        ensures once { MadeOnce me.old (λ s t. StoreGives result s t) me.new }
         ensures one_more { OneMore self.old me.old self.new }
         ensures gives { StoreGives result self.old.held.store self.new.held.store }
         ensures number { self.new.held.number ≡ self.old.held.number }
     {
         let answer = self.held.take_drained();
+        self.history.enter_for(&mut me.history, &self.held);
+        answer
+    }
+
+    /// Takes a live entry out of its core and puts it into the open one, with its value and with the deadline that `next`
+    /// makes of the one that it has as it is taken out. The entry keeps its id. No value is dropped: one that waits for
+    /// its drop in the slot that the entry takes comes out beside the answer. Constant time in each core, and memory for
+    /// one note is taken.
+    ///
+    /// # Errors
+    /// Nothing is taken out. In this order:
+    /// - `NoMemory` if memory for the note is refused.
+    /// - `TooFar` if a deadline is asked for that is beyond the last tick.
+    /// - `Full` if no core is open, or the open one has no free slot.
+    /// - `Missing` if the entry isn't in the shard any more, or never was.
+    /// - `WasCancelled` if the entry was cancelled.
+    pub fn relocate(
+        &mut self,
+        me: &mut Caller<T, J, A>,
+        entry: &EntryId,
+        next: NextDeadline,
+    ) -> (Result<Moved<T>, CoreError>, Option<T>)
+        requires { me.old.shard ≡ self.old.held.number }
+        ensures once { MadeOnce me.old (λ s t. StoreRelocates entry.now next result s t) me.new }
+        ensures one_more { OneMore self.old me.old self.new }
+        ensures relocates { StoreRelocates entry.now next result self.old.held.store self.new.held.store }
+        ensures number { self.new.held.number ≡ self.old.held.number }
+    {
+        let answer = self.held.relocate(entry, next);
+        self.history.enter_for(&mut me.history, &self.held);
+        answer
+    }
+
+    /// Frees the entry of that id where it is found cancelled. Its value isn't dropped: it waits until it is taken out.
+    ///
+    /// # Errors
+    /// `Missing` where no entry of that id is linked; `Live` where it is found live.
+    pub fn reap(&mut self, me: &mut Caller<T, J, A>, entry: &EntryId) -> Result<(), ReapError>
+        requires { me.old.shard ≡ self.old.held.number }
+        ensures once { MadeOnce me.old (λ s t. StoreReaps entry.now result s t) me.new }
+        ensures one_more { OneMore self.old me.old self.new }
+        ensures reaps { StoreReaps entry.now result self.old.held.store self.new.held.store }
+        ensures number { self.new.held.number ≡ self.old.held.number }
+    {
+        let answer = self.held.reap(entry);
         self.history.enter_for(&mut me.history, &self.held);
         answer
     }

@@ -3,49 +3,54 @@ ghost use Rattle.std.specs.Prelude.{◌≡◌, ◌≤◌, IfErr, IfOk};
 ghost use Rattle.dq_ticks.specs.declared.TheConstants.{LAST_TICK};
 ghost use Rattle.dq_words.specs.OpenCalls.{ShowsCancel, ShowsExtend, ShowsLook};
 ghost use Rattle.dq_words.specs.Together.{CancelsCover};
-ghost use Rattle.dq_queue.specs.Words.{IsPromise, IsPromiseOf, ExtendRefused, CancelRefused, LookRefused};
+ghost use Rattle.dq_queue.specs.Words.{IsPromise, QueueExtendRefused, QueueCancelRefused, QueueLookRefused};
 
+use crate::shard::Rooms;
 use dq_core::{CallError, Look};
 use dq_directory::{Claim, Directory};
 use dq_ticks::{Key, LAST_TICK};
 use dq_words::{OpenWords, Receipt};
 use std::alloc::{AllocError, Allocator, Global};
-use std::marker::Model;
+use std::marker::{Model, PhantomData};
 
 /// The words of a queue's cores, by the cores' numbers. Whoever shares them has the same ones.
 #[derive(Drop)]
-pub struct QueueWords<A: Allocator = Global> {
+pub struct QueueWords<J: Rooms, A: Allocator = Global> {
     directory: Directory<OpenWords<A>, A>,
+    rooms: PhantomData<J>,
 }
 
-impl<A: Allocator> Model for QueueWords<A> {
-    ghost use Rattle.std.specs.Prelude.{List};
+impl<J: Rooms, A: Allocator> Model for QueueWords<J, A> {
+    ghost use Rattle.std.specs.Prelude.{◌≡◌, List};
     ghost use Rattle.boxcar.specs.Slot.{Named};
 
     ghost Value = { List Named };
 
     ghost view = { λ w. w.directory };
+
+    ghost invariant = { λ w. w.directory ≡ J.rows };
 }
 
 /// What shows a call by a queue's words: the receipt of the call, and that the words are those of the number.
 #[derive(Drop)]
-pub struct Promise<A: Allocator = Global> {
+pub struct Promise<J: Rooms, A: Allocator = Global> {
     receipt: Receipt,
     claim: Claim<OpenWords<A>, A>,
+    rooms: PhantomData<J>,
 }
 
-impl<A: Allocator> Model for Promise<A> {
-    ghost use Rattle.std.specs.Prelude.{◌≡◌};
-    ghost use Rattle.dq_queue.specs.Words.{PromiseView};
+impl<J: Rooms, A: Allocator> Model for Promise<J, A> {
+    ghost use Rattle.dq_queue.specs.Words.{PromiseView, IsPromiseOf};
 
     ghost Value = { PromiseView };
 
     ghost view = { λ p. record { receipt = p.receipt; claim = p.claim } };
 
-    ghost invariant = { λ p. p.receipt.table ≡ p.claim.thing.table };
+    ghost invariant = { λ p.
+        IsPromiseOf J.rows (record { receipt = p.receipt; claim = p.claim }) };
 }
 
-impl<A: Allocator> Promise<A> {
+impl<J: Rooms, A: Allocator> Promise<J, A> {
     /// Returns the number of the core on whose words the call was made.
     pub fn number(&self) -> u32
         ensures { result ≡ self.now.claim.number }
@@ -54,23 +59,35 @@ impl<A: Allocator> Promise<A> {
     }
 }
 
-impl<A: Allocator> QueueWords<A> {
-    /// The words that this directory has.
-    pub fn of(directory: Directory<OpenWords<A>, A>) -> QueueWords<A>
-        ensures { result ≡ directory }
+impl<J: Rooms, A: Allocator> QueueWords<J, A> {
+    /// The words of the directory that is named.
+    pub fn of(directory: Directory<OpenWords<A>, A>) -> QueueWords<J, A>
+        requires { directory ≡ J.rows }
+        ensures { result ≡ J.rows }
     {
-        QueueWords { directory }
+        QueueWords {
+            directory,
+            rooms: PhantomData,
+        }
+    }
+
+    /// They are those of the directory that is named. The call does nothing, and is for proofs.
+    pub fn law(&self)
+        ensures { self.now ≡ J.rows }
+    {
+        let _ = &self.directory;
     }
 
     /// The same words, for another thread.
     ///
     /// # Errors
     /// If the directory has too many holders.
-    pub fn share(&self) -> Result<QueueWords<A>, AllocError>
+    pub fn share(&self) -> Result<QueueWords<J, A>, AllocError>
         ensures { IfOk result (λ w. w ≡ self.now) }
     {
         Ok(QueueWords {
             directory: self.directory.share()?,
+            rooms: PhantomData,
         })
     }
 
@@ -88,15 +105,15 @@ impl<A: Allocator> QueueWords<A> {
         &self,
         key: &Key,
         when: u64,
-    ) -> Result<(u64, Promise<A>), (CallError, Option<Promise<A>>)>
+    ) -> Result<(u64, Promise<J, A>), (CallError, Option<Promise<J, A>>)>
         // Accepted: the words of the key's core show it, with the word live at the answer.
         ensures accepted { IfOk result (λ r. (when ≤ r.0) × (r.0 ≤ LAST_TICK)) }
-        ensures of { IfOk result (λ r. IsPromise self.now key.now r.1) }
+        ensures of { IfOk result (λ r. IsPromise J.rows key.now r.1) }
         ensures shows { IfOk result
             (λ r. ShowsExtend r.1.claim.thing key.now when r.0 r.1.receipt) }
 
         // Refused: exactly by the deadline, by the key, or by the word that the receipt shows.
-        ensures refused { IfErr result (λ e. ExtendRefused self.now key.now when e.0 e.1) }
+        ensures refused { IfErr result (λ e. QueueExtendRefused J.rows key.now when e.0 e.1) }
     {
         if when > LAST_TICK {
             return Err((CallError::TooFar { limit: LAST_TICK }, None));
@@ -105,8 +122,22 @@ impl<A: Allocator> QueueWords<A> {
             return Err((CallError::Unknown, None));
         };
         match words.extend(key, when) {
-            Ok((deadline, receipt)) => Ok((deadline, Promise { receipt, claim })),
-            Err((error, Some(receipt))) => Err((error, Some(Promise { receipt, claim }))),
+            Ok((deadline, receipt)) => Ok((
+                deadline,
+                Promise {
+                    receipt,
+                    claim,
+                    rooms: PhantomData,
+                },
+            )),
+            Err((error, Some(receipt))) => Err((
+                error,
+                Some(Promise {
+                    receipt,
+                    claim,
+                    rooms: PhantomData,
+                }),
+            )),
             Err((error, None)) => Err((error, None)),
         }
     }
@@ -120,21 +151,38 @@ impl<A: Allocator> QueueWords<A> {
     /// - `Unknown` if no core has the key's number, or no slot has the key.
     /// - `Stale` if the slot has a later stamp: the entry was reset, or the slot has another entry.
     /// - `Ended` if the entry came out, was removed or moved away, or was cancelled. It tells which.
-    pub fn cancel(&self, key: &Key) -> Result<(u64, Promise<A>), (CallError, Option<Promise<A>>)>
+    pub fn cancel(
+        &self,
+        key: &Key,
+    ) -> Result<(u64, Promise<J, A>), (CallError, Option<Promise<J, A>>)>
         // Accepted: the words of the key's core show it, with the word cancelled.
         ensures accepted { IfOk result (λ r. r.0 ≤ LAST_TICK) }
-        ensures of { IfOk result (λ r. IsPromise self.now key.now r.1) }
+        ensures of { IfOk result (λ r. IsPromise J.rows key.now r.1) }
         ensures shows { IfOk result (λ r. ShowsCancel r.1.claim.thing key.now r.0 r.1.receipt) }
 
         // Refused: exactly by the key, or by the word that the receipt shows.
-        ensures refused { IfErr result (λ e. CancelRefused self.now key.now e.0 e.1) }
+        ensures refused { IfErr result (λ e. QueueCancelRefused J.rows key.now e.0 e.1) }
     {
         let Some((words, claim)) = self.directory.get(key.entry().shard()) else {
             return Err((CallError::Unknown, None));
         };
         match words.cancel(key) {
-            Ok((given_up, receipt)) => Ok((given_up, Promise { receipt, claim })),
-            Err((error, Some(receipt))) => Err((error, Some(Promise { receipt, claim }))),
+            Ok((given_up, receipt)) => Ok((
+                given_up,
+                Promise {
+                    receipt,
+                    claim,
+                    rooms: PhantomData,
+                },
+            )),
+            Err((error, Some(receipt))) => Err((
+                error,
+                Some(Promise {
+                    receipt,
+                    claim,
+                    rooms: PhantomData,
+                }),
+            )),
             Err((error, None)) => Err((error, None)),
         }
     }
@@ -146,29 +194,44 @@ impl<A: Allocator> QueueWords<A> {
     /// In this order:
     /// - `Unknown` if no core has the key's number, or no slot has the key.
     /// - `Stale` if the slot has a later stamp: the entry was reset, or the slot has another entry.
-    pub fn look(&self, key: &Key) -> Result<(Look, Promise<A>), (CallError, Option<Promise<A>>)>
+    pub fn look(
+        &self,
+        key: &Key,
+    ) -> Result<(Look, Promise<J, A>), (CallError, Option<Promise<J, A>>)>
         // Shown: a load of the words of the key's core saw it.
-        ensures of { IfOk result (λ r. IsPromise self.now key.now r.1) }
+        ensures of { IfOk result (λ r. IsPromise J.rows key.now r.1) }
         ensures shows { IfOk result (λ r. ShowsLook r.1.claim.thing key.now r.0 r.1.receipt) }
 
         // Refused: exactly by the key, or by the word that the receipt shows, and not where it has ended.
-        ensures refused { IfErr result (λ e. LookRefused self.now key.now e.0 e.1) }
+        ensures refused { IfErr result (λ e. QueueLookRefused J.rows key.now e.0 e.1) }
     {
         let Some((words, claim)) = self.directory.get(key.entry().shard()) else {
             return Err((CallError::Unknown, None));
         };
         match words.look(key) {
-            Ok((shown, receipt)) => Ok((shown, Promise { receipt, claim })),
-            Err((error, Some(receipt))) => Err((error, Some(Promise { receipt, claim }))),
+            Ok((shown, receipt)) => Ok((
+                shown,
+                Promise {
+                    receipt,
+                    claim,
+                    rooms: PhantomData,
+                },
+            )),
+            Err((error, Some(receipt))) => Err((
+                error,
+                Some(Promise {
+                    receipt,
+                    claim,
+                    rooms: PhantomData,
+                }),
+            )),
             Err((error, None)) => Err((error, None)),
         }
     }
 
     /// What two calls on the words of one core tell together, of whatever threads. One of them is used up, so that they
     /// aren't the same one.
-    pub fn compare(&self, one: &mut Promise<A>, other: Promise<A>)
-        requires one { IsPromiseOf self.now one.old }
-        requires other { IsPromiseOf self.now other }
+    pub fn compare(&self, one: &mut Promise<J, A>, other: Promise<J, A>)
         requires number { one.old.claim.number ≡ other.claim.number }
         // Where one of them cancelled, the other was promised no later deadline, and didn't cancel too.
         ensures cancelled { CancelsCover one.old.receipt.view other.receipt.view
@@ -177,7 +240,11 @@ impl<A: Allocator> QueueWords<A> {
     {
         self.directory.agree(&one.claim, &other.claim);
         let words = self.directory.thing(&one.claim);
-        let Promise { receipt, claim: _ } = other;
+        let Promise {
+            receipt,
+            claim: _,
+            rooms: _,
+        } = other;
         words.compare(&mut one.receipt, receipt);
     }
 }

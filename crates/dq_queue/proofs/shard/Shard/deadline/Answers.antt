@@ -1,14 +1,14 @@
 use Rattle.std.proofs.Common.{sym, ap, ◌∙◌, inl, inr}
 use Rattle.dq_growing.specs.Store.{StoreState}
 use Rattle.dq_words.specs.Seats.{Sat}
-use Rattle.dq_queue.specs.Calls.{StoreTells, IsCall}
-use Rattle.dq_queue.specs.Shards.{CallerView, ShardView}
+use Rattle.dq_queue.specs.Calls.{StoreTells, IsStoreCall}
+use Rattle.dq_queue.specs.Shards.{CallerView, HeldShard}
 use Rattle.dq_queue.proofs.Histories.{once, one_name, stays}
 use Rattle.dq_queue.proofs.shard.Shard.deadline.Goals as goal
 
 pub enter_for-requires-clause-table : goal.enter_for-requires-clause-table
 enter_for-requires-clause-table g c =
-    let at = ap (λ (s : ShardView _). s.held.number) c.self.view_is ∙ (sym c.requires ∙ sym (ap (λ (v : CallerView _). v.shard) c.me.view_is)) in
+    let at = ap (λ (s : HeldShard _). s.held.number) c.self.view_is ∙ (sym c.requires ∙ sym (ap (λ (v : CallerView _). v.shard) c.me.view_is)) in
     let made = c.deadline-answer in
     one_name g.J.Rooms.history c.self.inside.history.table c.me.inside.history.table _ _ c.self.invariant.1 c.me.invariant.1 at
 
@@ -16,7 +16,7 @@ pub invariant_of-self : goal.invariant_of-self
 invariant_of-self g c =
     let made = c.deadline-answer in
     let e = c.enter_for.ensures in
-    let call : IsCall c.self.inside.held.store made.new.self.store = inr (inr (inr (inl (c.args.entry.now, made.result, made.ensures.tells)))) in
+    let call : IsStoreCall c.self.inside.held.store made.new.self.store = inr (inr (inr (inl (c.args.entry.now, made.result, made.ensures.tells)))) in
     stays g.J.Rooms.shards g.J.Rooms.history _ _ c.self.inside.history.view c.me.inside.history.view c.enter_for.new.caller.view c.enter_for.new.self.view
     c.self.inside.held made.new.self c.self.invariant made.ensures.number call e.once e.log e.tables.0 e.keeper
 
@@ -25,7 +25,7 @@ returns-clause-once g c =
     let s = c.self.invariant in
     let made = c.deadline-answer in
     let gives : StoreState _ Sat → StoreState _ Sat → Type 0 = λ s t. StoreTells c.args.entry.now made.result s t in
-    let call : IsCall c.self.inside.held.store made.new.self.store = inr (inr (inr (inl (c.args.entry.now, made.result, made.ensures.tells)))) in
-    let at = ap (λ (s : ShardView _). s.held.number) c.self.view_is ∙ (sym c.requires ∙ sym (ap (λ (v : CallerView _). v.shard) c.me.view_is)) in
+    let call : IsStoreCall c.self.inside.held.store made.new.self.store = inr (inr (inr (inl (c.args.entry.now, made.result, made.ensures.tells)))) in
+    let at = ap (λ (s : HeldShard _). s.held.number) c.self.view_is ∙ (sym c.requires ∙ sym (ap (λ (v : CallerView _). v.shard) c.me.view_is)) in
     once gives c.self.inside.history.view c.me.inside.history.view c.enter_for.new.caller.view c.me.inside.shard _ c.self.inside.held made.new.self c.me.view_is
     c.enter_for.ensures.once s.3 at made.ensures.number made.ensures.stores.0 made.ensures.stores.1 made.ensures.tells call s.4

@@ -1,0 +1,241 @@
+-- What a store's answers say of the true words.
+use Rattle.std.proofs.Common.{true, false, ◌≡◌, ◌⊎◌, ℕ, zero, suc, ◌+◌, ◌<◌, ◌≤◌, Bool, List, [], ◌∷◌, length, get_or, set, min, sym, refl, ap, ◌∙◌, subst, inl, inr, ⊎_elim, length-set, get_or-set_same, arith, nat_lt, nat_eq, if◌then◌else◌, Option, Some, None, Result, Ok, Err, IfOk}
+use Rattle.atomic_table.specs.Table.{State}
+use mathlib.Core.Option.{some, some-injective, some-ne-none}
+use lib.ListN.{get_elem?}
+use Rattle.dq_ticks.specs.declared.keys.Key.{Key}
+use Rattle.dq_ticks.specs.declared.words.Parts.{Parts}
+use Rattle.dq_ticks.specs.Word.{word, stamp_of, mark_of, field_of, mark_number, mark_by, packed, parts_of}
+use Rattle.dq_core.specs.Words.{never, word_at, expired}
+use Rattle.dq_core.specs.Slots.{Row}
+use Rattle.dq_core.specs.declared.errors.CoreError.{CoreError}
+use Rattle.dq_core.specs.declared.outcomes.Expired.{Expired}
+use Rattle.dq_core.specs.declared.outcomes.Turn.TheVariants.{Out, Waiting, Idle}
+use Rattle.dq_core.specs.declared.outcomes.Piece.{Piece}
+use Rattle.dq_core.specs.declared.outcomes.Piece.TheVariants.{Answer, Working}
+use Rattle.dq_core.specs.Core.{Core, table_of, machine}
+use Rattle.dq_core.specs.Calls.{IsTurn, TurnRow, noting, Inserts}
+use Rattle.dq_core.specs.Machine.{Machine, RunOf, IsOnTheWay, table_at}
+use Rattle.dq_growing.specs.Cores.{CoreRow, IsCoreAt, OnCoreAt, InsertsBeside, IsClosed, closed_error}
+use Rattle.dq_growing.specs.Notes.{user_at}
+use Rattle.dq_growing.specs.Polls.{PollsRow, PollsCore, DoesPiece, IfPieceOut, noting_in, told}
+use Rattle.dq_growing.specs.Store.{StoreState, expired_as, piece_as}
+use Rattle.dq_words.specs.declared.views.View.{View}
+use Rattle.dq_words.specs.declared.views.Write.{Write}
+use Rattle.dq_words.specs.Word.{parts_row}
+use Rattle.dq_words.specs.Files.{file, IsIn, Among, ends_at, keeper_writes}
+use Rattle.dq_words.specs.Rule.{Ruled, Had, HadAt}
+use Rattle.dq_words.specs.Endings.{StampsEndOnce, EndsAreInForce}
+use Rattle.dq_words.specs.Seats.{Sat}
+use Rattle.dq_queue.specs.Endings.{InEachTable, EndsInForce, WasGivenOnce, IsKeptCore, CameInForce, KeepsWhatItShowed, CameOutOf, StoreOutsAreInForce, StoreInsertsAreGiven}
+
+-- words and parts
+
+mark_number_by : (m : ℕ) → m < 4 → mark_number (mark_by m) ≡ m
+mark_number_by zero h = refl
+mark_number_by (suc zero) h = refl
+mark_number_by (suc (suc zero)) h = refl
+mark_number_by (suc (suc (suc zero))) h = refl
+mark_number_by (suc (suc (suc (suc m)))) h = absurd (omega arith)
+
+packed_parts : (n : ℕ) → packed (parts_of n) ≡ n
+packed_parts n =
+    let mark = mark_number_by (mark_of n) (omega arith) in
+    let whole : packed (parts_of n) ≡ word (stamp_of n) (mark_of n) (field_of n) =
+    ap (λ m. word (stamp_of n) m (field_of n)) mark in
+    omega arith
+
+row_at : (xs : List ℕ) (i : ℕ) → word_at (parts_row xs) i ≡ parts_of (get_or xs i 0)
+row_at [] i = refl
+row_at (x ∷ xs) zero = refl
+row_at (x ∷ xs) (suc i) = row_at xs i
+
+length_row : (xs : List ℕ) → length (parts_row xs) ≡ length xs
+length_row [] = refl
+length_row (x ∷ xs) = ap suc (length_row xs)
+
+-- the seen word behind what is known of it
+seen_word : (known old : List Parts) (seen : List ℕ) (i : ℕ) (p : Parts)
+    → known ≡ parts_row seen → known ≡ set old i p → i < length old → get_or seen i 0 ≡ packed p
+seen_word known old seen i p is new inside =
+    let at : word_at known i ≡ p = rw new (get_or-set_same old i p never inside) in
+    let here : parts_of (get_or seen i 0) ≡ p = sym (row_at seen i) ∙ ap (λ ws. word_at ws i) (sym is) ∙ at in
+    sym (packed_parts (get_or seen i 0)) ∙ ap packed here
+
+length_table : {T : Type 0} (rows : List (Row T)) (known : List Parts) → length (table_of rows known) ≤ length known
+length_table [] known = omega arith
+length_table (r ∷ rows) [] = omega arith
+length_table (r ∷ rows) (w ∷ known) = omega (arith, length_table rows known)
+
+-- a slot that has had an expired word was ended so
+had_expired : (n s d i : ℕ) (views : List View) → n ≡ word s 2 d → d ≤ 4398046511103
+    → Had n i views → IsIn (file i s views).ends (2, d)
+had_expired n s d i views is small = ⊎_elim
+    (λ (never_used : n ≡ 0). absurd (omega arith))
+    (λ (had : (t : ℕ) × HadAt n t (file i t views)). let t = had.0 in ⊎_elim
+    (λ (living : (e : ℕ) × (n ≡ word t 0 e) × (e ≤ 4398046511103) × Among (file i t views) e).
+    let now = living.1 in let low = living.2 in absurd (omega arith))
+    (⊎_elim
+    (λ (cancelled : (e : ℕ) × (n ≡ word t 1 0) × IsIn (file i t views).cancels e).
+    let now = cancelled.1 in absurd (omega arith))
+    (λ (ended : (m : ℕ) × (e : ℕ) × (n ≡ word t m e) × (1 < m) × (m < 4) × (e ≤ 4398046511103) × IsIn (file i t views).ends (m, e)).
+    let now = ended.2 in let more = ended.3 in let less = ended.4 in let low = ended.5 in
+    let same_stamp : t ≡ s = omega arith in
+    let same_mark : ended.0 ≡ 2 = omega arith in
+    let same_deadline : ended.1 ≡ d = omega arith in
+    subst (λ (x : ℕ × ℕ × ℕ). IsIn (file i x.0 views).ends (x.1, x.2)) (λ q. (same_stamp q, same_mark q, same_deadline q)) ended.6))
+    had.1)
+
+-- what the keeper saw, where it has the first view
+module _ (w : View) (t : State ℕ View) (r : Ruled (length w.seen) t) (at : get_elem? t.views 0 ≡ some w) where
+  out_in_force : EndsAreInForce → (k : Key) (d : ℕ) → k.entry.index < length w.seen
+      → get_or w.seen k.entry.index 0 ≡ word k.stamp 2 d → d ≤ 4398046511103 → EndsInForce k d t
+  out_in_force in_force k d inside seen small =
+      let had = (r.kept.sees 0 w at).had k.entry.index inside in
+      let ended = had_expired _ k.stamp d k.entry.index t.views seen small had in
+      (ended, (in_force _ t r k.entry.index k.stamp).0 (2, d) ended)
+
+  given_once : StampsEndOnce → (k : Key) (d : ℕ) → k.entry.index < length w.seen
+      → get_or w.seen k.entry.index 0 ≡ word k.stamp 0 d → 0 < k.stamp → WasGivenOnce k t
+  given_once once k d inside seen positive =
+      let below = (r.kept.sees 0 w at).below k.entry.index inside in
+      once _ t r k.entry.index k.stamp inside positive (omega (arith, below, seen))
+
+-- what the keeper wrote is what the first view has
+writes_first : (vs : List View) (v : View) → get_elem? vs 0 ≡ some v → keeper_writes vs ≡ v.writes
+writes_first [] v at = absurd (some-ne-none v (sym at))
+writes_first (u ∷ vs) v at = ap (λ (x : View). x.writes) (some-injective u v at)
+
+module _ {T : Type 0} where
+  -- an entry that comes out, of a run to that turn and its row of words
+  out_of : EndsAreInForce → (b c : Core T Sat) (x : Expired T) → IsKeptCore c
+      → (m : Machine T) × RunOf (IsOnTheWay true) b.slots.last_stamp (machine b) m
+      × IsTurn b.shard b.slots.last_stamp m (Out x) (machine c) c.wheel.filing
+      → TurnRow true b.known (Out x) c.known → CameInForce c x
+  out_of in_force b c x law run row =
+      let m = run.0 in
+      let step = run.2.0.0 in
+      let held = run.2.0.1 in
+      let i = x.key.entry.index in
+      let table : length (machine c).table ≡ length m.table =
+      ap (λ n. length n.table) step.7 ∙ length-set m.table i _ in
+      let known : length c.known ≡ length c.words.view.seen =
+      ap length law.known ∙ length_row c.words.view.seen in
+      let size : length c.known ≡ length row.0 =
+      ap length row.3 ∙ length-set row.0 i (expired x.key.stamp x.deadline) in
+      let inside = held.0 in
+      let few = length_table c.slots.rows c.known in
+      let seen = seen_word _ row.0 c.words.view.seen i (expired x.key.stamp x.deadline) law.known row.3 (omega arith) in
+      let noted : c.noted ≡ m.noted = ap (λ n. n.noted) step.7 in
+      let at_noted : x.deadline ≤ c.noted = omega (arith, noted, step.5) in
+      let last = law.core.noted_bound in
+      (λ t r at. out_in_force c.words.view t r at in_force x.key x.deadline (omega arith) seen (omega arith), at_noted)
+
+  -- what came out in force kept what was promised
+  keeps : (c : Core T Sat) (x : Expired T) → CameInForce c x → KeepsWhatItShowed c x
+  keeps c x out p beside =
+      let stood = beside.1 in
+      let ended = (out.0 stood.0 stood.1 stood.2).0 in
+      let P : List Write → Type 0 = λ ws. IsIn (ends_at x.key.entry.index x.key.stamp ws) (2, x.deadline) in
+      beside.0 x.key.entry.index x.key.stamp (2, x.deadline) (subst P (writes_first stood.0.views c.words.view stood.2) ended)
+
+  -- the piece of a core that took an entry out
+
+  abbrev gives_out : Piece T → Type 0
+  gives_out (Answer (Out x)) = Unit {0}
+  gives_out (Answer (Waiting next)) = ⊥
+  gives_out (Answer Idle) = ⊥
+  gives_out Working = ⊥
+
+  is_out : (y : Expired T) (p : Piece T) → Answer (Out y) ≡ p → gives_out p
+  is_out y p e = subst gives_out e (tt {0})
+
+  not_waiting : (b : Bool) (m : ℕ) (y : Expired T) → Answer (Out y) ≡ (if b then Answer (Waiting m) else Working) → ⊥
+  not_waiting true m y h = is_out y (Answer (Waiting m)) h
+  not_waiting false m y h = is_out y Working h
+
+  not_idle : (b e : Bool) (m : ℕ) (y : Expired T) → Answer (Out y) ≡ (if b then (if e then Answer Idle else Answer (Waiting m)) else Working) → ⊥
+  not_idle true true m y h = is_out y (Answer Idle) h
+  not_idle true false m y h = is_out y (Answer (Waiting m)) h
+  not_idle false e m y h = is_out y Working h
+
+  told_out : (noted others : ℕ) (made : Piece T) (y : Expired T) → Answer (Out y) ≡ told noted others made → made ≡ Answer (Out y)
+  told_out noted others Working y h = absurd (is_out y Working h)
+  told_out noted others (Answer (Out z)) y h = sym h
+  told_out noted others (Answer (Waiting next)) y h = absurd (not_waiting (nat_lt noted others) (min next others) y h)
+  told_out noted others (Answer Idle) y h = absurd (not_idle (nat_lt noted others) _ others y h)
+
+  piece_of : (s t : CoreRow T Sat) (tick most : ℕ) (y : Expired T) → PollsRow (DoesPiece true most) s tick (Ok (Answer (Out y))) t
+      → PollsCore (DoesPiece true most) (noting_in s tick) (Answer (Out y)) t
+  piece_of s t tick most y polled = ⊎_elim (λ rests. absurd rests.0) (λ core. core) polled.1
+
+  at_set : (cores : List (Core T Sat)) (i : ℕ) (b c : Core T Sat) → IsCoreAt cores i b → IsCoreAt (set cores i c) i c
+  at_set cores i b c at = let n = length-set cores i c in let h = at.0 in (omega (arith, n, h), get_or-set_same cores i c c at.0)
+
+  on_core : (s t : CoreRow T Sat) (i : ℕ) (P : Core T Sat → Core T Sat → Type 0) (on : OnCoreAt i P s t) → IsCoreAt t.cores i on.after
+  on_core s t i P on =
+      let Q : CoreRow T Sat → Type 0 = λ r. IsCoreAt r.cores i on.after in
+      subst Q (sym on.rest) (at_set s.cores i on.before on.after on.at)
+
+  comes_out : EndsAreInForce → (s t : StoreState T Sat) (tick most : ℕ) (y : Expired T) → PollsRow (DoesPiece true most) s.cores tick (Ok (Answer (Out y))) t.cores
+      → CameOutOf s (expired_as (user_at s.notes y.key.entry) y) t
+  comes_out in_force s t tick most y polled =
+      let core = piece_of s.cores t.cores tick most y polled in
+      let on = core.did in
+      let P : Piece T → Type 0 = λ p. DoesPiece true most (min (noting_in s.cores tick).noted core.others) p on.before on.after in
+      let did = subst P (told_out (noting_in s.cores tick).noted core.others core.made y core.tells) on.did in
+      let answered = did.2 in
+      let out : IsKeptCore on.after → CameInForce on.after y = λ law. out_of in_force (noting on.before (min (noting_in s.cores tick).noted core.others)) on.after y law answered.run answered.row in
+      record {
+        place = core.place;
+        before = on.before;
+        after = on.after;
+        was = on.at;
+        is = on_core (noting_in s.cores tick) t.cores core.place _ on;
+        out = y;
+        number = answered.run.2.1;
+        told = refl;
+        in_force = out;
+        kept = λ law. keeps on.after y (out law);
+      }
+
+  -- by what the piece of the cores' poll made
+  by_made : EndsAreInForce → (s t : StoreState T Sat) (tick most : ℕ) (made : Result (Piece T) CoreError) → PollsRow (DoesPiece true most) s.cores tick made t.cores
+      → IfPieceOut (piece_as s.notes made) (λ x. CameOutOf s x t)
+  by_made in_force s t tick most (Ok (Answer (Out y))) polled = comes_out in_force s t tick most y polled
+  by_made in_force s t tick most (Ok (Answer (Waiting next))) polled = tt
+  by_made in_force s t tick most (Ok (Answer Idle)) polled = tt
+  by_made in_force s t tick most (Ok Working) polled = tt
+  by_made in_force s t tick most (Err e) polled = tt
+
+pub outs : (T : Type 0) → EndsAreInForce → StoreOutsAreInForce T
+outs T in_force s t tick most r (made, polled, is, notes) =
+    let P : Result (Piece T) CoreError → Type 0 = λ p. IfPieceOut p (λ x. CameOutOf s x t) in
+    subst P (sym is) (by_made in_force s t tick most made polled)
+
+given_at : (T : Type 0) → StampsEndOnce → (b c : Core T Sat) (value : T) (when : ℕ) (k : Key) → Inserts b value when (Ok k) c → IsKeptCore c → InEachTable c.words.view (WasGivenOnce k)
+given_at T once b c value when k done law =
+    let i = k.entry.index in
+    let m = machine b in
+    let few = length_table b.slots.rows b.known in
+    let inside = done.step.0 in
+    let known : length c.known ≡ length c.words.view.seen =
+    ap length law.known ∙ length_row c.words.view.seen in
+    let size : length c.known ≡ length b.known = ap length done.known ∙ length-set b.known i _ in
+    let seen = seen_word _ b.known c.words.view.seen i _ law.known done.known (omega arith) in
+    let stamp : k.stamp ≡ (table_at m i).stamp + 1 =
+    sym done.stamp ∙ (ap (λ n. (table_at n i).stamp) done.step.3 ∙ ap (λ r. r.stamp) (get_or-set_same m.table i _ _ inside)) in
+    λ t r at. given_once c.words.view t r at once k _ (omega arith) seen (omega arith)
+
+ok_not_err : {X E : Type 0} (x : X) (e : E) → Ok x ≡ Err e → ⊥
+ok_not_err {X} {E} x e h =
+    let P : Result X E → Type 0 = λ r. IfOk r (λ _. ⊥) in
+    subst P (sym h) (tt {0})
+
+pub given : (T : Type 0) → StampsEndOnce → StoreInsertsAreGiven T
+given T once s t value when k beside inserted = ⊎_elim
+    (λ (on : OnCoreAt s.cores.opened (InsertsBeside value when (Ok k, beside)) s.cores t.cores).
+    (on.after, on_core s.cores t.cores s.cores.opened _ on, given_at T once on.before on.after value when k on.did.0))
+    (λ (closed : IsClosed s.cores × ((Ok k, beside) ≡ (Err (closed_error when, value), None)) × (t.cores ≡ s.cores)).
+    absurd (ok_not_err _ _ (ap (λ p. p.0) closed.1)))
+    inserted.0

@@ -1,0 +1,97 @@
+-- How the entries of a store over keepers' words end.
+use Rattle.std.specs.Prelude.{◌≡◌, ℕ, ◌+◌, ◌≤◌, Option, Result, Ok, length, slice_index}
+use Rattle.atomic_table.specs.Table.{State}
+use mathlib.Core.Option.{some}
+use lib.ListN.{get_elem?}
+use Rattle.dq_ticks.specs.declared.keys.Key.{Key}
+use Rattle.dq_core.specs.Core.{Core, IsLawfulCore}
+use Rattle.dq_core.specs.declared.errors.CoreError.{CoreError}
+use Rattle.dq_core.specs.declared.outcomes.Expired.{Expired}
+use Rattle.dq_core.specs.declared.outcomes.Piece.{Piece}
+use Rattle.dq_growing.specs.Cores.{IsCoreAt}
+use Rattle.dq_growing.specs.Notes.{user_at}
+use Rattle.dq_growing.specs.Polls.{IfPieceOut}
+use Rattle.dq_growing.specs.Store.{StoreState, expired_as}
+use Rattle.dq_words.specs.declared.views.View.{View}
+use Rattle.dq_words.specs.Endings.{lives_at}
+use Rattle.dq_words.specs.Files.{File, file, IsIn, IsDeadline}
+use Rattle.dq_words.specs.Plays.{Covers}
+use Rattle.dq_words.specs.Rule.{Ruled}
+use Rattle.dq_words.specs.Seats.{Sat}
+use Rattle.dq_words.specs.Together.{IsBeside}
+use Rattle.dq_words.specs.Word.{parts_row}
+use Rattle.dq_queue.specs.Calls.{StoreInserts, StorePollsSome}
+
+-- It holds whatever the table of the words is, where it meets the rule and the keeper has this
+-- view. The true table of that moment is one of them.
+abbrev pub InEachTable : View → (State ℕ View → Type 0) → Type 0
+InEachTable w Holds =
+    (t : State ℕ View) → Ruled (length w.seen) t → get_elem? t.views 0 ≡ some w → Holds t
+
+-- all that was written and called of a key's slot at the key's stamp
+abbrev pub file_under : Key → State ℕ View → File
+file_under k t = file k.entry.index k.stamp t.views
+
+-- 1 where the word of a key's slot is live at the key's stamp
+abbrev pub live_under : Key → State ℕ View → ℕ
+live_under k t = lives_at (slice_index t.words k.entry.index) k.stamp
+
+-- The keeper ended the key's stamp as expired at this deadline, which was in force: the greatest of
+-- the deadline that the stamp was given with and of all extends that were accepted at it.
+abbrev pub EndsInForce : Key → ℕ → State ℕ View → Type 0
+EndsInForce k deadline t =
+    IsIn (file_under k t).ends (2, deadline) × IsDeadline (file_under k t) deadline
+
+-- A key's stamp was given once, and it was ended once by the keeper, or cancelled once by a caller,
+-- or its word is live.
+abbrev pub WasGivenOnce : Key → State ℕ View → Type 0
+WasGivenOnce k t =
+    (length (file_under k t).bases ≡ 1)
+    × (length (file_under k t).ends + length (file_under k t).cancels + live_under k t ≡ 1)
+
+module _ {T : Type 0} where
+  -- what each core over a keeper's words keeps, as its law tells
+  pub record IsKeptCore (c : Core T Sat) : Type 0 where
+    pub core : IsLawfulCore c
+    pub known : c.known ≡ parts_row c.words.view.seen
+
+  -- an entry that came out expired at its deadline in force, which is not after the noted tick
+  abbrev pub CameInForce : Core T Sat → Expired T → Type 0
+  CameInForce c x =
+      InEachTable c.words.view (EndsInForce x.key x.deadline) × (x.deadline ≤ c.noted)
+
+  -- what came out came out at no deadline before one that another seat of the core's words was
+  -- promised, where the core's keeper and that seat were told together; nor had that seat cancelled it
+  abbrev pub KeepsWhatItShowed : Core T Sat → Expired T → Type 0
+  KeepsWhatItShowed c x =
+      (p : Sat) → IsBeside c.words p → Covers p.view.calls x.key.entry.index x.key.stamp x.deadline
+
+  -- What came out came out of one core of the store, which had the number that its place's key has.
+  -- Its user knows it by the id that the notes tell. By what the core keeps, it came out in force, and
+  -- kept what was promised.
+  pub record CameOutOf (s : StoreState T Sat) (x : Expired T) (t : StoreState T Sat) : Type 0 where
+    pub place : ℕ
+    pub before : Core T Sat
+    pub after : Core T Sat
+    pub was : IsCoreAt s.cores.cores place before
+    pub is : IsCoreAt t.cores.cores place after
+    pub out : Expired T
+    pub number : out.key.entry.shard ≡ before.shard
+    pub told : x ≡ expired_as (user_at s.notes out.key.entry) out
+    pub in_force : IsKeptCore after → CameInForce after out
+    pub kept : IsKeptCore after → KeepsWhatItShowed after out
+
+-- whatever a piece of a poll of a store gives out is so
+abbrev pub StoreOutsAreInForce : Type 0 → Type 0
+StoreOutsAreInForce T =
+    (s t : StoreState T Sat) (tick most : ℕ) (r : Result (Piece T) CoreError)
+    → StorePollsSome tick most r s t → IfPieceOut r (λ x. CameOutOf s x t)
+
+-- Whatever key an insert into a store answers is of its open core, and its stamp was given once, by
+-- what that core keeps.
+abbrev pub StoreInsertsAreGiven : Type 0 → Type 0
+StoreInsertsAreGiven T =
+    (s t : StoreState T Sat) (value : T) (when : ℕ) (k : Key) (beside : Option T)
+    → StoreInserts value when (Ok k, beside) s t
+    → (c : Core T Sat) × IsCoreAt t.cores.cores s.cores.opened c
+    × (IsKeptCore c → InEachTable c.words.view (WasGivenOnce k))

@@ -1,0 +1,20 @@
+//! How the entries of a queue end: each as its words tell, whoever extended or cancelled it meanwhile.
+ghost use Rattle.dq_queue.specs.Endings.{StoreInsertsAreGiven, StoreOutsAreInForce};
+
+use dq_words::endings;
+
+/// Whatever a piece of a poll of a store gives out came out of one core, as expired at its deadline in force, at a tick
+/// already noted; at no deadline before one that a call by open words promised.
+pub fn outs_are_in_force<T>()
+    ensures { StoreOutsAreInForce T }
+{
+    endings::ends_are_in_force();
+}
+
+/// The stamp of each key that an insert into a store answers was given once, and ended once, or was cancelled once, or its
+/// word is live.
+pub fn inserts_are_given<T>()
+    ensures { StoreInsertsAreGiven T }
+{
+    endings::stamps_end_once();
+}
