@@ -3,7 +3,6 @@
 use crate::core::{
     DelayCore, Entries, Folded, Held, LiveEntry, Pending, PlainQueue, PlainTurn, Steps, VecWords, Words,
 };
-use crate::growing::{Cores, Folds};
 use crate::words::{Caller, Keeper, OpenWords};
 use core::fmt::{Debug, Formatter, Result};
 
@@ -28,33 +27,6 @@ impl<W: Words> Debug for Folded<W> {
             .field("capacity", &self.capacity())
             .field("worn", &self.worn())
             .finish_non_exhaustive()
-    }
-}
-
-impl<T, W: Words> Debug for Cores<T, W> {
-    fn fmt(&self, f: &mut Formatter<'_>) -> Result {
-        f.debug_struct("Cores")
-            .field("count", &self.count())
-            .field("next_wake", &self.next_wake())
-            .finish_non_exhaustive()
-    }
-}
-
-impl<T, W: Words> Default for Cores<T, W> {
-    fn default() -> Cores<T, W> {
-        Cores::new()
-    }
-}
-
-impl<W: Words> Debug for Folds<W> {
-    fn fmt(&self, f: &mut Formatter<'_>) -> Result {
-        f.debug_struct("Folds").finish_non_exhaustive()
-    }
-}
-
-impl<W: Words> Default for Folds<W> {
-    fn default() -> Folds<W> {
-        Folds::new()
     }
 }
 
@@ -147,7 +119,9 @@ impl<T> Debug for PlainQueue<T> {
 mod with_std {
     use super::{Debug, Formatter, Result};
     use crate::apps::{CountedCache, IdleSessions, Name, Seen, TtlCache};
+    use crate::core::Words;
     use crate::directory::{Clerk, Directory};
+    use crate::growing::{Cores, Folds, Store};
     use crate::parking::{MillisecondTicks, Parked, ShardStream, Shards};
     use crate::shards::by::{NamedCaller, NamedQueue, NamedShard, Rooms};
     use crate::shards::{Handle, ShardState, SharedDelayQueue};
@@ -164,6 +138,39 @@ mod with_std {
     impl<X> Debug for Directory<X> {
         fn fmt(&self, f: &mut Formatter<'_>) -> Result {
             f.debug_struct("Directory").finish_non_exhaustive()
+        }
+    }
+
+    impl<T, W: Words> Debug for Cores<T, W> {
+        fn fmt(&self, f: &mut Formatter<'_>) -> Result {
+            f.debug_struct("Cores")
+                .field("count", &self.count())
+                .field("next_wake", &self.next_wake())
+                .finish_non_exhaustive()
+        }
+    }
+
+    impl<T, W: Words> Default for Cores<T, W> {
+        fn default() -> Cores<T, W> {
+            Cores::new()
+        }
+    }
+
+    impl<W: Words> Debug for Folds<W> {
+        fn fmt(&self, f: &mut Formatter<'_>) -> Result {
+            f.debug_struct("Folds").finish_non_exhaustive()
+        }
+    }
+
+    impl<W: Words> Default for Folds<W> {
+        fn default() -> Folds<W> {
+            Folds::new()
+        }
+    }
+
+    impl<T, W: Words> Debug for Store<T, W> {
+        fn fmt(&self, f: &mut Formatter<'_>) -> Result {
+            f.debug_struct("Store").finish_non_exhaustive()
         }
     }
 

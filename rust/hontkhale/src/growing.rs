@@ -9,7 +9,10 @@
 mod cores;
 mod folds;
 mod least;
+mod moving;
+mod notes;
 mod polls;
+mod store;
 mod sweeps;
 
 /// After each tick: where nothing has a wake.
@@ -17,3 +20,5 @@ pub(crate) const NEVER: u64 = u64::MAX;
 
 pub use cores::{Cores, TakeError};
 pub use folds::Folds;
+pub use moving::{Moved, NextDeadline};
+pub use store::Store;

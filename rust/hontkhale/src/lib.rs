@@ -67,7 +67,9 @@
     clippy::enum_variant_names,
     clippy::manual_find,
     clippy::manual_map,
-    clippy::module_inception
+    clippy::match_like_matches_macro,
+    clippy::module_inception,
+    clippy::question_mark
 )]
 
 extern crate alloc;
@@ -93,6 +95,7 @@ mod apps;
 mod core;
 #[cfg(feature = "std")]
 mod directory;
+#[cfg(feature = "std")]
 mod growing;
 #[cfg(feature = "std")]
 mod parking;

@@ -103,7 +103,8 @@ pub mod directory {
     pub use crate::directory::{AddError, Clerk, Directory, MOST};
 }
 
+#[cfg(feature = "std")]
 #[doc(hidden)]
 pub mod growing {
-    pub use crate::growing::{Cores, Folds, TakeError};
+    pub use crate::growing::{Cores, Folds, Moved, NextDeadline, Store, TakeError};
 }

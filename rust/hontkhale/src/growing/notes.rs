@@ -1,0 +1,133 @@
+//! Where moved entries are, by the ids that their users have.
+
+use crate::memory::AllocError;
+use crate::ticks::EntryId;
+use std::collections::HashMap;
+
+// The numbers of an id.
+fn numbers_of(id: &EntryId) -> (u32, u32, u32) {
+    (id.shard(), id.index(), id.born())
+}
+
+// Ids, each with another.
+pub(crate) struct PairTable {
+    map: HashMap<(u32, u32, u32), EntryId>,
+}
+
+impl PairTable {
+    // No ids.
+    pub(crate) fn new() -> PairTable {
+        PairTable { map: HashMap::new() }
+    }
+
+    // What an id has with it.
+    pub(crate) fn find(&self, id: &EntryId) -> Option<EntryId> {
+        self.map.get(&numbers_of(id)).copied()
+    }
+
+    // Whether an id has that number.
+    fn has_number(&self, number: u32) -> bool {
+        for numbers in self.map.keys() {
+            if numbers.0 == number {
+                return true;
+            }
+        }
+        false
+    }
+
+    // Takes memory for one more.
+    pub(crate) fn reserve(&mut self) -> Result<(), AllocError> {
+        Ok(self.map.try_reserve(1)?)
+    }
+
+    // Gives an id another.
+    pub(crate) fn put(&mut self, id: &EntryId, other: EntryId) {
+        // requires 0 < self.old.room
+        self.map.insert(numbers_of(id), other);
+    }
+
+    // Takes from an id what it has.
+    pub(crate) fn take(&mut self, id: &EntryId) {
+        let _ = self.map.remove(&numbers_of(id));
+    }
+}
+
+// Takes from an id what it has, where there is such an id.
+fn take_where_some(table: &mut PairTable, id: Option<EntryId>) {
+    let Some(id) = id else {
+        return;
+    };
+    table.take(&id);
+}
+
+/// The notes of a store: where its moved entries are, by the ids that their users have.
+pub(crate) struct Notes {
+    // By a user's id, the place.
+    places: PairTable,
+    // By a place, the user's id.
+    users: PairTable,
+}
+
+impl Notes {
+    /// No notes. They take no memory yet.
+    ///
+    /// # Errors
+    /// If the allocator isn't cloned.
+    pub fn new() -> Result<Notes, AllocError> {
+        Ok(Notes {
+            places: PairTable::new(),
+            users: PairTable::new(),
+        })
+    }
+
+    /// The place that a user's id means: its own, where nothing is noted; none, where another's entry is there.
+    pub fn place(&self, user: &EntryId) -> Option<EntryId> {
+        let Some(place) = self.places.find(user) else {
+            let None = self.users.find(user) else {
+                return None;
+            };
+            return Some(*user);
+        };
+        Some(place)
+    }
+
+    /// The id that the user of a place has: its own, where nothing is noted.
+    pub fn user(&self, place: &EntryId) -> EntryId {
+        let Some(user) = self.users.find(place) else {
+            return *place;
+        };
+        user
+    }
+
+    /// Whether an id of a note has that number: a user's, or a place's.
+    pub fn has_number(&self, number: u32) -> bool {
+        self.places.has_number(number) || self.users.has_number(number)
+    }
+
+    /// Takes memory for one note more.
+    ///
+    /// # Errors
+    /// If memory is refused.
+    pub fn reserve(&mut self) -> Result<(), AllocError> {
+        self.places.reserve()?;
+        self.users.reserve()
+    }
+
+    /// Notes that a user's entry is at that place.
+    pub fn note(&mut self, user: &EntryId, place: &EntryId) {
+        // requires HasNoteRoom self.old
+        // requires with_id self.old.users place.now ≡ None
+        let left = self.places.find(user);
+        take_where_some(&mut self.users, left);
+        self.places.put(user, *place);
+        self.users.put(place, *user);
+    }
+
+    /// Takes away the note of a place, and returns its user's id, none where nothing was noted.
+    pub fn forget(&mut self, place: &EntryId) -> Option<EntryId> {
+        let user = self.users.find(place)?;
+        self.places.take(&user);
+        self.users.take(place);
+        Some(user)
+    }
+}
