@@ -11,7 +11,6 @@ use Rattle.dq_core.specs.Pieces.{PollsSome}
 use Rattle.dq_core.specs.Calls.{Inserts, Removes, Resets, TellsDeadline, Polls}
 use Rattle.dq_core.specs.Sweeps.{Reaps}
 use Rattle.dq_core.specs.declared.errors.ReapError.{ReapError}
-use Rattle.dq_core.specs.declared.errors.ReapError.TheVariants.{Missing as NotThere}
 use Rattle.dq_core.specs.Core.{Core, machine}
 use Rattle.dq_core.specs.Machine.{Entry}
 use Rattle.dq_core.specs.RunsOfCalls.{GoesByRun, given, given_by_piece}

@@ -1,10 +1,13 @@
 -- A store under its users' ids.
-use Rattle.std.proofs.Common.{◌≡◌, ◌≢◌, ◌⊎◌, ℕ, ◌<◌, ◌≤◌, ◌+◌, Bool, List, length, remove, IfSome, IfNone, IfErr, OnOk, Option, Some, None, Result, Ok, Err, IfOk, OnErr, refl, sym, ap, ◌∙◌, subst, inl, inr, ⊎_elim}
+use Rattle.std.proofs.Common.{◌≡◌, ◌≢◌, ◌⊎◌, ℕ, ◌<◌, ◌≤◌, ◌+◌, Bool, true, false, List, length, remove, IfSome, IfNone, IfErr, OnOk, Option, Some, None, Result, Ok, Err, IfOk, OnErr, refl, sym, ap, ◌∙◌, subst, inl, inr, ⊎_elim}
 use Rattle.dq_ticks.specs.declared.keys.Key.{Key}
 use Rattle.dq_ticks.specs.declared.keys.EntryId.{EntryId}
 use Rattle.dq_core.specs.declared.errors.CoreError.{CoreError}
 use Rattle.dq_core.specs.declared.errors.CoreError.TheVariants.{Missing}
 use Rattle.dq_core.specs.declared.outcomes.Removed.{Removed}
+use Rattle.dq_core.specs.declared.outcomes.Turn.TheVariants.{Out as CameOut, Waiting, Idle}
+use Rattle.dq_core.specs.declared.outcomes.Piece.{Piece}
+use Rattle.dq_core.specs.declared.outcomes.Piece.TheVariants.{Answer, Working}
 use Rattle.dq_core.specs.Calls.{Removes, Resets, base_for}
 use Rattle.dq_core.specs.Core.{Core}
 use Rattle.dq_core.specs.Machine.{Entry}
@@ -13,8 +16,9 @@ use Rattle.dq_growing.specs.Stands.{IsPastIn, IsAheadIn, Ages, HasEntry, SameSta
 use Rattle.dq_growing.specs.Moving.{IfTo, IfCameOut, GoesOnIn}
 use Rattle.dq_growing.specs.declared.moving.Moved.{Moved}
 use Rattle.dq_growing.specs.declared.moving.Moved.TheVariants.{To, Out}
+use Rattle.dq_growing.specs.Polls.{TakesAsideIn}
 use Rattle.dq_growing.specs.Notes.{Book, AreNotes, SameNotes, Forgets, IsNoted, with_id, or_own, user_at, place_by, meant_place}
-use Rattle.dq_growing.specs.Store.{answer_as, NotesAnswered, AfterReset, ResetsFor, GoesOnFor, StoreState, IsStore, StandsFor, KeysAreApart, RemovesFor, ComesFor, removed_as}
+use Rattle.dq_growing.specs.Store.{NotesAfter, answer_as, NotesAnswered, AfterReset, ResetsFor, GoesOnFor, StoreState, IsStore, StandsFor, KeysAreApart, RemovesFor, ComesFor, removed_as}
 use Rattle.dq_growing.specs.declared.cores.TakeError.{TakeError}
 use Rattle.dq_growing.specs.Notes.{HasNoNumber}
 use Rattle.dq_growing.specs.Cores.{GivesDrained, NoneDrained, TakesIn, TakeRefused, opened_without}
@@ -23,7 +27,7 @@ use Rattle.dq_growing.proofs.Leasts.{some_not_none}
 use Rattle.dq_growing.proofs.Pairing.{one_or_two}
 use Rattle.dq_growing.proofs.Standing.{some_is, comes_there, comes_in, inserted_ahead}
 use Rattle.dq_growing.proofs.Moves.{other_key, ok_not_err, found_refused, taken_out}
-use Rattle.dq_growing.proofs.Aging.{resets_age, ages_on, inserts_number, inserts_run}
+use Rattle.dq_growing.proofs.Aging.{AgesAt, ages_in, all_age, resets_age, ages_on, inserts_number, inserts_run}
 
 -- what is noted of a place, and its user's id
 by_note : (p : EntryId) (o : Option EntryId) → ((o ≡ None) × (or_own p o ≡ p)) ⊎ ((w : EntryId) × (o ≡ Some w) × (or_own p o ≡ w))
@@ -99,8 +103,19 @@ module _ {T W : Type 0} where
   pub law_same_notes : (s : StoreState T W) (cores : CoreRow T W) → IsStore s → Ages s.cores cores → IsStore (stored cores s.notes)
   law_same_notes s cores law ages = law_kept s (stored cores s.notes) law ages law.noted (λ u p at. at)
 
+  pub law_stays : (s t : StoreState T W) → IsStore s → Ages s.cores t.cores → t.notes ≡ s.notes → IsStore t
+  law_stays s t law ages same = let P : Book → Type 0 = λ n. IsStore (stored t.cores n) in subst P (sym same) (law_same_notes s t.cores law ages)
+
   pub law_forgets : (s t : StoreState T W) (p : EntryId) (o : Option EntryId) → IsStore s → Ages s.cores t.cores → AreNotes t.notes → Forgets s.notes p o t.notes → IsStore t
   law_forgets s t p o law ages noted f = law_kept s t law ages noted (forgets_fewer s.notes t.notes p o f)
+
+  -- after a poll what came out leaves no note
+  pub law_after : (s t : StoreState T W) (made : Result (Piece T) CoreError) → IsStore s → Ages s.cores t.cores → AreNotes t.notes → NotesAfter s.notes made t.notes → IsStore t
+  law_after s t (Ok (Answer (CameOut x))) law ages noted after = law_forgets s t x.key.entry after.0 law ages noted after.1
+  law_after s t (Ok (Answer (Waiting next))) law ages noted after = law_stays s t law ages after
+  law_after s t (Ok (Answer Idle)) law ages noted after = law_stays s t law ages after
+  law_after s t (Ok Working) law ages noted after = law_stays s t law ages after
+  law_after s t (Err e) law ages noted after = law_stays s t law ages after
 
   -- what leaves its place leaves under its user's id
   pub leaves_for : (s t : StoreState T W) (u p : EntryId) (o : Option EntryId) (v : T) → IsStore s → meant_place s.notes u ≡ Some p
@@ -441,3 +456,34 @@ module _ {T W : Type 0} where
 pub on_ok : {X E P : Type 0} (r : Result X E) → P → OnOk r P
 on_ok {X} {E} {P} (Ok x) p = p
 on_ok {X} {E} {P} (Err e) p = tt {0}
+
+module _ {T W : Type 0} where
+  -- another core is open
+  pub opened_ages : (s t : CoreRow T W) (place : ℕ) → t ≡ record s { opened = place } → Ages s t
+  opened_ages s t place is = let P : CoreRow T W → Type 0 = λ k. Ages s k in subst P (sym is) (all_age s)
+
+  pub law_same_cores : (s : StoreState T W) (cores : CoreRow T W) → IsStore s → cores ≡ s.cores → IsStore (stored cores s.notes)
+  law_same_cores s cores law same = let P : CoreRow T W → Type 0 = λ t. IsStore (stored t s.notes) in subst P (sym same) law
+
+  pub law_opens : (s : StoreState T W) (cores : CoreRow T W) (o : Bool) (place : ℕ) → IsStore s
+      → (o ≡ true → (place < length s.cores.cores) × (cores ≡ record s.cores { opened = place }))
+      → (o ≡ false → (length s.cores.cores ≤ place) × (cores ≡ s.cores)) → IsStore (stored cores s.notes)
+  law_opens s cores true place law opens refused = law_same_notes s cores law (opened_ages s.cores cores place (opens refl).1)
+  law_opens s cores false place law opens refused = law_same_cores s cores law (refused refl).1
+
+  -- a value that was set aside is taken out
+  aside_ages : (s t : CoreRow T W) (o : Option T) → AreCores s → TakesAsideIn s o t → Ages s t
+  aside_ages s t None has did = let P : CoreRow T W → Type 0 = λ k. Ages s k in subst P (sym did.1) (all_age s)
+  aside_ages s t (Some v) has did =
+      let on = did.1 in
+      let b = on.before in
+      let c = on.after in
+      let same : c ≡ record b { aside = c.aside } = on.did.1 in
+      let number : c.shard ≡ b.shard = ap (λ k. k.shard) same in
+      let P : Core T W → Type 0 = λ k. AgesAt b k in
+      let ages : AgesAt b c = subst P (sym same) (λ id past. (past, λ e x. (e, record { shard = x.shard; linked = x.linked; born = x.born }, refl))) in
+      let Q : CoreRow T W → Type 0 = λ k. Ages s k in
+      subst Q (sym on.rest) (ages_in s did.0 b c has on.at number ages)
+
+  pub law_takes_aside : (s : StoreState T W) (cores : CoreRow T W) (o : Option T) → IsStore s → AreCores s.cores → TakesAsideIn s.cores o cores → IsStore (stored cores s.notes)
+  law_takes_aside s cores o law has did = law_same_notes s cores law (aside_ages s.cores cores o has did)

@@ -17,9 +17,10 @@ use Rattle.dq_core.specs.Calls.{Resets, TellsDeadline, FindRefused}
 use Rattle.dq_core.specs.Sweeps.{Reaps}
 use Rattle.dq_core.specs.declared.errors.ReapError.{ReapError}
 use Rattle.dq_core.specs.declared.errors.ReapError.TheVariants.{Missing as NotThere}
+use Rattle.dq_core.specs.Core.{Core}
 use Rattle.dq_core.specs.Machine.{Entry}
 use Rattle.dq_growing.specs.Cores.{CoreRow, OnCoreOr, missing_error}
-use Rattle.dq_growing.specs.Polls.{PollsRow, DoesPiece, PeeksIn}
+use Rattle.dq_growing.specs.Polls.{PollsRow, PeeksIn}
 use Rattle.dq_growing.specs.Stands.{HasEntry, IsPastIn, OneComes, OthersStand}
 use Rattle.dq_growing.specs.Moving.{IsTakenOut, IsBaseIn, Relocates}
 use Rattle.dq_growing.specs.Notes.{Book, AreNotes, SameNotes, LosesNote, IsNoted, with_id, user_at, meant_place}
@@ -193,12 +194,11 @@ module _ {T W : Type 0} where
       × AfterReset shared (record s { cores = m }) u when made r t)
       ((r ≡ (Err (missing_error when), None)) × (t ≡ s))
 
-  -- a piece of a poll, as users know what came out
-  abbrev pub PollsSomeFor : Bool → StoreState T W → ℕ → ℕ → Result (Piece T) CoreError →
-      StoreState T W → Type 0
-  PollsSomeFor shared s tick most r t =
-      (made : Result (Piece T) CoreError)
-      × PollsRow (DoesPiece shared most) s.cores tick made t.cores
+  -- a poll, or a piece of one, as users know what came out
+  abbrev pub PollsFor : (ℕ → Piece T → Core T W → Core T W → Type 0) → StoreState T W → ℕ →
+      Result (Piece T) CoreError → StoreState T W → Type 0
+  PollsFor Did s tick r t =
+      (made : Result (Piece T) CoreError) × PollsRow Did s.cores tick made t.cores
       × (r ≡ piece_as s.notes made) × NotesAfter s.notes made t.notes
 
   -- what is scheduled first, as its user knows it

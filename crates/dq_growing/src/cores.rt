@@ -14,7 +14,7 @@ ghost use Rattle.dq_growing.specs.Cores.{MayComeIn, CoreRow, AreCores, IsCoreAt,
 
 use dq_core::{CoreError, DelayCore, Removed, Words};
 use dq_ticks::{EntryId, Key, LAST_TICK};
-use std::alloc::{Allocator, Global};
+use std::alloc::{AllocError, Allocator, Global};
 use std::marker::Model;
 
 /// Why a core doesn't come into a store.
@@ -333,6 +333,16 @@ impl<T, W: Words, A: Allocator> Cores<T, W, A> {
             return Err(TakeError::UsedNumber);
         }
         Ok(())
+    }
+
+    /// Takes memory for `cores` more in the list of cores.
+    ///
+    /// # Errors
+    /// If memory is refused.
+    pub fn reserve(&mut self, cores: usize) -> Result<(), AllocError>
+        ensures { self.new ≡ self.old }
+    {
+        self.cores.reserve(cores)
     }
 
     /// Takes a core in, which is open from then on. The one that was open drains. A later tick that the core noted is

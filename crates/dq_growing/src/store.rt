@@ -5,8 +5,9 @@ ghost use Rattle.std.specs.Prelude.{◌≡◌, ◌↔◌, IsTrue, IfSome, IfNone
 ghost use Rattle.dq_growing.specs.Cores.{InsertsIn, TakesIn, GivesDrained, NoneDrained};
 ghost use Rattle.dq_ticks.specs.Keys.{EntryName};
 ghost use Rattle.dq_growing.specs.Stands.{OneLeaves, SameStand};
-ghost use Rattle.dq_growing.specs.Store.{key_as, key_told, removed_as, expired_as, moved_as, answer_as, NotesMoved, NotesAnswered, IsStore, KeysAreApart, StandsFor, ComesFor, GoesOnFor, RemovesFor, TellsFor, RelocatesFor, PollsSomeFor, PeeksFor, ReapsFor, ResetsFor};
+ghost use Rattle.dq_growing.specs.Store.{key_as, key_told, removed_as, expired_as, moved_as, answer_as, NotesMoved, NotesAnswered, IsStore, KeysAreApart, StandsFor, ComesFor, GoesOnFor, RemovesFor, TellsFor, RelocatesFor, PollsFor, PeeksFor, piece_as, NotesAfter, ReapsFor, ResetsFor};
 ghost use Rattle.dq_growing.specs.Moving.{IfTo, IfCameOut};
+ghost use Rattle.dq_growing.specs.Polls.{DoesPoll, DoesPiece};
 ghost use Rattle.dq_growing.specs.Notes.{HasNoteRoom, HasNoNumber, user_at, with_id};
 
 use crate::cores::{Cores, TakeError, missing_at};
@@ -24,8 +25,8 @@ use std::marker::Model;
 /// with the call, is in that core.
 #[derive(Drop)]
 pub struct Store<T, W: Words, A: Allocator = Global> {
-    cores: Cores<T, W, A>,
-    notes: Notes<A>,
+    pub(crate) cores: Cores<T, W, A>,
+    pub(crate) notes: Notes<A>,
 }
 
 impl<T, W: Words, A: Allocator> Model for Store<T, W, A> {
@@ -123,6 +124,27 @@ fn note_answer<T, A: Allocator + Clone>(
     match answer {
         Ok(moved) => Ok(note_moved(notes, user, place, moved)),
         Err(error) => Err(error),
+    }
+}
+
+// Takes away the note of what a poll took out, and tells it as its user knows it.
+#[inline(always)]
+fn note_out<T, A: Allocator + Clone>(
+    notes: &mut Notes<A>,
+    made: Result<Piece<T>, CoreError>,
+) -> Result<Piece<T>, CoreError>
+    ensures answer { result ≡ piece_as notes.old made }
+    ensures notes { NotesAfter notes.old made notes.new }
+{
+    match made {
+        Ok(Piece::Answer(Turn::Out(expired))) => {
+            let place = expired.key.entry();
+            let user = notes.user(&place);
+            let _ = notes.forget(&place);
+            let expired = expired_as(&user, expired);
+            Ok(Piece::Answer(Turn::Out(expired)))
+        }
+        answer => answer,
     }
 }
 
@@ -280,27 +302,35 @@ impl<T, W: Words, A: Allocator + Clone> Store<T, W, A> {
         (answer, beside)
     }
 
-    /// Notes a tick, of one millisecond, and makes at most `most` steps of a poll: it takes out one entry whose deadline
-    /// in force is reached by the greatest tick noted, or tells when to come again, or has more to do. No value is
-    /// dropped: that of each cancelled entry which it reaps waits until it is taken out.
+    /// Notes a tick, of one millisecond, and polls one core: it takes out one entry whose deadline in force is reached by
+    /// the greatest tick noted, or tells when to come again, or that another core may have more. No value is dropped:
+    /// that of each cancelled entry which it reaps waits until it is taken out.
+    ///
+    /// # Errors
+    /// `TickTooLarge` beyond the last tick, which is not noted then.
+    pub fn poll(&mut self, tick: u64) -> Result<Piece<T>, CoreError>
+        // Exactly: a poll of the cores. What comes out has its user's key, and leaves no note.
+        ensures polls { PollsFor (DoesPoll W.shared) self.old tick result self.new }
+    {
+        let made = self.cores.poll(tick);
+        let answer = note_out(&mut self.notes, made);
+        self.notes.law();
+        answer
+    }
+
+    /// The same by at most `most` steps, each in constant time. So it also tells where it made them all, and more may be
+    /// left.
     ///
     /// # Errors
     /// `TickTooLarge` beyond the last tick, which is not noted then.
     pub fn poll_some(&mut self, tick: u64, most: u32) -> Result<Piece<T>, CoreError>
         // Exactly: a piece of a poll of the cores. What comes out has its user's key, and leaves no note.
-        ensures polls { PollsSomeFor W.shared self.old tick most result self.new }
+        ensures polls { PollsFor (DoesPiece W.shared most) self.old tick result self.new }
     {
-        match self.cores.poll_some(tick, most) {
-            Ok(Piece::Answer(Turn::Out(expired))) => {
-                let place = expired.key.entry();
-                let user = self.notes.user(&place);
-                let _ = self.notes.forget(&place);
-                self.notes.law();
-                let expired = expired_as(&user, expired);
-                Ok(Piece::Answer(Turn::Out(expired)))
-            }
-            answer => answer,
-        }
+        let made = self.cores.poll_some(tick, most);
+        let answer = note_out(&mut self.notes, made);
+        self.notes.law();
+        answer
     }
 
     /// Returns the key of an entry that is scheduled first, possibly a cancelled one. It returns none if no entry is

@@ -1,4 +1,4 @@
-use Rattle.std.proofs.Common.{◌≡◌, inl, refl, sym, ◌∙◌}
+use Rattle.std.proofs.Common.{inl, refl, sym, ◌∙◌}
 use Rattle.dq_growing.proofs.Stored.{stored, law_same_notes, law_forgets}
 use Rattle.dq_growing.proofs.store.Store.reap.Goals as goal
 

@@ -1,0 +1,11 @@
+use Rattle.dq_growing.proofs.Aging.{all_age}
+use Rattle.dq_growing.proofs.Stored.{stored, law_reserved, law_same_cores}
+use Rattle.dq_growing.proofs.store.Store.reserve.Goals as goal
+
+pub invariant_of-self-2 : goal.invariant_of-self-2
+invariant_of-self-2 g c =
+    let i = c.self.inside in
+    let cores = c.reserve.new.self in
+    let same = c.reserve.ensures in
+    let kept = law_same_cores (stored i.cores i.notes) cores c.self.invariant same in
+    law_reserved (stored cores i.notes) cores c.reserve-reserved.new.self kept (all_age cores) c.law.ensures c.reserve-reserved.ensures.same
