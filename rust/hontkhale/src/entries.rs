@@ -1,15 +1,13 @@
 //! The live entries of one owner's queue, as std's iterators have it, and what the queue that threads share does with an
 //! entry's value where it is.
 
-#[cfg(feature = "std")]
-use crate::core::Words;
 use crate::core::{DelayCore, Entries, LiveEntry, VecWords};
 #[cfg(feature = "std")]
-use crate::growing::Cores;
+use crate::core::{Swept, Words};
+#[cfg(feature = "std")]
+use crate::growing::Store;
 #[cfg(feature = "std")]
 use crate::index::nth_mut;
-#[cfg(feature = "std")]
-use crate::memory::AllocError;
 #[cfg(feature = "std")]
 use crate::ticks::{EntryId, Key};
 use core::iter::FusedIterator;
@@ -56,22 +54,43 @@ impl<T, W: Words> DelayCore<T, W> {
     }
 }
 
-/// What the queue that threads share asks of the cores of one owner, beside their calls.
+/// What the queue that threads share asks of the store of one owner, beside its calls.
 #[cfg(feature = "std")]
-impl<T, W: Words> Cores<T, W> {
-    /// Makes places for so many cores more.
-    pub(crate) fn reserve(&mut self, cores: usize) -> Result<(), AllocError> {
-        Ok(self.cores.try_reserve(cores)?)
+impl<T, W: Words> Store<T, W> {
+    pub(crate) fn sweep_some(&mut self, place: usize, from: usize, count: usize) -> Option<Swept> {
+        self.cores.sweep_some(place, from, count)
+    }
+
+    pub(crate) fn place(&self, entry: &EntryId) -> Option<EntryId> {
+        self.notes.place(entry)
+    }
+
+    pub(crate) fn first_in(&self, place: usize) -> Option<EntryId> {
+        let key = self.cores.get(place)?.peek()?;
+        Some(self.notes.user(&key.entry()))
     }
 
     /// As [`DelayCore::get_mut`].
     pub(crate) fn get_mut(&mut self, entry: &EntryId) -> Option<&mut T> {
-        let place = self.place_of(entry.shard())?;
-        nth_mut(&mut self.cores, place).get_mut(entry)
+        let entry = self.notes.place(entry)?;
+        let place = self.cores.place_of(entry.shard())?;
+        nth_mut(&mut self.cores.cores, place).get_mut(&entry)
     }
 
     /// As [`DelayCore::next_key`], of the open one.
     pub(crate) fn next_key(&mut self) -> Option<Key> {
-        self.cores.get_mut(self.opened)?.next_key()
+        self.cores.cores.get_mut(self.cores.opened)?.next_key()
+    }
+
+    /// The first entry, live or cancelled, at one of so many slots of a core from one on, and the slot to go on from.
+    pub(crate) fn entry_from(&self, place: usize, from: usize, count: usize) -> (Option<EntryId>, Option<usize>) {
+        let Some(core) = self.cores.get(place) else {
+            return (None, None);
+        };
+        let (found, next) = core.entry_from(from, count);
+        (
+            found.map(|place| self.notes.user(&place)),
+            Some(next).filter(|next| *next < core.capacity()),
+        )
     }
 }

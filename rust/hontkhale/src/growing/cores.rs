@@ -2,6 +2,7 @@
 
 use crate::core::{CoreError, DelayCore, Removed, Words};
 use crate::index::{nth, nth_mut};
+use crate::memory::AllocError;
 use crate::ticks::{EntryId, Key, LAST_TICK};
 use alloc::vec::Vec;
 
@@ -211,6 +212,14 @@ impl<T, W: Words> Cores<T, W> {
             return Err(TakeError::UsedNumber);
         }
         Ok(())
+    }
+
+    /// Takes memory for `cores` more in the list of cores.
+    ///
+    /// # Errors
+    /// If memory is refused.
+    pub fn reserve(&mut self, cores: usize) -> Result<(), AllocError> {
+        Ok(self.cores.try_reserve(cores)?)
     }
 
     /// Takes a core in, which is open from then on. The one that was open drains. A later tick that the core noted is
