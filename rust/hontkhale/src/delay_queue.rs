@@ -12,7 +12,6 @@ mod front;
 mod growth;
 mod handle;
 mod key;
-mod moves;
 mod receive;
 mod receiver;
 mod shard;
@@ -585,7 +584,7 @@ impl<T> DelayQueue<T> {
     /// While other threads change the queue it is about that number, and never too small: each entry that stays there during
     /// the call is counted. One that comes or ends meanwhile may be counted too.
     pub fn len(&self) -> usize {
-        self.shared.waiting()
+        self.shared.front.waiting()
     }
 
     /// Whether no entry waits. While other threads change the queue it tells that about as [`len`](DelayQueue::len) does: it may

@@ -5,11 +5,9 @@
 use crate::core::Words;
 use crate::core::{DelayCore, Entries, LiveEntry, VecWords};
 #[cfg(feature = "std")]
-use crate::growing::Cores;
+use crate::growing::Store;
 #[cfg(feature = "std")]
 use crate::index::nth_mut;
-#[cfg(feature = "std")]
-use crate::memory::AllocError;
 #[cfg(feature = "std")]
 use crate::ticks::{EntryId, Key};
 use core::iter::FusedIterator;
@@ -44,34 +42,24 @@ impl<T, W: Words> DelayCore<T, W> {
         let born = self.slots.stamp(index) + 1;
         Some(Key::new(EntryId::new(self.shard(), index as u32, born), born))
     }
-
-    /// The first entry, live or cancelled, at one of so many slots from one on, and the slot to go on from.
-    pub(crate) fn entry_from(&self, from: usize, count: usize) -> (Option<EntryId>, usize) {
-        let end = self.capacity().min(from.saturating_add(count));
-        let born = |slot: usize| Some((slot, self.slots.held(slot)?.0));
-        match (from..end).find_map(born) {
-            None => (None, end),
-            Some((slot, born)) => (Some(EntryId::new(self.shard(), slot as u32, born)), slot + 1),
-        }
-    }
 }
 
-/// What the queue that threads share asks of the cores of one owner, beside their calls.
+/// What the queue that threads share asks of the store of one owner, beside its calls.
 #[cfg(feature = "std")]
-impl<T, W: Words> Cores<T, W> {
-    /// Makes places for so many cores more.
-    pub(crate) fn reserve(&mut self, cores: usize) -> Result<(), AllocError> {
-        Ok(self.cores.try_reserve(cores)?)
+impl<T, W: Words> Store<T, W> {
+    pub(crate) fn place(&self, entry: &EntryId) -> Option<EntryId> {
+        self.notes.place(entry)
     }
 
     /// As [`DelayCore::get_mut`].
     pub(crate) fn get_mut(&mut self, entry: &EntryId) -> Option<&mut T> {
-        let place = self.place_of(entry.shard())?;
-        nth_mut(&mut self.cores, place).get_mut(entry)
+        let entry = self.notes.place(entry)?;
+        let place = self.cores.place_of(entry.shard())?;
+        nth_mut(&mut self.cores.cores, place).get_mut(&entry)
     }
 
     /// As [`DelayCore::next_key`], of the open one.
     pub(crate) fn next_key(&mut self) -> Option<Key> {
-        self.cores.get_mut(self.opened)?.next_key()
+        self.cores.cores.get_mut(self.cores.opened)?.next_key()
     }
 }

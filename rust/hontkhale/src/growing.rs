@@ -14,6 +14,7 @@ mod notes;
 mod polls;
 mod store;
 mod sweeps;
+mod upkeep;
 
 /// After each tick: where nothing has a wake.
 pub(crate) const NEVER: u64 = u64::MAX;

@@ -50,6 +50,37 @@ impl<T, W: Words> DelayCore<T, W> {
         Some(Key::new(entry, self.slots.stamp(index)))
     }
 
+    /// Returns the entry that stands first in `count` slots from `from` on, live or cancelled. It returns none if none
+    /// stands there.
+    pub fn entry_from(&self, from: usize, count: usize) -> Option<EntryId> {
+        let capacity = self.slots.capacity();
+        let first = from.min(capacity);
+        let end = first + count.min(capacity - first);
+        for index in first..end {
+            if let Some(born) = self.slots.born(index) {
+                return Some(EntryId::new(self.shard, index as u32, born));
+            }
+        }
+        None
+    }
+
+    // The stamp of a slot, 0 past the last one.
+    fn stamp_at(&self, index: usize) -> u32 {
+        if index >= self.slots.capacity() {
+            return 0;
+        }
+        self.slots.stamp(index)
+    }
+
+    /// Whether an entry of that name was here, or its stamp has been given: no insert gives that name. The number of the
+    /// queue isn't asked.
+    pub fn is_past(&self, entry: &EntryId) -> bool {
+        if entry.born() > self.stamp_at(entry.index() as usize) {
+            return false;
+        }
+        true
+    }
+
     /// Returns where an entry stands in the wheel. It returns none if the entry isn't in the queue.
     pub fn place(&self, entry: &EntryId) -> Option<Place> {
         let index = self.find(entry)?;

@@ -115,12 +115,17 @@ impl<T> Builder<T> {
         let Ok(clerk) = Clerk::new(u32::MAX) else {
             handle_alloc_error(Layout::new::<Front>());
         };
-        let front = Arc::new(Front::new(time, self.max_entries, clerk.directory().clone()));
+        let front = Arc::new(Front::new(
+            time,
+            self.max_entries,
+            self.shards,
+            clerk.directory().clone(),
+        ));
         if let Source::Manual(clock) = &self.clock {
             let weak = Arc::downgrade(&front);
             clock.wakes(move || weak.upgrade().map(|front| front.wake_all()).is_some());
         }
-        DelayQueue::of(&Arc::new(Shared::new(front, clerk, self.shards, self.last_stamp)))
+        DelayQueue::of(&Arc::new(Shared::new(front, clerk, self.last_stamp)))
     }
 }
 

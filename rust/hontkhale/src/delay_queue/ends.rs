@@ -123,8 +123,8 @@ impl<T> Shared<T> {
         }
     }
 
-    /// Tells those that ask where the queue is empty now, but not in a closure under a lock of the queue. What a task's waker panics with is lost: the caller may have a value
-    /// in hand. No lock is held.
+    /// Tells those that ask where the queue is empty now, but not in a closure under a lock of the queue. What a task's waker panics
+    /// with is lost: the caller may have a value in hand. No lock is held.
     #[cold]
     pub fn note_end(&self) {
         // The lock of those that wait may be held by one that waits for the closure's: whoever has called that looks once more.
@@ -133,7 +133,7 @@ impl<T> Shared<T> {
         }
         // Of two threads that end the last two entries one sees that both have ended.
         fence(SeqCst);
-        if !self.has_none() {
+        if !self.front.has_none() {
             return;
         }
         self.front.ends.wake_all();
@@ -165,8 +165,8 @@ impl<T> Shared<T> {
 
     /// Whether no entry waits, told by the locks of all shards: each insert that takes one of them later sees what the caller did.
     fn is_surely_empty(&self) -> bool {
-        self.shards.iter().for_each(|shard| drop(shard.lock()));
-        self.has_none()
+        self.locked().for_each(drop);
+        self.front.has_none()
     }
 
     /// Waits until no entry waits, and tells whether none did before the time was over.
@@ -203,7 +203,7 @@ mod tests {
         let queue = DelayQueue::builder().max_entries(4).build();
         let key = queue.insert("last".to_string(), FAR).expect("room");
         let shared = &queue.shared;
-        let value = shared.shards[key.shard()].lock().remove(&key).expect("it waits");
+        let value = shared.lock(key.shard()).remove(&key).expect("it waits");
         queue.close_when_empty();
         let is_empty = queue.wait_empty(Duration::ZERO);
         shared.front.uncount(1);
@@ -216,9 +216,10 @@ mod tests {
     fn an_insert_that_is_counted_and_comes_to_nothing_keeps_no_receiver() {
         let queue = DelayQueue::<String>::builder().max_entries(4).build();
         let front = &queue.shared.front;
-        assert!(front.count_in());
+        let counted = front.count_in();
+        assert!(counted.is_some());
         queue.close_when_empty();
-        front.uncount(1);
+        drop(counted);
         assert!(front.bell.is_closed());
     }
 }

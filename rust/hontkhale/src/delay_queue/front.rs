@@ -5,18 +5,16 @@ use crate::delay_queue::ends::Ends;
 use crate::delay_queue::errors::KeyError;
 use crate::delay_queue::key::Key;
 use crate::delay_queue::receiver::Tasks;
+use crate::delay_queue::shard::Seen;
 use crate::delay_queue::time::Time;
-use crate::delay_queue::waking::{Bell, Wait};
+use crate::delay_queue::waking::{Bell, Wait, NEVER};
 use crate::directory::Directory;
 use crate::ticks;
 use crate::words::OpenWords;
 use std::cell::Cell;
 use std::panic::resume_unwind;
-use std::sync::atomic::{AtomicU32, AtomicU64, AtomicUsize, Ordering::SeqCst};
+use std::sync::atomic::{AtomicU32, AtomicUsize, Ordering::SeqCst};
 use std::thread::{self, Thread};
-
-/// Over how many counts the cancels of a queue's threads are spread.
-const LANES: usize = 8;
 
 static NEXT_QUEUE: AtomicU32 = AtomicU32::new(1);
 static NEXT_THREAD: AtomicUsize = AtomicUsize::new(0);
@@ -78,16 +76,21 @@ pub(crate) struct Front {
     /// The most entries, and how many wait where they are bounded.
     pub most: usize,
     waiting: AtomicUsize,
-    cancels: [Lane; LANES],
+    /// What is known of each shard without its lock.
+    pub seen: Box<[Seen]>,
 }
 
-/// The cancels of some threads that were accepted.
-#[repr(align(64))]
-#[derive(Default)]
-struct Lane(AtomicU64);
+/// An entry that is counted though it isn't in.
+pub(crate) struct Counted<'a>(&'a Front);
+
+impl Drop for Counted<'_> {
+    fn drop(&mut self) {
+        self.0.uncount(1);
+    }
+}
 
 impl Front {
-    pub fn new(time: Time, most: usize, words: Directory<OpenWords>) -> Front {
+    pub fn new(time: Time, most: usize, shards: usize, words: Directory<OpenWords>) -> Front {
         Front {
             id: NEXT_QUEUE.fetch_add(1, SeqCst),
             time,
@@ -97,14 +100,14 @@ impl Front {
             ends: Ends::default(),
             most,
             waiting: AtomicUsize::new(0),
-            cancels: Default::default(),
+            seen: (0..shards).map(|_| Seen::new()).collect(),
         }
     }
 
     /// A step by the words of an entry's first place, without a lock; none where the shard is to tell: after a reset the key has
     /// an earlier stamp, and an entry that was moved is found as removed.
     #[inline(always)]
-    pub fn quick_step(&self, key: &Key, step: Step) -> Option<Result<u64, KeyError>> {
+    fn quick_step(&self, key: &Key, step: Step) -> Option<Result<u64, KeyError>> {
         if key.queue() != self.id {
             return Some(Err(KeyError::WrongQueue));
         }
@@ -114,6 +117,26 @@ impl Front {
             Err(CallError::Ended { how }) if !matches!(how, Look::LookRemoved(_)) => Some(Err(KeyError::Ended)),
             Err(_) => None,
         }
+    }
+
+    /// Makes a step; `slowly` by its shard's lock, where that is to tell. Who asks for the queue's end is told by `note_end`.
+    #[inline(always)]
+    pub fn step(
+        &self,
+        key: &Key,
+        step: Step,
+        slowly: impl FnOnce() -> Result<u64, KeyError>,
+        note_end: impl FnOnce(),
+    ) -> Result<u64, KeyError> {
+        let made = self.quick_step(key, step).unwrap_or_else(slowly);
+        if matches!(step, Step::Cancel) && made.is_ok() {
+            self.seen[key.shard()].cancels.fetch_add(1, SeqCst);
+            self.uncount(1);
+            if self.ends.is_asked() {
+                note_end();
+            }
+        }
+        made
     }
 
     /// Raises the deadline of a live entry to a tick where that isn't sooner, without a lock, and tells whether it did.
@@ -133,9 +156,10 @@ impl Front {
 
     /// Counts one entry more, unless there are as many as may be.
     #[inline(always)]
-    pub fn count_in(&self) -> bool {
+    pub fn count_in(&self) -> Option<Counted<'_>> {
         let more = |waiting| Some(waiting + 1).filter(|waiting| *waiting <= self.most);
-        !self.is_bounded() || self.waiting.fetch_update(SeqCst, SeqCst, more).is_ok()
+        let may_come = !self.is_bounded() || self.waiting.fetch_update(SeqCst, SeqCst, more).is_ok();
+        may_come.then(|| Counted(self))
     }
 
     /// Counts entries that wait no longer.
@@ -146,21 +170,29 @@ impl Front {
         }
     }
 
-    /// How many entries wait, where they are bounded.
-    pub fn bounded(&self) -> Option<usize> {
-        self.is_bounded().then(|| self.waiting.load(SeqCst))
+    /// How many wait by the shards. `others` stands for what others do meanwhile.
+    pub fn waiting_while(&self, mut others: impl FnMut()) -> usize {
+        self.seen.iter().map(|seen| seen.waiting(&mut others)).sum::<u64>() as usize
     }
 
-    /// Counts an accepted cancel.
-    #[inline]
-    pub fn count_cancel(&self) {
-        self.cancels[route() % LANES].0.fetch_add(1, SeqCst);
-        self.uncount(1);
+    /// Whether no entry waits, by the shards alone: a bound counts one that isn't in, and one that is out for a moment yet. Where an
+    /// entry that is out is counted by the bound, nobody looks once more.
+    pub fn has_none(&self) -> bool {
+        self.waiting_while(|| {}) == 0
     }
 
-    /// The cancels that were accepted.
-    pub fn cancels(&self) -> u64 {
-        self.cancels.iter().map(|lane| lane.0.load(SeqCst)).sum()
+    /// How many entries wait. While others change the queue it may be more, and is never less than those that stay meanwhile.
+    pub fn waiting(&self) -> usize {
+        // It counts an entry from before it is in until after it is out.
+        if self.is_bounded() {
+            return self.waiting.load(SeqCst);
+        }
+        self.waiting_while(|| {})
+    }
+
+    /// The least hint: nothing is due before it.
+    pub fn least_hint(&self) -> u64 {
+        self.seen.iter().map(Seen::hint).min().unwrap_or(NEVER)
     }
 
     /// Wakes the leader, and each task, that sleeps beyond a tick. It tells whether the queue is sealed: what was put in comes too

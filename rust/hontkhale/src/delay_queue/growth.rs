@@ -2,8 +2,9 @@
 
 use crate::core::{CoreConfig, DelayCore};
 use crate::delay_queue::errors::InsertErrorKind;
+use crate::delay_queue::shard::Seen;
 use crate::delay_queue::shared::Shared;
-use crate::delay_queue::store::{least, Core, Refused, Work, CORES};
+use crate::delay_queue::store::{least, Core, Work, CORES};
 use crate::directory::Clerk;
 use crate::memory::AllocError;
 use crate::ticks::CAPACITY_LIMIT;
@@ -43,11 +44,11 @@ impl<T> Shared<T> {
     /// An empty core for a shard, with its words where they are new: then it has that number. No lock of a shard is held.
     fn make(&self, number: u32, at: usize, size: Size) -> Result<(Core<T>, Option<OpenWords>), AllocError> {
         let Size { capacity, now } = size;
-        let folded = self.shards[at].lock().take_folded(capacity);
+        let folded = self.lock(at).take_folded(capacity);
         let (mut core, words) = match folded.map(|folded| folded.unfold::<T>()) {
             Some(Ok(core)) => (core, None),
             Some(Err(folded)) => {
-                let _ = self.shards[at].lock().keep_folded(folded);
+                let _ = self.lock(at).keep_folded(folded);
                 return Err(AllocError);
             }
             None => {
@@ -70,32 +71,20 @@ impl<T> Shared<T> {
         Ok((core, size.capacity))
     }
 
-    /// Makes room in a shard for an insert; where that one has as many cores as it may have, in another one, which is told as
-    /// `Full` all the same.
-    pub fn grow(&self, at: usize) -> Result<(), InsertErrorKind> {
-        let grown = self.grow_at(at);
-        if grown == Err(InsertErrorKind::Full) {
-            let mut others = (0..self.shards.len()).filter(|other| *other != at);
-            others.any(|other| self.grow_at(other).is_ok());
-        }
-        grown
-    }
-
     /// Makes room in a shard for an insert, unless another thread has.
-    pub fn grow_at(&self, at: usize) -> Result<(), InsertErrorKind> {
+    pub fn grow(&self, at: usize) -> Result<(), InsertErrorKind> {
         let now = self.front.time.tick();
         let mut clerk = self.makes.lock();
         let wanted = {
-            let mut store = self.shards[at].lock();
-            match store.wanted_for_insert() {
-                Ok(None) => return Ok(()),
-                Ok(Some(capacity)) => store.prepare(1).map(|()| capacity),
-                Err(Refused::NoRoom | Refused::Ended) => return Err(InsertErrorKind::Full),
-            }
+            let mut store = self.lock(at);
+            let Some(capacity) = store.wanted_for_insert()? else {
+                return Ok(());
+            };
+            store.prepare(1).map(|()| capacity)
         };
         let made = wanted.and_then(|capacity| self.make_one(&mut clerk, at, Size { capacity, now }));
         let (core, words) = made.map_err(|_| InsertErrorKind::NoMemory)?;
-        self.shards[at].lock().bring(core, words);
+        self.lock(at).bring(core, words);
         Ok(())
     }
 
@@ -106,7 +95,7 @@ impl<T> Shared<T> {
         for _ in 0..STEPS {
             // A program's clock isn't read under a lock.
             let now = self.front.time.tick();
-            let work = self.shards[at].lock().work(now);
+            let work = self.lock(at).work(now);
             match work {
                 Work::Fold(core) => self.fold(at, core),
                 Work::Make if self.make_ahead(at, now) => {}
@@ -117,7 +106,7 @@ impl<T> Shared<T> {
                 }
             }
         }
-        self.shards[at].lock().note_work();
+        self.lock(at).note_work();
         true
     }
 
@@ -125,7 +114,7 @@ impl<T> Shared<T> {
     fn fold(&self, at: usize, core: Core<T>) {
         let Ok(folded) = core.fold() else { return };
         if 2 * folded.worn() <= folded.capacity() {
-            let kept = self.shards[at].lock().keep_folded(folded);
+            let kept = self.lock(at).keep_folded(folded);
             // Where memory is refused it goes.
             drop(kept);
         }
@@ -135,7 +124,7 @@ impl<T> Shared<T> {
     fn make_ahead(&self, at: usize, now: u64) -> bool {
         let mut clerk = self.makes.lock();
         let wanted = {
-            let mut store = self.shards[at].lock();
+            let mut store = self.lock(at);
             store.wanted().filter(|_| store.prepare(1).is_ok())
         };
         // Another thread may have made it meanwhile.
@@ -143,19 +132,15 @@ impl<T> Shared<T> {
         let Ok((core, words)) = self.make_one(&mut clerk, at, Size { capacity, now }) else {
             return false;
         };
-        self.shards[at].lock().bring(core, words);
+        self.lock(at).bring(core, words);
         true
     }
 
     /// Frees what was cancelled in a shard, by a bounded number of slots, and drops the values. Where a drop panics the entry
     /// that wants room isn't in yet, and no key of it is lost.
     pub fn free_cancelled(&self, at: usize) {
-        let cancels = self.front.cancels();
-        for _ in 0..SWEEPS {
-            if !self.shards[at].lock().sweep(cancels) {
-                break;
-            }
-        }
+        let cancels = self.front.seen[at].cancels();
+        (0..SWEEPS).all(|_| self.lock(at).sweep(cancels));
         self.drop_aside(at);
         self.tidy();
     }
@@ -163,22 +148,21 @@ impl<T> Shared<T> {
     /// A bounded part of what is done where nothing is due: cancelled entries are freed and their values dropped, and the shards
     /// brought to the right size.
     pub fn use_quiet_moment(&self) {
-        let cancels = self.front.cancels();
-        if !self.shards.iter().all(|shard| shard.quiet_since() == cancels) {
-            self.bring_to_size(cancels);
+        if !self.front.seen.iter().all(Seen::is_quiet) {
+            self.bring_to_size();
         }
         self.tidy();
     }
 
     /// Looks for cancelled entries in one of the shards, and brings each to the right size.
     #[cold]
-    fn bring_to_size(&self, cancels: u64) {
-        let count = self.shards.len();
+    fn bring_to_size(&self) {
+        let count = self.front.seen.len();
         let from = (self.front.time.tick() % count as u64) as usize;
         let mut is_swept = false;
         for at in (from..count).chain(0..from) {
-            let mut store = self.shards[at].lock();
-            is_swept = is_swept || store.sweep(cancels);
+            let mut store = self.lock(at);
+            is_swept = is_swept || store.sweep(self.front.seen[at].cancels());
             let is_busy = store.is_busy();
             drop(store);
             if is_busy {
@@ -189,7 +173,7 @@ impl<T> Shared<T> {
 
     /// Makes room for so many entries, and keeps it.
     pub fn reserve(&self, entries: usize) -> Result<(), InsertErrorKind> {
-        let shards = self.shards.len();
+        let shards = self.front.seen.len();
         if entries > self.front.most.min(shards * CORES * CAPACITY_LIMIT) {
             return Err(InsertErrorKind::Full);
         }
@@ -200,14 +184,14 @@ impl<T> Shared<T> {
             .try_for_each(|at| self.make_up_to(clerk.given(), at, (share, now), &mut made))
             .and_then(|()| self.make_places(&clerk, made.len()));
         for (at, core, words) in made {
-            let mut store = self.shards[at].lock();
+            let mut store = self.lock(at);
             match (reserved, words) {
-                (Ok(()), None) => store.bring_spare(core, 0),
+                (Ok(()), None) => store.bring(core, 0),
                 (Ok(()), Some(words)) => {
                     let capacity = core.capacity();
                     // It has the number that is given next.
                     if core.shard() == clerk.given() && clerk.add(words).is_ok() {
-                        store.bring_spare(core, capacity);
+                        store.bring(core, capacity);
                     }
                 }
                 (Err(AllocError), None) => _ = core.fold().map(|folded| store.keep_folded(folded)),
@@ -215,7 +199,7 @@ impl<T> Shared<T> {
             }
         }
         reserved.map_err(|_| InsertErrorKind::NoMemory)?;
-        self.shards.iter().for_each(|shard| shard.lock().keep(share));
+        self.locked().for_each(|mut store| store.keep(share));
         Ok(())
     }
 
@@ -234,7 +218,7 @@ impl<T> Shared<T> {
         (share, now): (usize, u64),
         made: &mut Vec<(usize, Core<T>, Option<OpenWords>)>,
     ) -> Result<(), AllocError> {
-        let mut store = self.shards[at].lock();
+        let mut store = self.lock(at);
         let mut lacks = store.lacks(share);
         store.prepare(parts(lacks, CAPACITY_LIMIT))?;
         drop(store);

@@ -33,24 +33,14 @@ impl Handle {
         if self.front.ends.is_over() {
             return Err(KeyError::Closed);
         }
-        let made = match self.front.quick_step(key, step) {
-            Some(made) => made,
-            None => self.queue.upgrade().ok_or(KeyError::Closed)?.slow_step(key, step),
-        };
-        if matches!(step, Step::Cancel) && made.is_ok() {
-            self.front.count_cancel();
-            if self.front.ends.is_asked() {
-                self.note_end();
-            }
-        }
-        made
+        let slowly = || self.queue()?.slow_step(key, step);
+        self.front.step(key, step, slowly, || {
+            self.queue().iter().for_each(|queue| queue.note_end())
+        })
     }
 
-    #[cold]
-    fn note_end(&self) {
-        if let Some(queue) = self.queue.upgrade() {
-            queue.note_end();
-        }
+    fn queue(&self) -> Result<Arc<dyn Steps>, KeyError> {
+        self.queue.upgrade().ok_or(KeyError::Closed)
     }
 
     fn step(&self, key: &Key, step: Step) -> Result<Instant, KeyError> {
@@ -118,9 +108,8 @@ impl Handle {
     /// # Ok::<(), Box<dyn std::error::Error>>(())
     /// ```
     pub fn take<T: 'static>(&self, key: &Key) -> Result<T, KeyError> {
-        let queue = self.queue.upgrade().ok_or(KeyError::Closed)?;
         let mut value = None::<T>;
-        queue.take(key, &mut value)?;
+        self.queue()?.take(key, &mut value)?;
         value.ok_or(KeyError::WrongQueue)
     }
 

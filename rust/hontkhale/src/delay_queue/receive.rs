@@ -87,7 +87,7 @@ impl<T> Shared<T> {
             wait: self.front.join(),
         };
         loop {
-            match seat.wait.step(&self.front.bell, || self.least_hint()) {
+            match seat.wait.step(&self.front.bell, || self.front.least_hint()) {
                 Todo::Step => {}
                 Todo::Take => {
                     let taken = take();
@@ -125,8 +125,8 @@ impl<T> Shared<T> {
     #[inline(always)]
     fn most_due(&self, now: u64) -> Option<usize> {
         let mut first = (now.saturating_add(1), None);
-        for (at, shard) in self.shards.iter().enumerate() {
-            let hint = shard.hint();
+        for (at, seen) in self.front.seen.iter().enumerate() {
+            let hint = seen.hint();
             if hint < first.0 {
                 first = (hint, Some(at));
             }
@@ -141,20 +141,16 @@ impl<T> Shared<T> {
         let Some(at) = self.most_due(now) else {
             return Step::Rests;
         };
-        let mut store = self.shards[at].lock();
-        let polled = store.poll(now, whole);
-        let has_work = store.has_work;
-        drop(store);
-        let out = match polled {
-            Polled::Out(key, deadline, value) => Expired {
-                key,
-                deadline: self.front.time.moment(deadline),
-                value,
-            },
-            Polled::Works | Polled::Rests => return Step::Works,
+        let mut store = self.lock(at);
+        let Polled::Out(key, deadline, value) = store.poll(now, whole) else {
+            return Step::Works;
         };
-        self.note_out(at, 1, has_work);
-        Step::Took(out)
+        self.leave(store, 1);
+        Step::Took(Expired {
+            key,
+            deadline: self.front.time.moment(deadline),
+            value,
+        })
     }
 
     /// An entry that is due.
@@ -179,27 +175,17 @@ impl<T> Shared<T> {
             let first = row.len();
             let room = TAKEN_AT_ONCE.min(most - (first - before));
             row.reserve(room);
-            let has_work = self.take_at(at, now, row, first + room);
-            if row.len() > first {
-                self.note_out(at, row.len() - first, has_work);
+            let mut store = self.lock(at);
+            while row.len() < first + room {
+                let Polled::Out(key, tick, value) = store.poll(now, POLLED_WHOLE) else {
+                    break;
+                };
+                let deadline = self.front.time.moment(tick);
+                row.push(Expired { key, deadline, value });
             }
+            self.leave(store, row.len() - first);
         }
         Some(row.len() - before).filter(|taken| *taken > 0)
-    }
-
-    /// Takes out what is due in a shard, under one lock, until a row has so many. It tells whether something is to be done there.
-    fn take_at(&self, at: usize, now: u64, row: &mut Vec<Expired<T>>, until: usize) -> bool {
-        let mut store = self.shards[at].lock();
-        let mut known = (0, self.front.time.moment(0));
-        while row.len() < until {
-            let Polled::Out(key, tick, value) = store.poll(now, POLLED_WHOLE) else {
-                break;
-            };
-            known = (tick, self.front.time.moment_after(tick, known));
-            let deadline = known.1;
-            row.push(Expired { key, deadline, value });
-        }
-        store.has_work
     }
 }
 
@@ -326,8 +312,8 @@ impl<'q, T> Drain<'q, T> {
 
     /// The next live entry on the way through the shards.
     fn next_on_the_way(&mut self) -> Option<(Key, Instant, T)> {
-        while let Some(shard) = self.shared.shards.get(self.at) {
-            let mut store = shard.lock();
+        while self.at < self.shared.front.seen.len() {
+            let mut store = self.shared.lock(self.at);
             let moved = *self.moved.get_or_insert(store.counts.moved);
             let polled = store.take_next(&mut self.way);
             // What was moved meanwhile may be where the way has been.

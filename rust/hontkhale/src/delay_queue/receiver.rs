@@ -337,12 +337,12 @@ impl<T> Receiver<T> {
 fn waits_until<T>(shared: &Shared<T>, task: &Task) -> Option<u64> {
     shared.use_quiet_moment();
     let front = &shared.front;
-    let until = shared.least_hint();
+    let until = front.least_hint();
     if until <= front.time.tick() {
         return None;
     }
     front.tasks.arm(task, until);
-    let is_sooner = shared.least_hint() < until || front.bell.is_closed();
+    let is_sooner = front.least_hint() < until || front.bell.is_closed();
     if is_sooner {
         task.armed.store(0, SeqCst);
         return None;
@@ -367,7 +367,7 @@ impl<T> Drop for Receiver<T> {
 impl<T> fmt::Debug for Receiver<T> {
     fn fmt(&self, f: &mut fmt::Formatter<'_>) -> fmt::Result {
         f.debug_struct("Receiver")
-            .field("len", &self.shared.waiting())
+            .field("len", &self.shared.front.waiting())
             .field("wake_at", &self.wake_at)
             .finish_non_exhaustive()
     }
@@ -420,7 +420,7 @@ mod tests {
             key: keys[0],
             was_told: AtomicBool::new(false),
         });
-        let moved = |queue: &DelayQueue<u64>| queue.shared.shards[0].lock().counts.moved;
+        let moved = |queue: &DelayQueue<u64>| queue.shared.lock(0).counts.moved;
         assert_eq!(moved(&queue), 0);
         let mut receiver = queue.receiver();
         let waker = Waker::from(Arc::clone(&asks));

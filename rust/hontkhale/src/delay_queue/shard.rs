@@ -9,17 +9,16 @@
 //!    were let go, the queues of a manual clock.
 
 use crate::delay_queue::dropping::LetGo;
-use crate::delay_queue::store::Store;
+use crate::delay_queue::store::ShardStore;
 use crate::delay_queue::waking::NEVER;
-use crate::locks::{Mutex, MutexGuard};
+use crate::locks::MutexGuard;
 use std::ops::{Deref, DerefMut};
 use std::sync::atomic::{
     AtomicU64,
     Ordering::{Relaxed, SeqCst},
 };
-use std::sync::Arc;
 
-/// What is known of a shard without its lock. It is written as the lock is let go, and nowhere else.
+/// What is known of a shard without its lock. All but the cancels is written as the lock is let go, and nowhere else.
 #[repr(align(128))]
 pub(crate) struct Seen {
     /// Nothing is due before this tick: it is never later than what is due.
@@ -28,67 +27,63 @@ pub(crate) struct Seen {
     left: AtomicU64,
     /// The number of cancels since which a receiver that has time has nothing to do here.
     quiet_since: AtomicU64,
-}
-
-pub(crate) struct Shard<T> {
-    store: Mutex<Store<T>>,
-    seen: Seen,
-    let_go: Arc<LetGo<T>>,
+    /// The cancels that were accepted.
+    pub cancels: AtomicU64,
 }
 
 /// A shard while its lock is held.
 pub(crate) struct Locked<'s, T> {
-    store: MutexGuard<'s, Store<T>>,
-    shard: &'s Shard<T>,
+    pub store: MutexGuard<'s, ShardStore<T>>,
+    pub seen: &'s Seen,
+    pub let_go: &'s LetGo<T>,
 }
 
-impl<T> Shard<T> {
-    pub fn new(queue: u32, at: usize, let_go: &Arc<LetGo<T>>) -> Shard<T> {
-        Shard {
-            store: Mutex::new(Store::new(queue, at)),
-            seen: Seen {
-                hint: AtomicU64::new(NEVER),
-                left: AtomicU64::new(0),
-                quiet_since: AtomicU64::new(0),
-            },
-            let_go: Arc::clone(let_go),
-        }
-    }
-
-    #[inline(always)]
-    pub fn lock(&self) -> Locked<'_, T> {
-        Locked {
-            store: self.store.lock(),
-            shard: self,
+impl Seen {
+    pub fn new() -> Seen {
+        Seen {
+            hint: AtomicU64::new(NEVER),
+            left: AtomicU64::new(0),
+            quiet_since: AtomicU64::new(0),
+            cancels: AtomicU64::new(0),
         }
     }
 
     #[inline(always)]
     pub fn hint(&self) -> u64 {
-        self.seen.hint.load(SeqCst)
+        self.hint.load(SeqCst)
     }
 
-    pub fn left(&self) -> u64 {
-        self.seen.left.load(Relaxed)
+    pub fn cancels(&self) -> u64 {
+        self.cancels.load(SeqCst)
     }
 
-    pub fn quiet_since(&self) -> u64 {
-        self.seen.quiet_since.load(Relaxed)
+    /// Whether a receiver that has time has nothing to do here.
+    pub fn is_quiet(&self) -> bool {
+        self.quiet_since.load(Relaxed) == self.cancels()
+    }
+
+    /// How many entries wait, and never fewer than those that stay meanwhile. `others` stands for what others do meanwhile.
+    #[inline(always)]
+    pub fn waiting(&self, others: impl FnOnce()) -> u64 {
+        // They are read first: each cancel is among what is left.
+        let cancels = self.cancels();
+        others();
+        self.left.load(Relaxed).saturating_sub(cancels)
     }
 }
 
 impl<T> Deref for Locked<'_, T> {
-    type Target = Store<T>;
+    type Target = ShardStore<T>;
 
     #[inline(always)]
-    fn deref(&self) -> &Store<T> {
+    fn deref(&self) -> &ShardStore<T> {
         &self.store
     }
 }
 
 impl<T> DerefMut for Locked<'_, T> {
     #[inline(always)]
-    fn deref_mut(&mut self) -> &mut Store<T> {
+    fn deref_mut(&mut self) -> &mut ShardStore<T> {
         &mut self.store
     }
 }
@@ -97,10 +92,9 @@ impl<T> Locked<'_, T> {
     /// Notes whether values are set aside, and counts the places where some are.
     #[cold]
     fn note_aside(&mut self) {
-        let (had_aside, has_aside) = self.store.note_aside();
-        match has_aside {
-            true if !had_aside => self.shard.let_go.count_place(),
-            false if had_aside => self.shard.let_go.uncount_place(),
+        match self.store.note_aside() {
+            (false, true) => self.let_go.count_place(),
+            (true, false) => self.let_go.uncount_place(),
             _ => {}
         }
     }
@@ -113,7 +107,7 @@ impl<T> Drop for Locked<'_, T> {
         if self.store.may_have_aside {
             self.note_aside();
         }
-        let (store, seen) = (&*self.store, &self.shard.seen);
+        let (store, seen) = (&*self.store, self.seen);
         if seen.hint.load(Relaxed) != store.hint {
             seen.hint.store(store.hint, SeqCst);
         }

@@ -2,14 +2,13 @@
 
 use crate::delay_queue::dropping::LetGo;
 use crate::delay_queue::errors::{InsertErrorKind, KeyError};
-use crate::delay_queue::front::{route, Front, Step};
+use crate::delay_queue::front::{route, Counted, Front, Step};
 use crate::delay_queue::key::Key;
-use crate::delay_queue::shard::Shard;
-use crate::delay_queue::store::{Given, Made, Refused, Source};
-use crate::delay_queue::waking::NEVER;
+use crate::delay_queue::shard::Locked;
+use crate::delay_queue::store::ShardStore;
 use crate::directory::Clerk;
-use crate::locks;
-use crate::ticks::{self, LAST_TICK};
+use crate::locks::Mutex;
+use crate::ticks::LAST_TICK;
 use crate::words::OpenWords;
 use std::any::Any;
 use std::mem;
@@ -18,12 +17,12 @@ use std::time::{Duration, Instant};
 
 pub(crate) struct Shared<T> {
     pub front: Arc<Front>,
-    pub shards: Box<[Shard<T>]>,
+    shards: Box<[Mutex<ShardStore<T>>]>,
     /// Who gives the cores their numbers, held while one is made.
-    pub makes: locks::Mutex<Clerk<OpenWords>>,
+    pub makes: Mutex<Clerk<OpenWords>>,
     /// After how many inserts and resets a slot is worn.
     pub last_stamp: u32,
-    pub let_go: Arc<LetGo<T>>,
+    pub let_go: LetGo<T>,
 }
 
 /// What a handle asks of a queue whose values it doesn't know.
@@ -54,15 +53,6 @@ impl<T: Send + 'static> Steps for Shared<T> {
     }
 }
 
-/// An entry that is counted though it isn't in.
-struct Counted<'a>(&'a Front);
-
-impl Drop for Counted<'_> {
-    fn drop(&mut self) {
-        self.0.uncount(1);
-    }
-}
-
 /// Held while a program's closure is called under a lock of a queue, from before the lock is taken until it is let go.
 struct Lends<'q, T>(&'q Shared<T>);
 
@@ -76,127 +66,165 @@ impl<T> Drop for Lends<'_, T> {
     }
 }
 
-/// Inserts.
+/// The shards.
 impl<T> Shared<T> {
-    pub fn new(front: Arc<Front>, clerk: Clerk<OpenWords>, shards: usize, last_stamp: u32) -> Shared<T> {
-        let let_go = Arc::new(LetGo::new());
-        let shard = |at| Shard::new(front.id, at, &let_go);
+    pub fn new(front: Arc<Front>, clerk: Clerk<OpenWords>, last_stamp: u32) -> Shared<T> {
+        let shard = |at| Mutex::new(ShardStore::new(front.id, at));
         Shared {
-            shards: (0..shards).map(shard).collect(),
+            shards: (0..front.seen.len()).map(shard).collect(),
             front,
-            makes: locks::Mutex::new(clerk),
+            makes: Mutex::new(clerk),
             last_stamp,
-            let_go,
+            let_go: LetGo::new(),
         }
     }
 
+    #[inline(always)]
+    pub fn lock(&self, at: usize) -> Locked<'_, T> {
+        Locked {
+            store: self.shards[at].lock(),
+            seen: &self.front.seen[at],
+            let_go: &self.let_go,
+        }
+    }
+
+    /// The shards, each while its lock is held.
+    pub fn locked(&self) -> impl Iterator<Item = Locked<'_, T>> {
+        (0..self.shards.len()).map(|at| self.lock(at))
+    }
+
+    /// Lets a shard's lock go where so many entries ended, and makes a part of what keeps it of the right size.
+    #[inline(always)]
+    pub fn leave(&self, store: Locked<'_, T>, ended: usize) {
+        let (at, has_work) = (store.at, store.has_work);
+        drop(store);
+        if ended > 0 {
+            self.note_ended(ended);
+        }
+        if has_work {
+            // It may call a task's waker.
+            self.maintain(at);
+        }
+    }
+
+    /// The shard of a key of this queue.
+    #[inline(always)]
+    fn lock_of(&self, key: &Key) -> Result<Locked<'_, T>, KeyError> {
+        if key.queue() != self.front.id {
+            return Err(KeyError::WrongQueue);
+        }
+        Ok(self.lock(key.shard()))
+    }
+}
+
+/// Inserts.
+impl<T> Shared<T> {
     /// Puts an entry in that is due at a tick. It is inlined so that the key comes in registers: whoever reads it as a whole from
     /// where its halves were just stored waits for them.
     #[inline(always)]
     pub fn insert(&self, value: T, tick: u64) -> Result<Key, (InsertErrorKind, T)> {
-        let key = match self.put_in(Given(value), tick) {
-            Ok(key) => key,
-            Err((kind, Given(value))) => return Err((kind, value)),
+        let (counted, mut store) = match self.room_for_one(tick) {
+            Ok(room) => room,
+            Err(kind) => return Err((kind, value)),
         };
-        if self.front.ring_before(tick) {
-            if let Some(value) = self.take_back(key) {
-                return Err((InsertErrorKind::Closed, value));
-            }
-        }
-        Ok(key)
+        let key = store.insert(value, tick);
+        mem::forget(counted);
+        self.is_in(store, key, tick)
+            .map_err(|value| (InsertErrorKind::Closed, value))
     }
 
     /// The same of a value that is made under the shard's lock, once its key is known.
     pub fn insert_with(&self, make: impl FnOnce(Key) -> T, tick: u64) -> Result<Key, InsertErrorKind> {
         let _lends = Lends(self);
-        let _lends = Lends(self);
-        let key = self.put_in(Made(make), tick).map_err(|(kind, _)| kind)?;
+        let (counted, mut store) = self.room_for_one(tick)?;
+        let key = store.insert_with(make, tick);
+        mem::forget(counted);
+        self.is_in(store, key, tick).map_err(|value| {
+            self.let_go.drop_value(value);
+            InsertErrorKind::Closed
+        })
+    }
+
+    /// A shard that has room for an insert, and the count of its entry.
+    #[inline(always)]
+    fn room_for_one(&self, tick: u64) -> Result<(Counted<'_>, Locked<'_, T>), InsertErrorKind> {
+        if tick > LAST_TICK {
+            return Err(InsertErrorKind::TooFar);
+        }
+        if self.front.ends.refuses() {
+            return Err(InsertErrorKind::Closed);
+        }
+        let counted = self.front.count_in().ok_or(InsertErrorKind::Full)?;
+        let at = route() % self.shards.len();
+        let mut store = self.lock(at);
+        if !store.finds_room(false) {
+            drop(store);
+            store = self.made_room(at)?;
+        }
+        Ok((counted, store))
+    }
+
+    /// Room where a shard has none: once what was cancelled there was freed, and at last in a new core, or in another shard. Where
+    /// memory is kept, each slot is used first.
+    #[cold]
+    fn made_room(&self, at: usize) -> Result<Locked<'_, T>, InsertErrorKind> {
+        let mut is_tidy = false;
+        loop {
+            if self.lock(at).is_kept() {
+                if let Some(store) = self.any_room(at) {
+                    return Ok(store);
+                }
+            }
+            if let Err(kind) = self.make_room(at, &mut is_tidy) {
+                if kind == InsertErrorKind::Full {
+                    // Another shard may have fewer cores.
+                    let mut others = (0..self.shards.len()).filter(|other| *other != at);
+                    others.any(|other| self.grow(other).is_ok());
+                }
+                return self.any_room(at).ok_or(kind);
+            }
+            let mut store = self.lock(at);
+            if store.finds_room(false) {
+                return Ok(store);
+            }
+        }
+    }
+
+    /// Any slot that is free, first in a shard.
+    fn any_room(&self, at: usize) -> Option<Locked<'_, T>> {
+        (at..self.shards.len()).chain(0..at).find_map(|other| {
+            let mut store = self.lock(other);
+            store.finds_room(true).then_some(store)
+        })
+    }
+
+    /// Makes room in a shard: first where there are slots, and then in a new core.
+    fn make_room(&self, at: usize, is_tidy: &mut bool) -> Result<(), InsertErrorKind> {
+        if !mem::replace(is_tidy, true) && self.front.seen[at].cancels() > 0 {
+            self.free_cancelled(at);
+            return Ok(());
+        }
+        self.grow(at)
+    }
+
+    /// Has receivers come for an entry that is in. Its value is taken back, and given, where that was too late.
+    #[inline(always)]
+    fn is_in(&self, store: Locked<'_, T>, key: Key, tick: u64) -> Result<Key, T> {
+        // A waker that panics takes the key along, but not the entry.
+        self.leave(store, 0);
         if self.front.ring_before(tick) {
             if let Some(value) = self.take_back(key) {
-                self.let_go.drop_value(value);
-                return Err(InsertErrorKind::Closed);
+                return Err(value);
             }
         }
         Ok(key)
     }
 
-    /// Takes an entry back that was put in too late, and gives its value; none where it came out meanwhile.
+    /// None where it came out meanwhile.
     #[cold]
     #[inline(never)]
     fn take_back(&self, key: Key) -> Option<T> {
         self.remove(&key).ok()
-    }
-
-    #[inline(always)]
-    fn put_in<S: Source<T>>(&self, source: S, tick: u64) -> Result<Key, (InsertErrorKind, S)> {
-        if tick > LAST_TICK {
-            return Err((InsertErrorKind::TooFar, source));
-        }
-        if self.front.ends.refuses() {
-            return Err((InsertErrorKind::Closed, source));
-        }
-        if !self.front.count_in() {
-            return Err((InsertErrorKind::Full, source));
-        }
-        let counted = Counted(&self.front);
-        let at = route() % self.shards.len();
-        let key = match self.insert_at(at, source, tick, false) {
-            Ok(key) => key,
-            Err(source) => self.insert_slowly(at, source, tick)?,
-        };
-        mem::forget(counted);
-        Ok(key)
-    }
-
-    /// An insert in a shard. The source comes back where there is no room.
-    #[inline(always)]
-    fn insert_at<S: Source<T>>(&self, at: usize, source: S, tick: u64, any_will_do: bool) -> Result<Key, S> {
-        let mut store = self.shards[at].lock();
-        let key = store.insert(source, tick, any_will_do)?;
-        let has_work = store.has_work;
-        drop(store);
-        if has_work {
-            // It may call a task's waker: one that panics takes the key along, but not the entry.
-            self.maintain(at);
-        }
-        Ok(key)
-    }
-
-    /// An insert for which its shard has no room: once what was cancelled there was freed, and at last in a new core, or in
-    /// another shard. Where memory is kept, each slot is used first.
-    #[cold]
-    fn insert_slowly<S: Source<T>>(&self, at: usize, source: S, tick: u64) -> Result<Key, (InsertErrorKind, S)> {
-        let mut source = source;
-        let mut is_tidy = false;
-        loop {
-            if self.shards[at].lock().is_kept() {
-                source = match self.insert_anywhere(at, source, tick) {
-                    Ok(key) => return Ok(key),
-                    Err(back) => back,
-                };
-            }
-            if !mem::replace(&mut is_tidy, true) && self.front.cancels() > 0 {
-                self.free_cancelled(at);
-            } else if let Err(kind) = self.grow(at) {
-                return self.insert_anywhere(at, source, tick).map_err(|source| (kind, source));
-            }
-            source = match self.insert_at(at, source, tick, false) {
-                Ok(key) => return Ok(key),
-                Err(back) => back,
-            };
-        }
-    }
-
-    /// An insert where any slot is free, first in its own shard.
-    fn insert_anywhere<S: Source<T>>(&self, at: usize, source: S, tick: u64) -> Result<Key, S> {
-        let mut source = source;
-        for other in (at..self.shards.len()).chain(0..at) {
-            source = match self.insert_at(other, source, tick, true) {
-                Ok(key) => return Ok(key),
-                Err(back) => back,
-            };
-        }
-        Err(source)
     }
 }
 
@@ -204,17 +232,8 @@ impl<T> Shared<T> {
 impl<T> Shared<T> {
     #[inline(always)]
     pub fn step(&self, key: &Key, step: Step) -> Result<u64, KeyError> {
-        let made = match self.front.quick_step(key, step) {
-            Some(made) => made,
-            None => self.step_slowly(key, step),
-        };
-        if matches!(step, Step::Cancel) && made.is_ok() {
-            self.front.count_cancel();
-            if self.front.ends.is_asked() {
-                self.note_end();
-            }
-        }
-        made
+        self.front
+            .step(key, step, || self.step_slowly(key, step), || self.note_end())
     }
 
     /// A step whose deadline is told as a moment.
@@ -239,39 +258,17 @@ impl<T> Shared<T> {
     /// A step under the shard's lock: the entry's stamp was changed by a reset, it was moved, or it has ended.
     #[cold]
     fn step_slowly(&self, key: &Key, step: Step) -> Result<u64, KeyError> {
-        let shard = self.shard_of(key)?;
+        let mut store = self.lock_of(key)?;
         if matches!(step, Step::Extend(tick) if tick > LAST_TICK) {
             return Err(KeyError::TooFar);
         }
-        let mut store = shard.lock();
-        let place = store.place(key);
-        store.deadline(&place)?;
-        let words = self.front.words.get(place.number()).ok_or(KeyError::Ended)?;
-        // The entry is there by its birth, and under the lock nobody changes its stamp.
-        let made = match step.make(words, &place.inner()) {
-            Err(crate::core::CallError::Stale { seen }) => step.make(words, &ticks::Key::new(place.entry(), seen)),
-            made => made,
-        };
-        if matches!(step, Step::Cancel) && made.is_ok() {
-            store.forget(&place);
-        }
-        made.map_err(|_| KeyError::Ended)
-    }
-
-    /// The shard of a key of this queue.
-    #[inline(always)]
-    fn shard_of(&self, key: &Key) -> Result<&Shard<T>, KeyError> {
-        if key.queue() != self.front.id {
-            return Err(KeyError::WrongQueue);
-        }
-        self.shards.get(key.shard()).ok_or(KeyError::Ended)
+        store.step(key, step, &self.front.words)
     }
 
     /// What a program's closure makes of a live entry's value, under its shard's lock and no other one.
     pub fn with_value<R>(&self, key: &Key, call: impl FnOnce(&mut T) -> R) -> Result<R, KeyError> {
-        let shard = self.shard_of(key)?;
         let _lends = Lends(self);
-        let made = shard.lock().with_value(key, call);
+        let made = self.lock_of(key)?.with_value(key, call);
         made
     }
 
@@ -286,51 +283,41 @@ impl<T> Shared<T> {
     }
 
     fn reset_under_lock(&self, key: &Key, tick: u64) -> Result<Key, KeyError> {
-        let shard = self.shard_of(key)?;
+        let mut store = self.lock_of(key)?;
         if tick > LAST_TICK {
             return Err(KeyError::TooFar);
         }
         let mut is_tidy = false;
         loop {
-            let renamed = shard.lock().reset(key, tick);
+            let (renamed, beside) = store.reset(key, tick);
+            drop(store);
+            if let Some(value) = beside {
+                self.let_go.drop_value(value);
+            }
             match renamed {
                 Ok(renamed) => {
                     self.front.ring_before(tick);
                     return Ok(renamed);
                 }
-                Err(Refused::Ended) => return Err(KeyError::Ended),
-                Err(Refused::NoRoom) => self.room_for_a_move(key.shard(), &mut is_tidy)?,
+                Err(KeyError::NoMemory) => store = self.room_for_a_move(key, &mut is_tidy)?,
+                Err(ended) => return Err(ended),
             }
         }
     }
 
-    /// Makes room for an entry that is moved: first where there are slots, as an insert does, and then in a new core.
-    fn room_for_a_move(&self, at: usize, is_tidy: &mut bool) -> Result<(), KeyError> {
-        if !mem::replace(is_tidy, true) && self.front.cancels() > 0 {
-            self.free_cancelled(at);
-            return Ok(());
-        }
-        self.grow_at(at).map_err(|_| KeyError::NoMemory)
+    /// Makes room for an entry that is moved.
+    fn room_for_a_move(&self, key: &Key, is_tidy: &mut bool) -> Result<Locked<'_, T>, KeyError> {
+        self.make_room(key.shard(), is_tidy).map_err(|_| KeyError::NoMemory)?;
+        Ok(self.lock(key.shard()))
     }
 
     /// Takes a live entry out, and gives its value.
     #[inline]
     pub fn remove(&self, key: &Key) -> Result<T, KeyError> {
-        let mut store = self.shard_of(key)?.lock();
+        let mut store = self.lock_of(key)?;
         let value = store.remove(key)?;
-        let has_work = store.has_work;
-        drop(store);
-        self.note_out(key.shard(), 1, has_work);
+        self.leave(store, 1);
         Ok(value)
-    }
-
-    /// Notes that entries ended in a shard. No lock is held.
-    #[inline(always)]
-    pub fn note_out(&self, at: usize, entries: usize, has_work: bool) {
-        self.note_ended(entries);
-        if has_work {
-            self.maintain(at);
-        }
     }
 
     /// Takes a live entry out where its deadline isn't after the present tick.
@@ -339,60 +326,27 @@ impl<T> Shared<T> {
         if self.step(key, Step::Look)? > now {
             return Ok(None);
         }
-        let shard = self.shard_of(key)?;
+        let mut store = self.lock_of(key)?;
         let mut is_tidy = false;
         loop {
-            let mut store = shard.lock();
             let ended = store.remove_if_due(key, now);
-            let has_work = store.has_work;
-            drop(store);
+            let (hint, taken) = (store.hint, matches!(ended, Ok(Some(_))));
+            self.leave(store, usize::from(taken));
             match ended {
-                Ok(Some(value)) => {
-                    self.note_out(key.shard(), 1, has_work);
-                    return Ok(Some(value));
+                Ok(value) => {
+                    if !taken {
+                        self.front.ring_before(hint);
+                    }
+                    return Ok(value);
                 }
-                Ok(None) => {
-                    self.front.ring_before(shard.hint());
-                    return Ok(None);
-                }
-                Err(Refused::Ended) => return Err(KeyError::Ended),
-                Err(Refused::NoRoom) => self.room_for_a_move(key.shard(), &mut is_tidy)?,
+                Err(KeyError::NoMemory) => store = self.room_for_a_move(key, &mut is_tidy)?,
+                Err(ended) => return Err(ended),
             }
         }
     }
 }
 
 impl<T> Shared<T> {
-    /// How many entries wait. While others change the queue it may be more, and is never less than those that stay meanwhile.
-    pub fn waiting(&self) -> usize {
-        // It counts an entry from before it is in until after it is out.
-        self.front.bounded().unwrap_or_else(|| self.waiting_while(|| {}))
-    }
-
-    /// Whether no entry waits, by the shards alone: a bound counts one that isn't in, and one that is out for a moment yet. Where an
-    /// entry that is out is counted by the bound, nobody looks once more.
-    pub fn has_none(&self) -> bool {
-        self.waiting_while(|| {}) == 0
-    }
-
-    /// How many wait by the shards. `others` stands for what others do once a shard is read.
-    #[inline(never)]
-    fn waiting_while(&self, mut others: impl FnMut()) -> usize {
-        // They are read first. A shard counts an entry that was cancelled for good, so each cancel is among what is left.
-        let cancels = self.front.cancels();
-        let left = self.shards.iter().map(|shard| {
-            let left = shard.left();
-            others();
-            left
-        });
-        (left.sum::<u64>() - cancels) as usize
-    }
-
-    /// The least hint: nothing is due before it.
-    pub fn least_hint(&self) -> u64 {
-        self.shards.iter().map(Shard::hint).min().unwrap_or(NEVER)
-    }
-
     /// Drops the values that were let go and that nobody dropped yet. No lock is held meanwhile.
     #[inline]
     pub fn tidy(&self) {
@@ -415,7 +369,7 @@ impl<T> Shared<T> {
     /// Drops the values that are set aside in a shard, each while the lock is free. Within a drop of the queue they are let go.
     pub fn drop_aside(&self, at: usize) {
         loop {
-            let value = self.shards[at].lock().take_aside();
+            let value = self.lock(at).take_aside();
             let Some(value) = value else { return };
             self.let_go.drop_value(value);
         }
@@ -441,7 +395,7 @@ mod tests {
     fn an_entry_that_comes_and_is_cancelled_meanwhile_hides_none_that_stays() {
         let queue = DelayQueue::builder().shards(2).build();
         queue.insert("stays".to_string(), FAR).expect("room");
-        let counted = queue.shared.waiting_while(|| {
+        let counted = queue.shared.front.waiting_while(|| {
             let key = queue.insert("comes and goes".to_string(), FAR).expect("room");
             queue.cancel(&key).expect("it waits");
         });
@@ -480,16 +434,21 @@ mod tests {
         let queue = DelayQueue::builder().shards(1).build();
         let memory = || queue.stats().memory;
         let empty = memory();
-        let keys: Vec<Key> = (0..1_000)
-            .map(|number| queue.insert(number, FAR).expect("room"))
-            .collect();
-        let full = memory();
-        keys.iter().for_each(|key| assert!(queue.remove(key).is_ok()));
-        (0..10).for_each(|_| assert!(queue.try_recv().is_err()));
-        let words = memory() - empty;
-        assert!(words < (full - empty) / 2, "{words} of {full}");
-        // The cores that are there again go on with their words.
-        (0..1_000).for_each(|number| assert!(queue.insert(number, FAR).is_ok()));
-        assert_eq!(memory(), full);
+        let fill_and_empty = || {
+            let keys: Vec<Key> = (0..1_000)
+                .map(|number| queue.insert(number, FAR).expect("room"))
+                .collect();
+            let full = memory();
+            keys.iter().for_each(|key| assert!(queue.remove(key).is_ok()));
+            (0..10).for_each(|_| assert!(queue.try_recv().is_err()));
+            let words = memory() - empty;
+            assert!(words < (full - empty) / 2, "{words} of {full}");
+            (full, words)
+        };
+        fill_and_empty();
+        // The cores that are there again go on with their words, two sizes by turns.
+        let two = || [fill_and_empty(), fill_and_empty()];
+        let seen = two();
+        (0..5).for_each(|_| assert_eq!(two(), seen));
     }
 }

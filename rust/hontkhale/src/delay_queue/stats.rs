@@ -1,8 +1,8 @@
 //! What a queue tells of itself.
 
-use crate::delay_queue::shard::Shard;
+use crate::delay_queue::shard::Seen;
 use crate::delay_queue::shared::Shared;
-use crate::delay_queue::store::{Counts, POWERS};
+use crate::delay_queue::store::{Counts, ShardStore, POWERS};
 use std::fmt;
 use std::mem::size_of;
 use std::time::Duration;
@@ -128,25 +128,24 @@ impl<T> Shared<T> {
     /// hint, so those of later hints aren't asked.
     pub fn first_filed_before(&self, end: u64) -> Option<u64> {
         let mut first = end;
-        for shard in &self.shards {
-            if shard.hint() < first {
-                first = shard.lock().first_filed().map_or(first, |filed| filed.min(first));
+        for (at, seen) in self.front.seen.iter().enumerate() {
+            if seen.hint() < first {
+                first = self.lock(at).first_filed().map_or(first, |filed| filed.min(first));
             }
         }
         Some(first).filter(|first| *first < end)
     }
 
     pub fn stats(&self) -> Stats {
-        let waiting = self.waiting();
+        let waiting = self.front.waiting();
         let mut sum = Counts::default();
         let (mut freed, mut memory) = (0, size_of::<Shared<T>>());
-        for shard in &self.shards {
-            let store = shard.lock();
+        for store in self.locked() {
             sum.add(&store.counts);
             freed += store.freed();
-            memory += size_of::<Shard<T>>() + store.memory();
+            memory += size_of::<Seen>() + size_of::<ShardStore<T>>() + store.memory();
         }
-        let cancels = self.front.cancels();
+        let cancels = self.front.seen.iter().map(Seen::cancels).sum::<u64>();
         let now = self.front.time.tick();
         let late = self.first_filed_before(now).map_or(0, |first| now - first);
         let mut lateness = sum.late;
@@ -170,8 +169,6 @@ impl<T> Shared<T> {
 
     /// Counts the lateness of what comes out from now on.
     pub fn reset_lateness(&self) {
-        self.shards
-            .iter()
-            .for_each(|shard| shard.lock().counts.begin_late_anew());
+        self.locked().for_each(|mut store| store.counts.begin_late_anew());
     }
 }

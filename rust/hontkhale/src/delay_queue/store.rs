@@ -3,20 +3,21 @@
 //! The open core is exchanged where it is full, where more than half of its slots are worn, and where an eighth of it is used:
 //! the next one has room for twice what is there. The one before drains: what is in it stays, and ends there. Once nothing is in
 //! it, it is folded. Its words stay, so its keys are refused for good, and the next core of its size goes on with them. The few
-//! entries that are left of one are moved into the open one, and a note says where each is by the key that its user has.
+//! entries that are left of one are moved into the open one. A core that was made ahead is empty until it is opened.
 //!
-//! This file alone calls the proved cores. Nobody's code runs in it, but for the closure of `with_value` and of an insert.
+//! This file alone calls the proved store. Nobody's code runs in it, but for the closure of `with_value` and of `insert_with`.
 
-use crate::core::{CoreError, DelayCore, Folded, Piece, Turn};
-use crate::delay_queue::errors::KeyError;
+use crate::core::{CallError, CoreError, DelayCore, Folded, Piece, Turn};
+use crate::delay_queue::errors::{InsertErrorKind, KeyError};
+use crate::delay_queue::front::Step;
 use crate::delay_queue::key::Key;
-use crate::delay_queue::moves::Moves;
 use crate::delay_queue::waking::NEVER;
-use crate::growing::{Cores, Folds};
+use crate::directory::Directory;
+use crate::growing::{Cores, Folds, Moved, NextDeadline, Store};
 use crate::locks::lend;
 use crate::memory::AllocError;
 use crate::ticks::{self, EntryId, CAPACITY_LIMIT};
-use crate::words::Keeper;
+use crate::words::{Keeper, OpenWords};
 use std::mem::{needs_drop, size_of};
 
 /// The most cores of a shard.
@@ -44,15 +45,12 @@ pub(crate) fn least<T>() -> usize {
     (LEAST_BYTES / size_of::<T>().max(1)).clamp(2, 64).next_power_of_two()
 }
 
-pub(crate) struct Store<T> {
+pub(crate) struct ShardStore<T> {
     queue: u32,
     /// The shard's place, which its keys have.
-    at: usize,
-    cores: Cores<T, Keeper>,
-    /// Empty cores that were made ahead.
-    spare: Vec<Core<T>>,
+    pub at: usize,
+    store: Store<T, Keeper>,
     folds: Folds<Keeper>,
-    moves: Moves,
     sweep: Sweep,
     /// Nothing is due before this tick.
     pub hint: u64,
@@ -94,19 +92,11 @@ struct Sweep {
     left: usize,
 }
 
-/// Why a call by key isn't made.
-pub(crate) enum Refused {
-    Ended,
-    /// The entry is to be moved, and no slot is free.
-    NoRoom,
-}
-
-impl From<CoreError> for Refused {
-    fn from(error: CoreError) -> Refused {
-        match error {
-            CoreError::Worn | CoreError::Full { .. } => Refused::NoRoom,
-            _ => Refused::Ended,
-        }
+/// Why a call by key isn't made: the entry has ended, or `NoMemory` where it is to be moved and no slot is free.
+fn refused(error: CoreError) -> KeyError {
+    match error {
+        CoreError::NoMemory | CoreError::Full { .. } => KeyError::NoMemory,
+        _ => KeyError::Ended,
     }
 }
 
@@ -131,36 +121,6 @@ pub(crate) enum Work<T> {
     Moved(u64),
 }
 
-/// From where an insert has its value.
-pub(crate) trait Source<T>: Sized {
-    /// The value, of an entry that will have that name.
-    fn value(self, store: &mut Store<T>) -> Result<(T, Option<ticks::Key>), Self>;
-}
-
-/// A value that is there.
-pub(crate) struct Given<T>(pub T);
-
-impl<T> Source<T> for Given<T> {
-    #[inline(always)]
-    fn value(self, _store: &mut Store<T>) -> Result<(T, Option<ticks::Key>), Given<T>> {
-        Ok((self.0, None))
-    }
-}
-
-/// A closure that makes the value, once its key is known.
-pub(crate) struct Made<F>(pub F);
-
-impl<T, F: FnOnce(Key) -> T> Source<T> for Made<F> {
-    fn value(self, store: &mut Store<T>) -> Result<(T, Option<ticks::Key>), Made<F>> {
-        let Some(next) = store.cores.next_key() else {
-            return Err(self);
-        };
-        let key = store.named(&next);
-        let queue = store.queue as usize;
-        Ok((lend(store, queue, |_| (self.0)(key)), Some(next)))
-    }
-}
-
 /// How many slots are free in which no value waits for its drop, at least: values that wait in worn slots count as if they
 /// waited in free ones.
 #[inline(always)]
@@ -178,15 +138,19 @@ fn is_worn<T>(core: &Core<T>) -> bool {
     2 * core.worn() > core.capacity()
 }
 
-impl<T> Store<T> {
-    pub fn new(queue: u32, at: usize) -> Store<T> {
-        Store {
+/// Whether an eighth of a core is used at most.
+#[inline(always)]
+fn is_small<T>(core: &Core<T>) -> bool {
+    8 * core.len() <= core.capacity()
+}
+
+impl<T> ShardStore<T> {
+    pub fn new(queue: u32, at: usize) -> ShardStore<T> {
+        ShardStore {
             queue,
             at,
-            cores: Cores::new(),
-            spare: Vec::new(),
+            store: Store::new(Cores::new()).expect("a store of no cores"),
             folds: Folds::new(),
-            moves: Moves::new(),
             sweep: Sweep::default(),
             hint: NEVER,
             counts: Counts::default(),
@@ -201,13 +165,19 @@ impl<T> Store<T> {
 
     /// All cores, by their places.
     fn rows(&self) -> impl Iterator<Item = &Core<T>> {
-        (0..self.cores.count()).filter_map(|place| self.cores.get(place))
+        (0..self.store.cores().count()).filter_map(|place| self.store.cores().get(place))
     }
 
     /// The open core.
     #[inline(always)]
     fn open(&self) -> Option<&Core<T>> {
-        self.cores.get(self.cores.opened())
+        self.store.cores().get(self.store.cores().opened())
+    }
+
+    /// The others, by their places.
+    fn others(&self) -> impl Iterator<Item = (usize, &Core<T>)> {
+        let opened = self.store.cores().opened();
+        self.rows().enumerate().filter(move |(place, _)| *place != opened)
     }
 
     #[inline(always)]
@@ -215,58 +185,45 @@ impl<T> Store<T> {
         Key::of(self.queue, self.at, key)
     }
 
-    /// Puts an entry in that is due at a tick. The source comes back where no slot is free: in the open core, or in another one
-    /// of which half is free; or, where any will do, in any. No value that is set aside is in its way.
+    /// Whether a slot is free for an insert: in the open core, or in another one of which half is free, or, where any will do, in
+    /// any. That one is open then. No value that is set aside is in the way.
     #[inline(always)]
-    pub fn insert<S: Source<T>>(&mut self, source: S, tick: u64, any_will_do: bool) -> Result<Key, S> {
-        if !self.open().is_some_and(has_room) && !self.opens_another(any_will_do) {
-            return Err(source);
-        }
-        let (value, next) = source.value(self)?;
-        let inserted = self.cores.insert(value, tick).0;
+    pub fn finds_room(&mut self, any_will_do: bool) -> bool {
+        self.open().is_some_and(has_room) || self.opens_another(any_will_do)
+    }
+
+    #[cold]
+    fn opens_another(&mut self, any_will_do: bool) -> bool {
+        let fits = |core: &Core<T>| has_room(core) && (any_will_do || 2 * free(core) >= core.capacity());
+        let roomy = self.others().filter(|(_, core)| fits(core));
+        let Some((place, _)) = roomy.max_by_key(|(_, core)| free(core)) else {
+            return false;
+        };
+        self.note_work();
+        self.store.open(place)
+    }
+
+    /// Puts an entry in that is due at a tick, once there is room.
+    #[inline(always)]
+    pub fn insert(&mut self, value: T, tick: u64) -> Key {
+        let inserted = self.store.insert(value, tick).0;
         let key = inserted.map_err(|(refused, _)| refused).expect("a free slot");
-        assert!(
-            next.map_or(true, |next| next == key),
-            "an insert takes the slot that was freed last"
-        );
         self.hint = self.hint.min(tick);
         self.counts.inserted += 1;
         if self.counts.inserted % INSERTS == 0 {
             self.note_work();
         }
-        Ok(self.named(&key))
+        self.named(&key)
     }
 
-    /// Opens another core that has room: one of which half is free, or any that has a slot free, or a spare one.
-    #[cold]
-    fn opens_another(&mut self, any_will_do: bool) -> bool {
-        let fits = |core: &Core<T>| has_room(core) && (any_will_do || 2 * free(core) >= core.capacity());
-        let rows = self.rows().enumerate();
-        let roomy = rows.filter(|(_, core)| fits(core)).max_by_key(|(_, core)| free(core));
-        if let Some((place, _)) = roomy {
-            self.cores.open(place);
-            self.note_work();
-            return true;
-        }
-        self.spare.pop().is_some_and(|core| self.take_in(core))
-    }
-
-    /// Opens a core that was made. It is spare where that is refused.
-    fn take_in(&mut self, core: Core<T>) -> bool {
-        let taken = self.cores.take_in(core);
-        self.sweep.left = self.slots_in_use();
-        // The one that was open may have drained already.
-        self.note_work();
-        match taken {
-            Ok(()) => true,
-            Err((_, core)) => {
-                // Where that is refused too, it goes.
-                if self.spare.try_reserve(1).is_ok() {
-                    self.spare.push(core);
-                }
-                false
-            }
-        }
+    /// The same of a value that a program's closure makes of its key.
+    pub fn insert_with(&mut self, make: impl FnOnce(Key) -> T, tick: u64) -> Key {
+        let next = self.store.next_key().expect("a free slot");
+        let (next, queue) = (self.named(&next), self.queue as usize);
+        let value = lend(self, queue, |_| make(next));
+        let key = self.insert(value, tick);
+        assert!(next == key, "an insert takes the slot that was freed last");
+        key
     }
 
     /// How many entries came in, less those that came out or were removed: the cancelled ones count.
@@ -299,156 +256,134 @@ impl<T> Store<T> {
     }
 }
 
-/// The calls by key.
-impl<T> Store<T> {
-    /// The key of the place at which the entry of a user's key is.
-    #[inline(always)]
-    pub fn place(&self, key: &Key) -> Key {
-        if self.moves.len() == 0 {
-            return *key;
-        }
-        self.moves.place(key).unwrap_or(*key)
-    }
-
-    /// The key that the user has of the entry at a place, which has ended.
-    #[inline(always)]
-    fn ended(&mut self, place: Key) -> Key {
-        if self.moves.len() == 0 {
-            return place;
-        }
-        self.moves.end(&place)
-    }
-
+/// The calls by key. An entry has the key that its insert gave, wherever it is.
+impl<T> ShardStore<T> {
     /// Notes that an entry left a core.
     #[inline(always)]
-    fn left_from(&mut self, number: u32) {
-        let is_open = |core: &&Core<T>| core.shard() == number;
-        let has_work = match self.open().filter(is_open) {
-            Some(open) => 8 * open.len() <= open.capacity() && self.is_too_large(),
-            None => {
-                self.note_draining(number);
-                false
-            }
-        };
-        if has_work {
-            self.note_work();
+    fn note_left(&mut self) {
+        if self.store.cores().count() > 1 || self.open().is_some_and(is_small) {
+            self.look_after();
         }
     }
 
-    /// Whether an eighth of the open core is used at most.
     #[cold]
-    fn is_too_large(&self) -> bool {
-        let is_large = |open: &Core<T>| self.kept == 0 && 4 * self.next_capacity() <= open.capacity();
-        self.open().is_some_and(is_large)
-    }
-
-    /// Notes how an entry left a core that drains.
-    #[cold]
-    fn note_draining(&mut self, number: u32) {
-        let mut rows = self.rows();
-        let core = rows.find(|core| core.shard() == number);
-        let (len, capacity) = core.map_or((0, 0), |core| (core.len(), core.capacity()));
-        drop(rows);
-        if len == 0 {
+    fn look_after(&mut self) {
+        if self.is_too_large() || self.has_needless() {
             self.note_work();
-        } else if 8 * len <= capacity {
-            // What is left is moved once a receiver has time.
+        } else if self.straggler().is_some() {
+            // It is moved once a receiver has time.
             self.quiet_since = NEVER;
         }
     }
 
-    /// The deadline of a live entry at a place.
-    pub fn deadline(&mut self, place: &Key) -> Result<u64, KeyError> {
-        self.cores.deadline(&place.entry()).map_err(|_| KeyError::Ended)
+    /// Whether an eighth of the open core is used at most, and a smaller one would do.
+    fn is_too_large(&self) -> bool {
+        let is_large = |open: &Core<T>| is_small(open) && self.kept == 0 && 4 * self.next_capacity() <= open.capacity();
+        self.open().is_some_and(is_large)
     }
 
-    /// Forgets where an entry was that was cancelled at that place, since it doesn't come out.
-    pub fn forget(&mut self, place: &Key) {
-        self.ended(*place);
+    #[inline(always)]
+    fn note_removed(&mut self) {
+        self.counts.removed += 1;
+        self.note_left();
+    }
+
+    /// Makes a step where the entry is.
+    pub fn step(&mut self, key: &Key, step: Step, words: &Directory<OpenWords>) -> Result<u64, KeyError> {
+        let entry = key.entry();
+        self.store.deadline(&entry).map_err(refused)?;
+        let place = self.store.place(&entry).ok_or(KeyError::Ended)?;
+        let words = words.get(place.shard()).ok_or(KeyError::Ended)?;
+        // The entry is there by its birth, and under the lock nobody changes its stamp.
+        let made = match step.make(words, &ticks::Key::new(place, place.born())) {
+            Err(CallError::Stale { seen }) => step.make(words, &ticks::Key::new(place, seen)),
+            made => made,
+        };
+        if matches!(step, Step::Cancel) && made.is_ok() {
+            // It doesn't come out by this key any more.
+            let _ = self.store.reap(&entry);
+            self.may_have_aside = true;
+        }
+        made.map_err(|_| KeyError::Ended)
     }
 
     /// Takes a live entry out, and gives its value.
     #[inline(always)]
     pub fn remove(&mut self, key: &Key) -> Result<T, KeyError> {
-        let place = self.place(key);
-        let removed = self.cores.remove(&place.entry()).map_err(|_| KeyError::Ended)?;
-        self.ended(place);
-        self.counts.removed += 1;
-        self.left_from(place.number());
+        let removed = self.store.remove(&key.entry()).map_err(refused)?;
+        self.note_removed();
         Ok(removed.value)
     }
 
-    /// Gives an entry another deadline, and gives its key of the present stamp. It is moved where its slot has no stamp left.
+    /// Gives an entry another deadline, and gives its key of the present stamp. It is moved where its slot has no stamp left; then
+    /// a value that waited for its drop in the slot that it took may come out beside the key.
     #[inline(always)]
-    pub fn reset(&mut self, key: &Key, tick: u64) -> Result<Key, Refused> {
-        let place = self.place(key);
-        let renamed = match self.cores.reset(&place.entry(), tick) {
-            Ok(renamed) if place == *key => self.named(&renamed),
-            Ok(_) => *key,
-            Err(CoreError::Worn) => {
-                self.relocate(&place, |_| Some(tick))?;
-                *key
+    pub fn reset(&mut self, key: &Key, tick: u64) -> (Result<Key, KeyError>, Option<T>) {
+        let entry = key.entry();
+        let place = self.store.place(&entry);
+        let (renamed, beside) = self.store.reset(&entry, tick);
+        if renamed.is_ok() {
+            self.hint = self.hint.min(tick);
+            if self.store.place(&entry) != place {
+                self.note_moved();
             }
-            Err(refused) => return Err(refused.into()),
-        };
-        self.hint = self.hint.min(tick);
-        Ok(renamed)
+        }
+        (renamed.map(|key| self.named(&key)).map_err(refused), beside)
     }
 
-    /// Takes a live entry out of its slot, and puts it into one of the open core with what `next` makes of its deadline; where
-    /// that is none its value is out.
     #[cold]
-    fn relocate(&mut self, place: &Key, next: impl FnOnce(u64) -> Option<u64>) -> Result<Option<T>, Refused> {
-        let is_ready = self.open().is_some_and(has_room) || self.opens_another(true);
-        if !is_ready || self.moves.reserve().is_err() {
-            return Err(Refused::NoRoom);
-        }
-        let removed = self.cores.remove(&place.entry())?;
-        self.left_from(place.number());
-        let Some(deadline) = next(removed.deadline) else {
-            self.ended(*place);
-            self.counts.removed += 1;
-            return Ok(Some(removed.value));
-        };
-        let inserted = self.cores.insert(removed.value, deadline).0;
-        let key = inserted.map_err(|(refused, _)| refused).expect("a free slot");
-        let (user, to) = (self.moves.key(place), self.named(&key));
-        self.moves.note(user, to);
+    fn note_moved(&mut self) {
         self.counts.moved += 1;
-        self.hint = self.hint.min(deadline);
-        Ok(None)
+        self.note_left();
+    }
+
+    /// Takes a live entry out of its slot, and puts it into one of the open core; where it is due its value is out.
+    #[cold]
+    fn relocate(&mut self, entry: &EntryId, next: NextDeadline) -> Result<Option<T>, KeyError> {
+        if !self.finds_room(true) {
+            return Err(KeyError::NoMemory);
+        }
+        match self.store.relocate(entry, next).0.map_err(refused)? {
+            Moved::Out(removed) => {
+                self.note_removed();
+                Ok(Some(removed.value))
+            }
+            Moved::To { deadline, .. } => {
+                self.hint = self.hint.min(deadline);
+                self.note_moved();
+                Ok(None)
+            }
+        }
     }
 
     /// Takes a live entry out where its deadline isn't after a tick. An extend takes no lock: one that comes meanwhile is seen
     /// only as the entry is taken out, and then the entry goes on in another slot.
-    pub fn remove_if_due(&mut self, key: &Key, now: u64) -> Result<Option<T>, Refused> {
-        let place = self.place(key);
-        if self.cores.deadline(&place.entry())? > now {
+    pub fn remove_if_due(&mut self, key: &Key, now: u64) -> Result<Option<T>, KeyError> {
+        if self.store.deadline(&key.entry()).map_err(refused)? > now {
             return Ok(None);
         }
-        self.relocate(&place, |deadline| Some(deadline).filter(|deadline| *deadline > now))
+        self.relocate(&key.entry(), NextDeadline::SameIfAfter(now))
     }
 
     /// What a program's closure makes of a live entry's value.
     pub fn with_value<R>(&mut self, key: &Key, call: impl FnOnce(&mut T) -> R) -> Result<R, KeyError> {
-        let place = self.place(key);
-        self.deadline(&place)?;
-        let value = |store: &mut Store<T>| call(store.cores.get_mut(&place.entry()).expect("a live entry"));
-        let queue = self.queue as usize;
+        let (entry, queue) = (key.entry(), self.queue as usize);
+        self.store.deadline(&entry).map_err(refused)?;
+        let value = |store: &mut ShardStore<T>| call(store.store.get_mut(&entry).expect("a live entry"));
         Ok(lend(self, queue, value))
     }
 }
 
 /// How entries come out.
-impl<T> Store<T> {
+impl<T> ShardStore<T> {
     /// What a poll comes to at a tick: as a whole where no core has more than so many entries, or else by 256 steps.
     #[inline(always)]
     pub fn poll(&mut self, now: u64, whole: usize) -> Polled<T> {
         self.may_have_aside |= needs_drop::<T>();
         let piece = if self.rows().all(|core| core.len() <= whole) {
-            self.cores.poll(now)
+            self.store.poll(now)
         } else {
-            self.cores.poll_some(now, STEPS)
+            self.store.poll_some(now, STEPS)
         };
         match piece.expect("a tick that isn't beyond the last") {
             Piece::Answer(Turn::Out(out)) => {
@@ -457,13 +392,12 @@ impl<T> Store<T> {
                 if late > 0 {
                     self.counts.late(late);
                 }
-                let place = self.named(&out.key);
-                self.left_from(place.number());
-                if self.cores.count() == 1 {
+                self.note_left();
+                if self.store.cores().count() == 1 {
                     // So that whoever finds nothing due needs no lock to tell. Of several cores it takes as long as a poll.
-                    self.hint = self.cores.next_wake().unwrap_or(NEVER);
+                    self.hint = self.store.cores().next_wake().unwrap_or(NEVER);
                 }
-                Polled::Out(self.ended(place), out.deadline, out.value)
+                Polled::Out(self.named(&out.key), out.deadline, out.value)
             }
             Piece::Answer(Turn::Waiting { next }) => {
                 self.hint = next;
@@ -486,28 +420,27 @@ impl<T> Store<T> {
     /// A step of a way through the slots of all cores, from the last one to the first: so what is opened meanwhile isn't on it,
     /// and what is taken off keeps none from being looked at. What was cancelled is freed on the way.
     pub fn take_next(&mut self, way: &mut Way) -> Polled<T> {
-        way.place = way.place.min(self.cores.count());
-        let Some(core) = way.place.checked_sub(1).and_then(|at| self.cores.get(at)) else {
+        way.place = way.place.min(self.store.cores().count());
+        let Some(place) = way.place.checked_sub(1) else {
             return Polled::Rests;
         };
-        let (found, next) = core.entry_from(way.slot, SLOTS);
-        if found.is_none() && next >= core.capacity() {
-            (way.place, way.slot) = (way.place - 1, 0);
-            return Polled::Works;
-        }
-        way.slot = next;
-        let Some(entry) = found else {
+        let core = self.store.cores().get(place).expect("a core before the last");
+        let found = core.entry_from(way.slot, SLOTS).map(|entry| entry.index() as usize);
+        let next = found.map_or(way.slot + SLOTS, |slot| slot + 1);
+        *way = match next < core.capacity() {
+            true => Way { slot: next, ..*way },
+            false => Way { place, slot: 0 },
+        };
+        let Some(entry) = found.and_then(|slot| self.store.entry_from(place, slot, 1)) else {
             return Polled::Works;
         };
-        match self.cores.remove(&entry) {
+        match self.store.remove(&entry) {
             Ok(removed) => {
-                self.counts.removed += 1;
-                let place = self.named(&removed.key);
-                self.left_from(place.number());
-                Polled::Out(self.ended(place), removed.deadline, removed.value)
+                self.note_removed();
+                Polled::Out(self.named(&removed.key), removed.deadline, removed.value)
             }
             Err(_) => {
-                let _ = self.cores.reap(&entry);
+                let _ = self.store.reap(&entry);
                 self.may_have_aside = true;
                 Polled::Works
             }
@@ -518,33 +451,46 @@ impl<T> Store<T> {
     /// it looked at some.
     pub fn sweep(&mut self, cancels: u64) -> bool {
         if self.sweep.cancels != cancels {
-            (self.sweep.cancels, self.sweep.left) = (cancels, self.slots_in_use());
+            (self.sweep.cancels, self.sweep.left) = (cancels, self.slots());
         }
-        if self.sweep.left == 0 {
-            self.note_quiet();
-            return false;
+        let has_slots = self.sweep.left > 0;
+        if has_slots {
+            self.sweep_some();
         }
-        self.may_have_aside = true;
+        self.quiet_since = if self.sweep.left > 0 || self.is_busy() {
+            NEVER
+        } else {
+            cancels
+        };
+        has_slots
+    }
+
+    fn sweep_some(&mut self) {
         let Sweep { place, slot, .. } = self.sweep;
-        let count = self.cores.count();
-        let capacity = self.cores.get(place).map_or(0, DelayCore::capacity);
-        let next = self.cores.sweep_some(place, slot, SLOTS).and_then(|swept| swept.next);
+        let (capacity, len) = self
+            .store
+            .cores()
+            .get(place)
+            .map_or((0, 0), |core| (core.capacity(), core.len()));
+        let next = match len {
+            0 => None,
+            _ => self.store.sweep_some(place, slot, SLOTS).and_then(|swept| swept.next),
+        };
+        self.may_have_aside = true;
         let looked_at = next.unwrap_or(capacity).saturating_sub(slot);
         self.sweep.left = self.sweep.left.saturating_sub(looked_at.max(1));
         (self.sweep.place, self.sweep.slot) = match next {
             Some(next) => (place, next),
-            None if place + 1 < count => (place + 1, 0),
+            None if place + 1 < self.store.cores().count() => (place + 1, 0),
             None => (0, 0),
         };
-        self.note_quiet();
-        true
     }
 
     /// Takes out a value that is set aside. Its slot is free then.
     pub fn take_aside(&mut self) -> Option<T> {
         self.may_have_aside = true;
-        let value = self.cores.take_aside();
-        if value.is_some() && self.cores.count() > 1 {
+        let value = self.store.take_aside();
+        if value.is_some() && self.store.cores().count() > 1 {
             self.note_work();
         }
         value
@@ -552,14 +498,9 @@ impl<T> Store<T> {
 }
 
 /// How it keeps the right size.
-impl<T> Store<T> {
+impl<T> ShardStore<T> {
     /// How many slots there are, worn ones among them.
     fn slots(&self) -> usize {
-        self.rows().chain(&self.spare).map(DelayCore::capacity).sum()
-    }
-
-    /// The same without those of spare cores.
-    fn slots_in_use(&self) -> usize {
         self.rows().map(DelayCore::capacity).sum()
     }
 
@@ -576,7 +517,7 @@ impl<T> Store<T> {
     /// Whether the next core is to be made ahead.
     fn is_nearly_full(&self) -> bool {
         let is_roomy = |core: &Core<T>| 4 * free(core) > core.capacity();
-        self.kept == 0 && self.spare.is_empty() && !self.rows().any(is_roomy)
+        self.kept == 0 && !self.rows().any(is_roomy)
     }
 
     /// Notes that there may be something to do that keeps it of the right size.
@@ -584,12 +525,6 @@ impl<T> Store<T> {
     pub fn note_work(&mut self) {
         self.has_work = true;
         self.quiet_since = NEVER;
-    }
-
-    /// Notes whether a receiver that has time may have something to do here.
-    fn note_quiet(&mut self) {
-        let is_busy = self.sweep.left > 0 || self.is_busy();
-        self.quiet_since = if is_busy { NEVER } else { self.sweep.cancels };
     }
 
     /// Whether something is to be done, beside a sweep, so that it keeps the right size.
@@ -600,38 +535,34 @@ impl<T> Store<T> {
     /// What is to be done next so that it keeps the right size.
     pub fn work(&mut self, now: u64) -> Work<T> {
         self.has_work = false;
-        let work = match self.take_drained() {
+        match self.take_needless() {
             Some(core) => Work::Fold(core),
             None if self.wanted().is_some() => Work::Make,
             None => Work::Moved(self.move_stragglers(now)),
-        };
-        self.note_quiet();
-        work
+        }
     }
 
     /// The capacity of a core that is to be made though an insert has room.
     pub fn wanted(&self) -> Option<usize> {
         let is_wanted = self.open().is_some() && (self.is_to_be_exchanged() || self.is_nearly_full());
-        Some(self.next_capacity()).filter(|_| is_wanted && self.cores.count() < CORES)
+        Some(self.next_capacity()).filter(|_| is_wanted && self.store.cores().count() < CORES)
     }
 
-    /// The capacity of a core that is to be made for an insert, none where it has room by now. `NoRoom` where the shard has as
+    /// The capacity of a core that is to be made for an insert, none where it has room by now. `Full` where the shard has as
     /// many cores as it may have.
-    pub fn wanted_for_insert(&mut self) -> Result<Option<usize>, Refused> {
-        if self.open().is_some_and(has_room) || self.opens_another(false) {
+    pub fn wanted_for_insert(&mut self) -> Result<Option<usize>, InsertErrorKind> {
+        if self.finds_room(false) {
             return Ok(None);
         }
-        if self.cores.count() >= CORES {
-            return Err(Refused::NoRoom);
+        if self.store.cores().count() >= CORES {
+            return Err(InsertErrorKind::Full);
         }
         Ok(Some(self.next_capacity()))
     }
 
     /// Makes places for so many cores that are to be made.
     pub fn prepare(&mut self, cores: usize) -> Result<(), AllocError> {
-        self.cores.reserve(cores)?;
-        self.moves.reserve()?;
-        Ok(self.spare.try_reserve(cores)?)
+        self.store.reserve(cores)
     }
 
     /// A folded core of that capacity.
@@ -644,22 +575,22 @@ impl<T> Store<T> {
         self.folds.keep(folded)
     }
 
-    /// Takes a core that was made: it is open from now on where the open one is to be exchanged, and else it is spare. Places
-    /// for it were made.
+    /// Takes a core that was made, with so many new words: it is open from now on where the open one is to be exchanged or has no
+    /// room, and waits else until it is needed. Places for it were made.
     pub fn bring(&mut self, core: Core<T>, words: usize) {
         self.words += words;
-        if !self.open().is_some_and(has_room) || self.is_to_be_exchanged() {
-            self.take_in(core);
-        } else {
-            self.spare.push(core);
-            self.note_quiet();
-        }
+        let is_needed = !self.open().is_some_and(has_room) || self.is_to_be_exchanged();
+        self.take_in(core, is_needed);
+        self.note_work();
     }
 
-    /// The same of one that is spare in any case.
-    pub fn bring_spare(&mut self, core: Core<T>, words: usize) {
-        self.words += words;
-        self.spare.push(core);
+    fn take_in(&mut self, core: Core<T>, is_needed: bool) {
+        let opened = self.store.cores().opened();
+        // One that is refused goes.
+        if self.store.take_in(core).is_ok() && !is_needed {
+            self.store.open(opened);
+        }
+        self.sweep.left = self.slots();
     }
 
     /// How many slots are wanted for that many entries to be kept for good.
@@ -676,36 +607,43 @@ impl<T> Store<T> {
         self.kept = self.kept.max(entries);
     }
 
-    /// Takes a core off that has drained, for the caller to fold it behind the lock. One that is kept for good is spare.
-    fn take_drained(&mut self) -> Option<Core<T>> {
-        loop {
-            let Some(core) = self.cores.take_drained() else {
-                return self.take_needless();
-            };
-            self.sweep = Sweep {
-                left: self.slots_in_use(),
-                cancels: self.sweep.cancels,
-                ..Sweep::default()
-            };
-            if is_worn(&core) || self.slots() >= self.kept || self.spare.try_reserve(1).is_err() {
+    /// The cores that are empty and not open, in the order in which they are taken out.
+    fn drained(&self) -> impl Iterator<Item = &Core<T>> {
+        let has_drained = |core: &&Core<T>| core.is_empty() && core.aside() == 0;
+        self.others().map(|(_, core)| core).filter(has_drained)
+    }
+
+    /// Whether an empty core isn't needed soon: it is worn, or there is memory enough without it.
+    fn is_needless(&self, core: &Core<T>, slots: usize) -> bool {
+        if self.kept > 0 {
+            return is_worn(core) || slots - core.capacity() >= self.kept;
+        }
+        let wanted = self.next_capacity();
+        let fits = (wanted / 2..=2 * wanted).contains(&core.capacity());
+        let is_roomy = |open: &Core<T>| 2 * free(open) >= open.capacity();
+        is_worn(core) || !fits || self.open().is_some_and(is_roomy)
+    }
+
+    fn has_needless(&self) -> bool {
+        let slots = self.slots();
+        self.drained().any(|core| self.is_needless(core, slots))
+    }
+
+    /// Takes an empty core off that isn't needed soon, for the caller to fold it behind the lock.
+    fn take_needless(&mut self) -> Option<Core<T>> {
+        while self.has_needless() {
+            let slots = self.slots();
+            let is_needless = self.drained().next().is_some_and(|core| self.is_needless(core, slots));
+            let core = self.store.take_drained()?;
+            (self.sweep.place, self.sweep.slot) = (0, 0);
+            if is_needless {
+                self.sweep.left = self.slots();
                 return Some(core);
             }
-            self.spare.push(core);
+            // The next one is the first then.
+            self.take_in(core, false);
         }
-    }
-
-    /// Whether a core is spare that isn't needed soon.
-    fn has_needless(&self) -> bool {
-        let is_roomy = |open: &Core<T>| 2 * free(open) >= open.capacity();
-        self.kept == 0 && !self.spare.is_empty() && self.open().is_some_and(is_roomy)
-    }
-
-    fn take_needless(&mut self) -> Option<Core<T>> {
-        if self.has_needless() {
-            self.spare.pop()
-        } else {
-            None
-        }
+        None
     }
 
     /// Moves a few of the last entries of cores that drain, which aren't due, into the open one, and gives the least deadline that
@@ -714,10 +652,9 @@ impl<T> Store<T> {
         let mut least = NEVER;
         for _ in 0..MOVED_AT_ONCE {
             let Some(entry) = self.straggler() else { break };
-            match self.cores.deadline(&entry) {
+            match self.store.deadline(&entry) {
                 Ok(deadline) if deadline > now => {
-                    let place = self.named(&ticks::Key::new(entry, entry.born()));
-                    if self.relocate(&place, Some).is_err() {
+                    if self.relocate(&entry, NextDeadline::Same).is_err() {
                         break;
                     }
                     least = least.min(deadline);
@@ -725,7 +662,7 @@ impl<T> Store<T> {
                 // It comes out without being moved.
                 Ok(_) => break,
                 Err(_) => {
-                    let _ = self.cores.reap(&entry);
+                    let _ = self.store.reap(&entry);
                     self.may_have_aside = true;
                     // A receiver is to come, and to drop the value.
                     (self.hint, least) = (0, 0);
@@ -737,18 +674,15 @@ impl<T> Store<T> {
 
     /// An entry of a core that isn't open and of which an eighth is used at most.
     fn straggler(&self) -> Option<EntryId> {
-        let open = self.open()?;
-        let drains = |core: &&Core<T>| core.shard() != open.shard() && 8 * core.len() <= core.capacity();
-        let mut rows = self.rows().filter(drains);
-        rows.find_map(|core| Some(core.peek()?.entry()))
+        let mut small = self.others().filter(|(_, core)| is_small(core));
+        small.find_map(|(place, _)| self.store.first_in(place))
     }
 
     /// About how many bytes it takes, without what its values point to.
     pub fn memory(&self) -> usize {
         let slot = size_of::<(u32, u32, Option<T>)>() + SLOT_BYTES;
-        let cores = self.cores.count() + self.spare.len();
         let slots = self.slots();
-        cores * CORE_BYTES + slots * slot + (self.words - slots) * WORD_BYTES
+        self.store.cores().count() * CORE_BYTES + slots * slot + (self.words - slots) * WORD_BYTES
     }
 }
 

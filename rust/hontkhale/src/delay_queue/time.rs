@@ -184,15 +184,6 @@ impl Time {
         self.start + Duration::from_millis(tick)
     }
 
-    /// The same of a tick that mostly comes less than a second after one whose moment is known: then nothing is divided.
-    #[inline(always)]
-    pub fn moment_after(&self, tick: u64, (known, moment): (u64, Instant)) -> Instant {
-        match tick.checked_sub(known) {
-            Some(millis @ 0..=999) => moment + Duration::new(0, millis as u32 * 1_000_000),
-            _ => self.moment(tick),
-        }
-    }
-
     /// The same of a tick that mostly is one whose moment is known.
     #[inline(always)]
     pub fn moment_beside(&self, tick: u64, (known, moment): (u64, Instant)) -> Instant {

@@ -2,6 +2,7 @@
 
 use crate::core::{CoreError, DelayCore, Removed, Words};
 use crate::index::{nth, nth_mut};
+use crate::memory::AllocError;
 use crate::ticks::{EntryId, Key, LAST_TICK};
 use alloc::vec::Vec;
 
@@ -138,6 +139,12 @@ impl<T, W: Words> Cores<T, W> {
         None
     }
 
+    // The core of an entry's number.
+    pub(crate) fn of(&self, entry: &EntryId) -> Option<&DelayCore<T, W>> {
+        let at = self.place_of(entry.shard())?;
+        Some(nth(&self.cores, at))
+    }
+
     /// Takes a live entry out, and returns its value with its key and its current deadline, a tick of one millisecond.
     /// Constant time, and no memory is taken.
     ///
@@ -211,6 +218,14 @@ impl<T, W: Words> Cores<T, W> {
             return Err(TakeError::UsedNumber);
         }
         Ok(())
+    }
+
+    /// Takes memory for `cores` more in the list of cores.
+    ///
+    /// # Errors
+    /// If memory is refused.
+    pub fn reserve(&mut self, cores: usize) -> Result<(), AllocError> {
+        Ok(self.cores.try_reserve(cores)?)
     }
 
     /// Takes a core in, which is open from then on. The one that was open drains. A later tick that the core noted is

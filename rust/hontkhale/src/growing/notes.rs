@@ -1,5 +1,6 @@
 //! Where moved entries are, by the ids that their users have.
 
+use crate::core::{DelayCore, Words};
 use crate::memory::AllocError;
 use crate::ticks::EntryId;
 use std::collections::HashMap;
@@ -7,6 +8,14 @@ use std::collections::HashMap;
 // The numbers of an id.
 fn numbers_of(id: &EntryId) -> (u32, u32, u32) {
     (id.shard(), id.index(), id.born())
+}
+
+// Whether the id of those numbers isn't ahead in a core, if it has the core's number.
+fn is_past_in<T, W: Words>(numbers: &(u32, u32, u32), core: &DelayCore<T, W>) -> bool {
+    if numbers.0 != core.shard() {
+        return true;
+    }
+    core.is_past(&EntryId::new(numbers.0, numbers.1, numbers.2))
 }
 
 // Ids, each with another.
@@ -25,14 +34,14 @@ impl PairTable {
         self.map.get(&numbers_of(id)).copied()
     }
 
-    // Whether an id has that number.
-    fn has_number(&self, number: u32) -> bool {
+    // Whether no id is ahead in a core of its number.
+    fn are_past_in<T, W: Words>(&self, core: &DelayCore<T, W>) -> bool {
         for numbers in self.map.keys() {
-            if numbers.0 == number {
-                return true;
+            if !is_past_in(numbers, core) {
+                return false;
             }
         }
-        false
+        true
     }
 
     // Takes memory for one more.
@@ -99,9 +108,9 @@ impl Notes {
         user
     }
 
-    /// Whether an id of a note has that number: a user's, or a place's.
-    pub fn has_number(&self, number: u32) -> bool {
-        self.places.has_number(number) || self.users.has_number(number)
+    /// Whether no id of a note, a user's or a place's, is ahead of its slot's stamp in a core of its number.
+    pub fn are_past_in<T, W: Words>(&self, core: &DelayCore<T, W>) -> bool {
+        self.places.are_past_in(core) && self.users.are_past_in(core)
     }
 
     /// Takes memory for one note more.

@@ -12,8 +12,8 @@ use crate::ticks::{EntryId, Key};
 /// A call by an entry's id looks for its note in a map, and for its core as [`Cores`] does. What it costs, as it is told
 /// with the call, is in that core.
 pub struct Store<T, W: Words> {
-    cores: Cores<T, W>,
-    notes: Notes,
+    pub(crate) cores: Cores<T, W>,
+    pub(crate) notes: Notes,
 }
 
 // A key of a place, as its user has it.
@@ -76,6 +76,21 @@ fn note_answer<T>(
     match answer {
         Ok(moved) => Ok(note_moved(notes, user, place, moved)),
         Err(error) => Err(error),
+    }
+}
+
+// Takes away the note of what a poll took out, and tells it as its user knows it.
+#[inline(always)]
+fn note_out<T>(notes: &mut Notes, made: Result<Piece<T>, CoreError>) -> Result<Piece<T>, CoreError> {
+    match made {
+        Ok(Piece::Answer(Turn::Out(expired))) => {
+            let place = expired.key.entry();
+            let user = notes.user(&place);
+            let _ = notes.forget(&place);
+            let expired = expired_as(&user, expired);
+            Ok(Piece::Answer(Turn::Out(expired)))
+        }
+        answer => answer,
     }
 }
 
@@ -174,23 +189,25 @@ impl<T, W: Words> Store<T, W> {
         (answer, beside)
     }
 
-    /// Notes a tick, of one millisecond, and makes at most `most` steps of a poll: it takes out one entry whose deadline
-    /// in force is reached by the greatest tick noted, or tells when to come again, or has more to do. No value is
-    /// dropped: that of each cancelled entry which it reaps waits until it is taken out.
+    /// Notes a tick, of one millisecond, and polls one core: it takes out one entry whose deadline in force is reached by
+    /// the greatest tick noted, or tells when to come again, or that another core may have more. No value is dropped:
+    /// that of each cancelled entry which it reaps waits until it is taken out.
+    ///
+    /// # Errors
+    /// `TickTooLarge` beyond the last tick, which is not noted then.
+    pub fn poll(&mut self, tick: u64) -> Result<Piece<T>, CoreError> {
+        let made = self.cores.poll(tick);
+        note_out(&mut self.notes, made)
+    }
+
+    /// The same by at most `most` steps, each in constant time. So it also tells where it made them all, and more may be
+    /// left.
     ///
     /// # Errors
     /// `TickTooLarge` beyond the last tick, which is not noted then.
     pub fn poll_some(&mut self, tick: u64, most: u32) -> Result<Piece<T>, CoreError> {
-        match self.cores.poll_some(tick, most) {
-            Ok(Piece::Answer(Turn::Out(expired))) => {
-                let place = expired.key.entry();
-                let user = self.notes.user(&place);
-                let _ = self.notes.forget(&place);
-                let expired = expired_as(&user, expired);
-                Ok(Piece::Answer(Turn::Out(expired)))
-            }
-            answer => answer,
-        }
+        let made = self.cores.poll_some(tick, most);
+        note_out(&mut self.notes, made)
     }
 
     /// Returns the key of an entry that is scheduled first, possibly a cancelled one. It returns none if no entry is
@@ -249,13 +266,13 @@ impl<T, W: Words> Store<T, W> {
     ///
     /// # Errors
     /// The core comes back, and nothing changes. In this order:
-    /// - `UsedNumber` if an entry is known by an id of that number that was moved away from there, or to there.
+    /// - `UsedNumber` if a moved entry is known by an id of that number with a stamp that the core may give anew.
     /// - `StillLinked` if an entry is linked in the core.
     /// - `UsedNumber` if a core of the store has its number, or it is the last one of all.
     /// - `NoMemory` if memory is refused.
     #[allow(clippy::result_large_err)]
     pub fn take_in(&mut self, core: DelayCore<T, W>) -> Result<(), (TakeError, DelayCore<T, W>)> {
-        if self.notes.has_number(core.shard()) {
+        if !self.notes.are_past_in(&core) {
             return Err((TakeError::UsedNumber, core));
         }
         self.cores.take_in(core)

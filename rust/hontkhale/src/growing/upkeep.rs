@@ -49,8 +49,8 @@ impl<T, W: Words> Store<T, W> {
     /// # Errors
     /// If memory is refused.
     pub fn reserve(&mut self, cores: usize) -> Result<(), AllocError> {
-        self.cores.try_reserve(cores)?;
-        self.notes.try_reserve()
+        self.cores.reserve(cores)?;
+        self.notes.reserve()
     }
 
     /// Reaps each linked entry that is found cancelled at `count` slots from `from` on of the core at a place, and tells
