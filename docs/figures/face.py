@@ -11,7 +11,7 @@ from tree import TOP, text_of
 CRATES = ("hontkhale", "hontkhale-tokio")
 LISTS = TOP / "docs" / "public"
 # Traits that nobody is to name: they keep the types of other crates out.
-SEALS = {"Steps", "Shards"}
+SEALS = {"Steps", "Rows", "Sleeps"}
 TOKEN = re.compile(r"""
     (?P<gap>\s+|//[^\n]*|/\*.*?\*/)
     |b?r(?P<hashes>\#*)".*?"(?P=hashes)|b?"(?:\\.|[^"\\])*"|b?'(?:\\.[^']*|[^'\\])'

@@ -16,4 +16,5 @@ pub use row::{unlock, Row, Shard};
 pub use sleeping::park_with;
 pub use sleeping::{Sleeps, StreamFault};
 pub use source::{MillisecondTicks, TickSource};
-pub use streaming::{Pace, ShardStream, Shards, Whole};
+pub(crate) use streaming::Rows;
+pub use streaming::{LockedShard, Pace, ShardStream, Shards, Whole};

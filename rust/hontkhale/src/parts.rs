@@ -67,10 +67,10 @@ pub mod shards {
 
 #[cfg(feature = "std")]
 pub mod streams {
-    //! Streams of the entries that expire in a shard, for a task. No other crate's queue has a [`ShardStream`], which is named
-    //! by its aliases.
+    //! Streams of the entries that expire in a shard, for a task. No other crate's queue has a [`ShardStream`]: the bound
+    //! [`Shards`] is that of [`SharedDelayQueue`](crate::parts::shards::SharedDelayQueue) alone.
 
-    pub use crate::parking::Pace;
+    pub use crate::parking::{LockedShard, Pace, Shards};
     pub use crate::stream::{
         ExpiredStream, MillisecondTicks, PacedStream, ShardStream, StreamFault, TickSource, Whole,
     };

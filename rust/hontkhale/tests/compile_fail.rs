@@ -31,6 +31,8 @@ const CORE: &str =
     "use hontkhale::parts::owner::*; fn f(mut queue: DelayCore<char, VecWords>, mut words: VecWords, mut keeper: Keeper) {";
 const ANY_WORDS: &str = "use hontkhale::parts::owner::*;
     fn f<T, W: Words>(queue: &mut DelayCore<T, W>, mut words: W) { queue.poll(5);";
+const ANY_SHARDS: &str = "use hontkhale::parts::streams::*;
+    fn f<Q: Shards>(queue: &Q, stream: &ShardStream<'_, Q, MillisecondTicks>) {";
 const SHARED: &str =
     "use hontkhale::parts::shards::*; fn f(queue: &'static SharedDelayQueue<u64>) { let shard = queue.enter(0).unwrap();";
 
@@ -83,6 +85,13 @@ const PROGRAMS: &[Program] = &[
         name: "a_step_by_the_bound",
         front: ANY_WORDS,
         last: "words.begin(1_000_000_000, 1, 5);",
+        reason: PRIVATE_METHOD,
+    },
+    // So does it name the bound of what a stream is of, and doesn't reach the row, whose calls require something.
+    Program {
+        name: "a_row_by_the_bound",
+        front: ANY_SHARDS,
+        last: "queue.row();",
         reason: PRIVATE_METHOD,
     },
     Program {

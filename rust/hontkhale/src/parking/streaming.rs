@@ -12,19 +12,28 @@ use crate::parking::source::TickSource;
 use core::num::NonZeroU32;
 use core::task::{Context, Poll, Waker};
 
-/// What a stream asks of a queue of shards.
-pub trait Shards {
+/// A shard behind its lock. No other crate's types have it.
+pub trait LockedShard: Sleeps {}
+
+impl<S: Sleeps> LockedShard for S {}
+
+/// A queue of shards: the bound of whatever a stream is of. No other crate's types have it.
+#[allow(private_bounds)]
+pub trait Shards: Rows<<Self as Shards>::State, <Self as Shards>::Error> {
     /// A shard behind its lock.
-    type State: Sleeps;
+    type State: LockedShard;
 
     /// Why a call is refused.
     type Error;
+}
 
+/// What a stream asks of a queue of shards.
+pub(crate) trait Rows<H: Sleeps, E> {
     /// Its shards behind their locks.
-    fn row(&self) -> &Row<Self::State>;
+    fn row(&self) -> &Row<H>;
 
     /// The refusal where there is no such shard.
-    fn unknown() -> Self::Error;
+    fn unknown() -> E;
 
     /// Whether a refused tick ends a stream for good.
     fn ends() -> bool;
@@ -35,8 +44,8 @@ pub trait Shards {
         &self,
         place: usize,
         source: &mut S,
-        before: &mut Option<Parked<NextOf<Self::State>>>,
-    ) -> (MutexGuard<'_, Self::State>, u64);
+        before: &mut Option<Parked<NextOf<H>>>,
+    ) -> (MutexGuard<'_, H>, u64);
 }
 
 /// How many steps a stream makes a poll.

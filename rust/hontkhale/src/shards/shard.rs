@@ -3,7 +3,7 @@
 
 use crate::core::{CoreError, Piece};
 use crate::locks::MutexGuard;
-use crate::parking::{let_sleep, ring, Parked, Row, Shard, Shards, Sleeps, TickSource};
+use crate::parking::{let_sleep, ring, Parked, Row, Rows, Shard, Shards, Sleeps, TickSource};
 use crate::shards::errors::QueueError;
 use crate::shards::queue::SharedDelayQueue;
 use crate::shards::state::ShardState;
@@ -110,7 +110,9 @@ impl<T> Shards for SharedDelayQueue<T> {
     type State = ShardState<T>;
 
     type Error = QueueError;
+}
 
+impl<T> Rows<ShardState<T>, QueueError> for SharedDelayQueue<T> {
     fn row(&self) -> &Row<ShardState<T>> {
         &self.row
     }

@@ -3,13 +3,17 @@
 
 use hontkhale::parts::cache::{CountedCache, Seen, TtlCache};
 use hontkhale::parts::owner::{
-    CallError, Caller, CoreError, DelayCore, Entries, EntryId, Expired, Keeper, Key, LiveEntry, OpenWords, Piece,
-    PlainQueue, PlainTurn, Removed, Turn, VecWords, WordsError,
+    shared_queue, CallError, Caller, CoreError, DelayCore, Entries, EntryId, Expired, Keeper, Key, LiveEntry,
+    OpenWords, Piece, PlainQueue, PlainTurn, Removed, SharedWords, Turn, VecWords, Words, WordsError,
 };
 use hontkhale::parts::sessions::IdleSessions;
 use hontkhale::parts::shards::{Handle, QueueConfig, QueueError, SharedDelayQueue};
-use hontkhale::parts::streams::{ExpiredStream, MillisecondTicks, PacedStream, TickSource};
+use hontkhale::parts::streams::{
+    ExpiredStream, MillisecondTicks, Pace, PacedStream, ShardStream, Shards, TickSource, Whole,
+};
 use hontkhale::DelayQueue;
+use std::hash::{BuildHasher, Hash};
+use std::task::{Context, Waker};
 
 // A value that may be sent and not shared.
 type Sent = std::cell::Cell<u64>;
@@ -66,6 +70,47 @@ fn what_is_shared() {
     shares::<QueueError>();
     shares::<WordsError>();
     shares::<MillisecondTicks>();
+}
+
+// A program writes each bound that a public type or call has: these are what takes all that have it.
+fn len_over<T, W: Words>(queue: &DelayCore<T, W>) -> usize {
+    queue.len()
+}
+
+fn issued<T, W: SharedWords>(queue: &mut DelayCore<T, W>) -> Result<W::Caller, W::Fault> {
+    queue.issue()
+}
+
+fn len_of_cache<K: Eq + Hash, V, S: BuildHasher>(cache: &TtlCache<K, V, S>) -> usize {
+    cache.len()
+}
+
+fn len_of_counted<K: Eq + Hash, V, S: BuildHasher>(cache: &CountedCache<K, V, S>) -> usize {
+    cache.cache.len()
+}
+
+fn waits<Q: Shards, S: TickSource, P: Pace>(mut stream: ShardStream<'_, Q, S, P>) -> bool {
+    stream.poll_next(&mut Context::from_waker(Waker::noop())).is_pending()
+}
+
+#[test]
+fn each_bound_has_a_name() -> Result<(), QueueError> {
+    assert_eq!(len_over(&DelayCore::<u8, VecWords>::with_capacity(1)?), 0);
+    assert_eq!(
+        issued(&mut shared_queue::<u8>(1)?).map(|caller| caller.cancels()),
+        Ok(0)
+    );
+    assert_eq!(len_of_cache(&TtlCache::<u8, u8>::with_capacity(1)?), 0);
+    assert_eq!(
+        len_of_counted(&CountedCache::new(TtlCache::<u8, u8>::with_capacity(1)?)),
+        0
+    );
+    let queue: SharedDelayQueue<u8> = SharedDelayQueue::new(QueueConfig::of(1, 1))?;
+    queue.insert_or_drop(0, 1, 10)?;
+    let stream = || ExpiredStream::new(&queue, 0, At(0)).map_err(|(error, _)| error);
+    assert!(waits::<_, _, Whole>(stream()?));
+    assert!(waits(stream()?.paced(std::num::NonZeroU32::MIN)));
+    Ok(())
 }
 
 // A map from keys to connections, and a set in order.
