@@ -185,6 +185,13 @@ impl<T> ShardStore<T> {
         Key::of(self.queue, self.at, key)
     }
 
+    /// The key that the entry's insert gave, wherever it has been since.
+    #[inline(always)]
+    fn named_at_birth(&self, key: &ticks::Key) -> Key {
+        let entry = key.entry();
+        self.named(&ticks::Key::new(entry, entry.born()))
+    }
+
     /// Whether a slot is free for an insert: in the open core, or in another one of which half is free, or, where any will do, in
     /// any. That one is open then. No value that is set aside is in the way.
     #[inline(always)]
@@ -322,13 +329,17 @@ impl<T> ShardStore<T> {
         let entry = key.entry();
         let place = self.store.place(&entry);
         let (renamed, beside) = self.store.reset(&entry, tick);
+        let place_now = self.store.place(&entry);
         if renamed.is_ok() {
             self.hint = self.hint.min(tick);
-            if self.store.place(&entry) != place {
+            if place_now != place {
                 self.note_moved();
             }
         }
-        (renamed.map(|key| self.named(&key)).map_err(refused), beside)
+        // The stamp of another slot would reach whoever is in the first one by then.
+        let is_first = place_now == Some(entry);
+        let renamed = renamed.map(|renamed| if is_first { self.named(&renamed) } else { *key });
+        (renamed.map_err(refused), beside)
     }
 
     #[cold]
@@ -397,7 +408,7 @@ impl<T> ShardStore<T> {
                     // So that whoever finds nothing due needs no lock to tell. Of several cores it takes as long as a poll.
                     self.hint = self.store.cores().next_wake().unwrap_or(NEVER);
                 }
-                Polled::Out(self.named(&out.key), out.deadline, out.value)
+                Polled::Out(self.named_at_birth(&out.key), out.deadline, out.value)
             }
             Piece::Answer(Turn::Waiting { next }) => {
                 self.hint = next;
@@ -437,7 +448,7 @@ impl<T> ShardStore<T> {
         match self.store.remove(&entry) {
             Ok(removed) => {
                 self.note_removed();
-                Polled::Out(self.named(&removed.key), removed.deadline, removed.value)
+                Polled::Out(self.named_at_birth(&removed.key), removed.deadline, removed.value)
             }
             Err(_) => {
                 let _ = self.store.reap(&entry);

@@ -1,10 +1,11 @@
 //! An entry that is moved while other threads reach for it, as worn slots and shards are left: no slot has a second stamp here.
 
 use crate::kit::{ms, within_the_limit, FAR};
-use hontkhale::{DelayQueue, Key, ManualClock};
+use hontkhale::{DelayQueue, Key, KeyError, ManualClock};
 use std::sync::atomic::{AtomicBool, Ordering::SeqCst};
 use std::sync::{Barrier, Mutex};
 use std::thread;
+use std::time::Duration;
 
 /// Extends an entry as long as another thread makes its calls, and tells whether an extend was lost that was accepted.
 fn loses_an_extend(queue: &DelayQueue<u64>, key: &Key, begun: &AtomicBool, is_over: &AtomicBool) -> bool {
@@ -116,4 +117,35 @@ fn a_clear_takes_out_what_is_moved_meanwhile() {
             assert_eq!(queue.len(), 0);
         }
     });
+}
+
+/// An entry keeps the id of its first slot, and has another slot's stamps: whoever is in the first slot by then isn't reached.
+#[test]
+fn a_key_of_a_moved_entry_reaches_no_other_one() {
+    for resets in 0..6 {
+        let clock = ManualClock::new();
+        let queue = DelayQueue::builder().clock(&clock).shards(1).build();
+        let keys: Vec<Key> = (0..65).map(|number| queue.insert(number, FAR).expect("room")).collect();
+        keys[1..].iter().for_each(|key| assert!(queue.remove(key).is_ok()));
+        (0..10).for_each(|_| assert!(queue.try_recv().is_err()));
+        let mut moved = keys[0];
+        for sooner in 1..=resets {
+            moved = queue
+                .reset(&moved, FAR - Duration::from_secs(sooner))
+                .expect("it waits");
+        }
+        clock.advance(FAR);
+        let expired = queue.recv().expect("it is due");
+        assert_eq!((expired.key, expired.value), (keys[0], 0));
+        for _ in 0..8 {
+            let others: Vec<Key> = (0..300)
+                .map(|number| queue.insert(number, FAR).expect("room"))
+                .collect();
+            for key in [&keys[0], &moved, &expired.key] {
+                assert_eq!(queue.extend(key, 2 * FAR), Err(KeyError::Ended));
+                assert_eq!(queue.cancel(key), Err(KeyError::Ended));
+            }
+            others.iter().for_each(|key| assert!(queue.remove(key).is_ok()));
+        }
+    }
 }
