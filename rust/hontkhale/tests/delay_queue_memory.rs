@@ -160,16 +160,22 @@ fn keys_stay_good_and_stale_ones_are_refused_as_cores_go_and_come() {
     let _alone = alone();
     let queue = DelayQueue::builder().shards(2).build();
     let stays = queue.insert(0, FAR).expect("room");
-    let mut before: Vec<Key> = Vec::new();
+    let (mut before, mut most): (Vec<Key>, _) = (Vec::new(), 0);
     for round in 1..20_u64 {
         let keys: Vec<Key> = (0..5_000).map(|_| queue.insert(round, FAR).expect("room")).collect();
         assert!(keys.iter().all(|key| queue.extend(key, FAR).is_ok()));
         assert!(before
             .iter()
             .all(|key| queue.extend(key, FAR).is_err() && queue.remove(key).is_err()));
-        let small = queue.stats().memory;
+        let full = queue.stats().memory;
+        most = full.max(most);
         assert!(keys.iter().all(|key| queue.remove(key) == Ok(round)));
-        assert!(queue.stats().memory < small);
+        let left = queue.stats().memory;
+        // The words of each size are made once, in the first rounds, and stay.
+        assert!(
+            left < most && (round < 6 || left < full),
+            "{left} of {full} in round {round}, {most} at most"
+        );
         assert!(queue.extend(&stays, FAR).is_ok() && queue.len() == 1);
         before = keys;
     }

@@ -110,7 +110,7 @@ fn another_thread_gets_in_between_the_pieces() {
             looks.join().expect("the other thread ends")
         })
     };
-    assert!((0..300).any(gets_in), "no other thread ever gets in");
+    assert!((0..3_000).any(gets_in), "no other thread ever gets in");
 }
 
 /// Threads that wait for a lock are let in, and none of their calls is lost.

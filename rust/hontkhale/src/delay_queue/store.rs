@@ -33,6 +33,8 @@ const SLOTS: usize = 256;
 const MOVED_AT_ONCE: usize = 16;
 /// Each so many inserts a shard is looked after.
 const INSERTS: u64 = 1_024;
+/// Each so many ends it is looked whether its cores are of the right size, and at each of the last so many.
+const LOOKS: u64 = 16;
 /// What the wheel and the words take of each slot, what the words alone take, and what a core takes besides.
 const SLOT_BYTES: usize = 32;
 const WORD_BYTES: usize = 8;
@@ -268,7 +270,10 @@ impl<T> ShardStore<T> {
     /// Notes that an entry left a core.
     #[inline(always)]
     fn note_left(&mut self) {
-        if self.store.cores().count() > 1 || self.open().is_some_and(is_small) {
+        let left = self.left();
+        // To look takes longer the more cores there are.
+        let looks = left < LOOKS || left % LOOKS == 0;
+        if looks && (self.store.cores().count() > 1 || self.open().is_some_and(is_small)) {
             self.look_after();
         }
     }
