@@ -1,4 +1,4 @@
-//! The programs of the page run. Three of them stand in it, the others are linked.
+//! The programs of the page run. One of them stands in it, the others are linked.
 
 mod common;
 #[path = "../examples/connections.rs"]
@@ -25,13 +25,11 @@ fn is_in_page(program: &str) -> bool {
 #[test]
 fn connections() {
     ends(connections::main);
-    assert!(is_in_page(include_str!("../examples/connections.rs")));
 }
 
 #[test]
 fn idle_timeouts() {
     ends(idle_timeouts::main);
-    assert!(is_in_page(include_str!("../examples/idle_timeouts.rs")));
 }
 
 #[test]
