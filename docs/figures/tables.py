@@ -360,20 +360,20 @@ def text_bytes(lines):
 def evidence():
     """What stands behind the claims, in numbers."""
     scripts, refused = "crates/dq_scripts/src/tests/scripts.rt", "crates/dq_scripts/src/tests/memory.rt"
-    code, proofs, tests = tree.lines("code", "queue"), tree.lines("proofs+specs+contract", "queue"), tree.lines("test", "all")
+    code, proofs = tree.lines(tree.erased(), "//"), tree.lines(tree.files(tree.CRATES, ".antt"), "--")
+    functions = [it for path in tree.erased() for it in tree.file_of(path).functions]
     planted = [f"{sum(float(it) for (_, its), it in noted('plant').items() if its == what):,.0f}" for what in ("refused", "let through", "not judged")]
     queues = re.search(r"let sizes: &\[\(usize, u32\)\] = &\[(.*?)\];", text_of(TOP / "rust/hontkhale/tests/slow/same_calls.rs"), re.S)[1].count("(")
     calls = re.search(r"const CALLS: u64 = if cfg!.debug_assertions. \{ ([\d_]+) \}", text_of(TOP / "rust/hontkhale/tests/models/draw.rs"))[1]
     lines, answers = script_rows(scripts, "const THREE_NAMES")
     ends = len(script_rows(refused, r"fn refused_memory\b")[0]) + 2 * len(script_rows(scripts, "const EVERY_COMMAND")[0])
-    functions = [tree.total("queue", lambda it: it.functions(only_public)) for only_public in (False, True)]
-    definitions = tree.total("queue", lambda it: sum(not indent for indent, _ in it.definitions()))
+    definitions = sum(not indent for it in tree.crates() for indent, _ in it.definitions())
     told = {
-        "Lines of code that a user runs, each function proved safe, total and true to its contract":
-            f"{code:,} in {functions[0]:,} functions, {functions[1]:,} of them public",
-        "Lines of proofs, definitions and contracts about them": f"{proofs:,}, {proofs / code:.1f} to a line of code",
+        "Lines of erased Rust, each function of them proved safe, total and true to its contract":
+            f"{code:,} in {len(functions):,} functions, {sum(it.is_public for it in functions):,} of them public",
+        "Lines of proofs and definitions, beside the contracts": f"{proofs:,}",
         "Definitions, which a reader has to believe in": f"{definitions:,}",
-        "Lines of tests in Rattle, proved safe too": f"{tests:,} in {tree.tests():,} functions",
+        "Tests in Rattle, proved safe too": f"{tree.tests():,}",
         "Tests in plain Rust over the erased crate that the gate runs by name":
             f"{len(tree.plain_tests()):,}, {len(tree.plain_tests([tree.ERASED_ONCE])):,} of them once erased from tests in Rattle",
         "Mutations, each named for its bug, that each whole run of the gate tries and the prover refuses": f"{tree.edits():,}",

@@ -15,8 +15,6 @@ TOP = Path(__file__).resolve().parent.parent.parent
 OUT = TOP / "rust" / "hontkhale" / "src"
 
 MODULES = dict(TABLES["modules"])
-# What is told where another shard's state stands in a shard's place: a closure of `lend`, or who entered both, put it so.
-SWAPPED = "the state of another shard was put here"
 
 
 class Source:
@@ -161,7 +159,7 @@ def erased(hand, closed):
     closed.all_found()
     for source in found:
         changed(source, ghosts.erased)
-        guarded(source, kit.early, source.tokens, SWAPPED)
+        guarded(source, kit.early, source.tokens)
         changed(source, handed.without_handed, fields[source.crate])
         guarded(source, kit.by_std, source.tokens)
         guarded(source, errors.with_errors, source.tokens)

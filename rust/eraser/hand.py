@@ -1,10 +1,13 @@
 """What no rule turns: the places that are done by hand, and how what has a `requires` is closed."""
 import dataclasses
+import re
 from pathlib import Path
 
 from rattle import Refused
 
 TOP = Path(__file__).resolve().parent.parent.parent
+# The file whose edits follow, a file that is left out, what is said of the edits below, an edit, and what is none of these.
+LINES = re.compile(r"^@ (?P<file>.*)|^! (?P<out>.*)|^#(?: (?P<said>.*))?|^(?P<old>(?:-.*\n)+)(?P<new>(?:\+.*\n)*)|^(?P<bad>.+)", re.M)
 
 
 @dataclasses.dataclass
@@ -14,8 +17,8 @@ class Edit:
     file: str
     said: str
     line: int
-    old: str = ""
-    new: str = ""
+    old: str
+    new: str
     is_used: bool = False
 
 
@@ -24,31 +27,21 @@ class Hand:
 
     def __init__(self, text, name="rust/eraser/by_hand"):
         self.name, self.edits, self.left_out = name, [], {}
-        file = said = edit = None
-        for number, line in enumerate(text.splitlines(), 1):
-            mark, rest = line[:1], line[2:]
-            if mark in ("-", "+") and file and (edit or mark == "-"):
-                if edit is None:
-                    edit = Edit(file, said, number)
-                    self.edits.append(edit)
-                side = "old" if mark == "-" else "new"
-                setattr(edit, side, getattr(edit, side) + rest + "\n")
-                continue
-            edit = None
-            if mark == "@":
-                file = rest.strip()
-            elif mark == "!":
-                self.left_out[rest.strip()] = number
-            elif mark == "#":
-                said = rest
-            elif line.strip():
-                raise Refused(f"{name}: line {number}: neither `@`, `-`, `+` nor `#`")
+        file = said = ""
+        for found in LINES.finditer(text):
+            line = text.count("\n", 0, found.start()) + 1
+            file, said = (found["file"] or file).strip(), found["said"] or said
+            if found["out"]:
+                self.left_out[found["out"].strip()] = line
+            elif found["old"]:
+                sides = (re.sub(r"(?m)^[-+] ?", "", found[it]) for it in ("old", "new"))
+                self.edits.append(Edit(file, said, line, *sides))
+            elif found["bad"]:
+                raise Refused(f"{name}: line {line}: neither `@`, `-`, `+` nor `#`")
 
     def applied(self, path, text):
         name = str(path.relative_to(TOP / "crates"))
-        for edit in self.edits:
-            if edit.file != name:
-                continue
+        for edit in (it for it in self.edits if it.file == name):
             times = text.count(edit.old)
             if times != 1:
                 raise Refused(f"crates/{name}: the text of {self.name}, line {edit.line}, stands there {times} times")

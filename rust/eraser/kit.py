@@ -1,35 +1,15 @@
 """Rules for what the kit has otherwise than std: memory that may be refused, locks, wakers, hashers, formatting."""
-from patterns import made, rewritten
-from rattle import Refused, close_of, functions, words_at
+from patterns import rewritten
+from rattle import close_of, functions
 
 WAKES = "// A waker that is dropped wakes.\n"
 
 
-def forever(tokens, lent):
-    """`for _ in rt.forever() { .. }` is a loop if it returns, and else waits for what never comes: a panic says so."""
-    for at in reversed(range(len(tokens))):
-        if words_at(tokens, at, "for", "_", "in", "rt", ".", "forever", "(", ")", "{"):
-            close = close_of(tokens, at + 8)
-            words = {token.text for token in tokens[at + 9:close]}
-            if "break" in words:
-                raise Refused(f"line {tokens[at].line}: a `break` leaves what a rule takes for a loop without end")
-            returns = "return" in words or "?" in words
-            if not returns and not only_waits(tokens, at + 9, close):
-                raise Refused(f"line {tokens[at].line}: a loop without end that does more than wait for a lock")
-            tokens[at:at + 8 if returns else close + 1] = made("loop" if returns else f'panic!("{lent}");', tokens[at])
-
-
-def only_waits(tokens, at, end):
-    """Whether what stands there is `let _again = self.shards[place].lock(rt);`."""
-    return " ".join(token.text for token in tokens[at:end]) == "let _again = self . shards [ place ] . lock ( rt ) ;"
-
-
-def early(tokens, lent):
+def early(tokens):
     for token in tokens:
         token.before = token.before.replace(WAKES, "")
     rewritten(tokens, "early")
     rewritten(tokens, "receipts")
-    forever(tokens, lent)
 
 
 def formatted(text):

@@ -4,7 +4,7 @@ import re
 from kit import formatted
 from lists import elements, next_of
 from patterns import TABLES
-from rattle import Refused, Token
+from rattle import Refused
 
 IMPORTS, PROVIDED = (dict(TABLES[it]) for it in ("imports", "provided"))
 # The words that define a name.
@@ -13,10 +13,8 @@ DEFINES = {"fn", "struct", "type", "enum", "trait", "const"}
 CALLS = {"are_fresh", "filled", "room_for", "text_of", "copy_of", "nth", "nth_mut"}
 
 LINK = re.compile(r"\[`((?:dq_\w+::)?)(\w+)((?:::\w+)?)`\](?![(\[:])")
-DEFINITION = re.compile(r"(\]: )crate::(\w+)")
 # A path of the crate as the docs of the sources have it: a part, or a name of one.
 OF_THE_CRATE = re.compile(r"(\bhontkhale::|\]\(crate::)(\w+)")
-WIDTH = 120
 
 
 def tree_of(its, prefix=""):
@@ -90,14 +88,11 @@ def with_links(tokens, module, given):
     """Each link of a doc leads to what the crate gives away, or is plain text."""
     known = known_names(tokens, module, given)
     for at in reversed([place for place, token in enumerate(tokens) if token.kind == "doc"]):
-        token, far = tokens[at], {}
+        token = tokens[at]
         if "&rt" in token.text:
             raise Refused(f"line {token.line}: a doc speaks of the runtime")
         token.text = OF_THE_CRATE.sub(lambda it: it[1] + part(it[2], given), token.text)
-        token.text = DEFINITION.sub(lambda it: it[1] + "crate::" + given.get(it[2], ["", it[2]])[1], token.text)
-        token.text = LINK.sub(lambda match: link(match, known, given, far, token), token.text)
-        if far:
-            put_definitions(tokens, at, far)
+        token.text = LINK.sub(lambda match: link(match, known, given), token.text)
 
 
 def part(name, given):
@@ -105,7 +100,7 @@ def part(name, given):
     return f"parts::{name}" if any(path.split("::")[1] == name for _, path in given.values()) else name
 
 
-def link(match, known, given, far, token):
+def link(match, known, given):
     crate, head, tail = match.groups()
     name = head + tail
     if head == "Self":
@@ -114,24 +109,4 @@ def link(match, known, given, far, token):
         return f"`{name}`"
     if head in known and not crate:
         return match.group()
-    path = f"crate::{given[head][1]}{tail}"
-    inline = f"[`{name}`]({path})"
-    indent = len(token.before.rsplit("\n", 1)[-1])
-    if indent + len(token.text) + len(inline) - len(match.group()) <= WIDTH:
-        return inline
-    far[name] = path
-    return f"[`{name}`]"
-
-
-def put_definitions(tokens, at, far):
-    """Puts where far links lead behind the last line of the doc."""
-    end = at
-    prefix = tokens[at].text[:3]
-    while tokens[end + 1].kind == "doc" and tokens[end + 1].text.startswith(prefix):
-        end += 1
-    lines = [prefix] + [f"{prefix} [`{name}`]: {path}" for name, path in sorted(far.items())]
-    present = {token.text for token in tokens[at:end + 1]}
-    if any(line in present for line in lines[1:]):
-        lines = [line for line in lines[1:] if line not in present]
-    indent = "\n" + tokens[at].before.rsplit("\n", 1)[-1]
-    tokens[end + 1:end + 1] = [Token("doc", line, indent, tokens[at].line) for line in lines]
+    return f"[`{name}`](crate::{given[head][1]}{tail})"

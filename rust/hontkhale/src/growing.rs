@@ -1,10 +1,8 @@
 //! One owner's queue that grows and shrinks.
 //!
-//! A [`Cores`] has cores, each a [`DelayCore`] under a number of its own. All inserts go into one of them, the
+//! A [`Cores`] has cores, each a [`DelayCore`](crate::parts::owner::DelayCore) under a number of its own. All inserts go into one of them, the
 //! open core; the others drain: what is in them stays, and comes out there. A core that has drained can be taken out and
 //! folded; its words stay, so its keys stay refused.
-//!
-//! [`DelayCore`]: crate::parts::owner::DelayCore
 
 mod cores;
 mod folds;

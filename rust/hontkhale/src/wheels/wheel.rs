@@ -194,9 +194,7 @@ impl Wheel {
         self.moved = moved;
     }
 
-    /// Files a loose index at a tick from the wheel's own on, at most [`REACH`] ticks ahead. It has not moved then.
-    ///
-    /// [`REACH`]: crate::parts::wheel::REACH
+    /// Files a loose index at a tick from the wheel's own on, at most [`REACH`](crate::parts::wheel::REACH) ticks ahead. It has not moved then.
     pub fn link(&mut self, index: usize, filed: u64) {
         // requires index < length self.old.filing.filed
         // requires filed_at self.old.filing.filed index ≡ None

@@ -19,11 +19,8 @@ pub fn shared_queue<T>(capacity: usize) -> Result<DelayCore<T, Keeper>, CoreErro
 /// `config.last_stamp`. It takes time and memory in proportion to the capacity.
 ///
 /// # Errors
-/// - `BadConfig` if the capacity isn't 1 to [`CAPACITY_LIMIT`], or the last stamp isn't 1 to [`LAST_STAMP`].
+/// - `BadConfig` if the capacity isn't 1 to [`CAPACITY_LIMIT`](crate::parts::owner::CAPACITY_LIMIT), or the last stamp isn't 1 to [`LAST_STAMP`](crate::parts::owner::LAST_STAMP).
 /// - `NoMemory` if memory is refused.
-///
-/// [`CAPACITY_LIMIT`]: crate::parts::owner::CAPACITY_LIMIT
-/// [`LAST_STAMP`]: crate::parts::owner::LAST_STAMP
 pub fn numbered_queue<T>(config: CoreConfig) -> Result<DelayCore<T, Keeper>, CoreError> {
     if config.check().is_err() {
         return Err(CoreError::BadConfig);

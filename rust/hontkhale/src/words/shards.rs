@@ -25,10 +25,8 @@ fn numbered_shard<T, S: From<DelayCore<T, Keeper>>>(number: u32, config: &CoreCo
 /// each caller's own.
 ///
 /// # Errors
-/// BadConfig where the capacity isn't 1 to [`CAPACITY_LIMIT`] or the last stamp isn't 1 to
+/// BadConfig where the capacity isn't 1 to [`CAPACITY_LIMIT`](crate::parts::owner::CAPACITY_LIMIT) or the last stamp isn't 1 to
 /// [`LAST_STAMP`](crate::parts::owner::LAST_STAMP), and else NoMemory.
-///
-/// [`CAPACITY_LIMIT`]: crate::parts::owner::CAPACITY_LIMIT
 pub fn locked_shards<T, S: From<DelayCore<T, Keeper>>>(
     shards: u32,
     config: CoreConfig,
