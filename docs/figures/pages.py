@@ -3,9 +3,7 @@
 A mark is a comment that a reader of the page does not see:
 
     <!-- table NAME --> .. <!-- end --> all between is made by the script
-    <!-- from FILE: NAME -->            the fenced block below is that definition (`NAME CLAUSE`: one clause of it); with
-                                        `FILE` alone it stands in the file as it is
-    <!-- carried by FILE: FUNCTION -->  the contract of that function cites the statement above, or leads to it
+    <!-- from FILE -->                  the fenced block below stands in that file
     [`NAME`](..antt) [`FUNCTION`](..rt) in a row of a table: the contract of a function of the row leads to each definition of it
     <!-- names of others: Stream -->    these names in code font, and files, are none of this repository
 """
@@ -18,8 +16,7 @@ import source
 from tree import TOP, text_of
 
 TABLE = re.compile(r"(<!-- table ([^>]*?) -->\n)(.*?)(<!-- end -->)", re.S)
-QUOTE = re.compile(r"(<!-- from ([^>]*?) -->\n+```[a-z]*\n)((?:(?!```).*\n)*)(```)")
-CARRIER = re.compile(r"<!-- carried by (\S+): (\w+) -->")
+QUOTE = re.compile(r"<!-- from ([^>]*?) -->\n+```[a-z]*\n((?:(?!```).*\n)*)```")
 STATED = re.compile(r"\[`(\w+)`\]\(([^)#\s]+\.(antt|rt))\)")
 OTHERS = re.compile(r"<!-- names of others: ([^>]*?) -->")
 LINK = re.compile(r"\[[^\]]*\]\(([^)\s]+)\)")
@@ -73,7 +70,7 @@ def is_built(path):
 def unbuilt_blocks(page):
     """The lines of the blocks of Rust of a page that nothing builds. What is quoted stands in that file, as the quotes tell."""
     text = text_of(page)
-    quoted = {found.end(1): found[2] for found in QUOTE.finditer(text)}
+    quoted = {found.start(2): found[1] for found in QUOTE.finditer(text)}
     for found in BLOCK.finditer(text):
         kind = re.split(r"\W", found[1], maxsplit=1)[0]
         is_rust = kind in {"rust", "ignore", "no_run", "should_panic", "compile_fail"} or not kind and is_documentation(page)
@@ -84,12 +81,16 @@ def unbuilt_blocks(page):
 PATH = re.compile(r"`([\w./-]+/[\w.-]+\.(?:rt|antt|md|rs|tsv|py|txt))`")
 
 
+def others(text):
+    """The names that a page says are others'."""
+    return {it for listed in OTHERS.findall(text) for it in listed.split()}
+
+
 def bad_paths(page):
     """The files that a page names and that stand nowhere: beside the page, below the top, docs/, bench/, crates/ or a crate."""
     roots = [page.parent, TOP, TOP / "docs", TOP / "bench", tree.CRATES, *(it for it in tree.CRATES.iterdir() if it.is_dir())]
     text = text_of(page)
-    others = {it for listed in OTHERS.findall(text) for it in listed.split()}
-    return [it for it in PATH.findall(text) if it not in others and not any((root / it).exists() for root in roots)]
+    return [it for it in PATH.findall(text) if it not in others(text) and not any((root / it).exists() for root in roots)]
 
 
 IDENTIFIER = re.compile(r"`([A-Za-z_]\w*(?:(?:::|\.)[A-Za-z_]\w*)*)`")
@@ -97,12 +98,11 @@ IDENTIFIER = re.compile(r"`([A-Za-z_]\w*(?:(?:::|\.)[A-Za-z_]\w*)*)`")
 COMMIT = re.compile(r"(?=[a-f]*\d)[0-9a-f]{7,40}\Z")
 
 
-@functools.lru_cache(maxsize=None)
+@functools.cache
 def words_of_the_code():
     """Every word of the sources, their edits and the scripts."""
     endings = (".rt", tree.LOAD_ENDING, ".antt", ".edits", ".rs", ".toml", ".lock", ".py", "")
-    plain = [it for folder in tree.PLAIN for it in tree.files(folder, ".rs")]
-    plain += [it for crate in ("hontkhale", "hontkhale-tokio") for part in ("src", "tests") for it in tree.files(TOP / "rust" / crate / part, ".rs")]
+    plain = [it for crate in ("hontkhale", "hontkhale-tokio") for part in ("src", "tests") for it in tree.files(TOP / "rust" / crate / part, ".rs")]
     paths = [*tree.files(tree.CRATES, *endings), *tree.files(TOP / "bench", *endings), *plain, TOP / "crates.txt"]
     own = {word for it in paths for word in re.findall(r"\w+", text_of(it))}
     return own | {it.stem for it in paths} | {it.suffix[1:] for it in paths} | set(source.lines_of_crates())
@@ -110,10 +110,8 @@ def words_of_the_code():
 
 def unknown_names(text):
     """The names of the code that a page speaks of, and that no source has; nor does the page say that they are others'."""
-    others = {it for listed in OTHERS.findall(text) for it in listed.split()}
-    text = re.sub(r"(?ms)^```.*?^```", "", text)
-    parts = {it: re.split(r"::|\.", it) for it in IDENTIFIER.findall(text) if not COMMIT.match(it)}
-    return sorted(name for name, its in parts.items() if name not in others and not set(its) <= words_of_the_code())
+    found = {it for it in IDENTIFIER.findall(BLOCK.sub("", text)) if not COMMIT.match(it)} - others(text)
+    return sorted(it for it in found if not set(re.split(r"::|\.", it)) <= words_of_the_code())
 
 
 STRAY = re.compile(r"(?m)(?:\A|^(?!\|).*\n)(\|.*)\n(?!\|[-:| ]+\|$)")
@@ -121,11 +119,10 @@ STRAY = re.compile(r"(?m)(?:\A|^(?!\|).*\n)(\|.*)\n(?!\|[-:| ]+\|$)")
 
 def stray_rows(text):
     """The rows that stand in no table, since a table begins with its heads and a line of dashes."""
-    return [found[1] for found in STRAY.finditer(re.sub(r"(?ms)^```.*?^```$", "```", text))]
+    return [found[1] for found in STRAY.finditer(BLOCK.sub("```", text))]
 
 
 def word_count(text):
     """The words of a page beside its code, its tables and what a reader doesn't see."""
-    text = re.sub(r"(?ms)^```.*?^```", "", TABLE.sub("", text))
-    text = re.sub(r"<!--.*?-->", "", text, flags=re.S)
+    text = re.sub(r"<!--.*?-->", "", BLOCK.sub("", TABLE.sub("", text)), flags=re.S)
     return len(re.sub(r"(?m)^(?:\||    ).*$", "", text).split())

@@ -35,10 +35,9 @@ def noted(name):
 
 
 @functools.cache
-def run(figure=statistics.median):
-    """A number of each cell of the bench, its median or its best: by peer, row, entries and callers."""
-    return {(peer, name, entries, threads): figure([float(it) for it in samples.split()])
-            for peer, name, entries, threads, samples in rows_of("latest")[1:]}
+def run():
+    """The median of each cell of the bench: by peer, row, entries and callers."""
+    return {tuple(cell): statistics.median(map(float, samples.split())) for *cell, samples in rows_of("latest")[1:]}
 
 
 def ns(name, peer, entries="10000", threads="1"):
@@ -61,25 +60,16 @@ def speed():
     return grid(["", *peers.values()], rows)
 
 
-def named_speed(peers):
-    """Medians of calls by name: of one shard in one thread, and of four shards in four."""
+def named_speed(which):
+    """Medians of calls by name, of the peers of a table: of one shard in one thread, and of four shards in four."""
+    peers = PLAN[which]
     heads = [*peers.values()] * 2
     heads[0], heads[3] = f"1 shard, 1 thread: {heads[0]}", f"4 shards, 4 threads: {heads[3]}"
     names = {"insert-burst": "insert, 64 under one lock", "poll-burst": "poll, 64 under one lock"}
-    calls = ("insert", "extend", "reset", "remove", "poll", *names)
     cells = list(itertools.product(("1", "4"), peers))
-    rows = ([names.get(it, it), *(ns_text(ns(f"{it}/{many}", peer, threads=many)) for many, peer in cells)] for it in calls)
+    rows = ([names.get(it, it), *(ns_text(ns(f"{it}/{many}", peer, threads=many)) for many, peer in cells)]
+            for it in ("insert", "extend", "reset", "remove", "poll", *names))
     return grid(["", *heads], rows)
-
-
-def shared_speed():
-    """The bench's table of the shared queue."""
-    return named_speed(PLAN["shared_peers"])
-
-
-def product_speed():
-    """The same of what a server uses, beside shards behind locks."""
-    return named_speed(PLAN["product_peers"])
 
 
 def product_goals():
@@ -142,56 +132,47 @@ def beside_delay_queue():
     return grid(["", *calls.values()], rows)
 
 
-# Rows in which a peer pays for all that its calls leave behind.
-WHOLE = ("cancel", "poll", *LIVES)
-
-
-def is_life(name):
-    """Whether a row is of whole lives over shards."""
-    kind, _, shards = name.removeprefix("own-").partition("/")
-    return bool(shards) and kind in LIVES
-
-
-def cells_of(peer, kind, call=""):
-    """The cells of a peer over shards, of calls or of whole lives: those of one call, or of all."""
-    its = {"calls": lambda name: "/" in name and not is_life(name) and name.startswith(call),
-           "lives": lambda name: is_life(name) and name.removeprefix("own-").startswith(call)}[kind]
-    return [cell for cell in run() if cell[0] == peer and its(cell[1])]
-
-
-def lost(ours, cells):
-    """In how many cells a peer is faster than ours."""
-    return sum(run()[cell] < run()[(ours, *cell[1:])] for cell in cells)
+def is_faster(cell, ours):
+    """Whether a peer's cell takes less than that of ours."""
+    return run()[cell] < run()[(ours, *cell[1:])]
 
 
 def standing():
     """Where each peer stands in the rows that charge it for all that its calls leave behind."""
-    peers = PLAN["standing_peers"]
     rows = []
-    for peer, words in peers.items():
-        its = list(itertools.product([peer], WHOLE, SIZES, ["1"]))
+    for peer, words in PLAN["standing_peers"].items():
+        its = list(itertools.product([peer], ("cancel", "poll", *LIVES), SIZES, ["1"]))
         ratios = {cell: run()[cell] / run()[("ours-owned", *cell[1:])] for cell in its}
         ends = (f"`{at[1]}` at {int(at[2]):,}: {ratios[at]:.2f}x" for at in (min(ratios, key=ratios.get), max(ratios, key=ratios.get)))
-        rows.append([words, lost("ours-owned", its), lost("ours", its), *ends])
+        rows.append([words, *(sum(is_faster(it, ours) for it in its) for ours in ("ours-owned", "ours")), *ends])
     return grid(["Peer", "Ahead of one owner's", "Ahead of shared words", "Its best row", "Its worst row"], rows)
 
 
-def ahead(ours, kind, calls):
-    """In how many rows of shards each peer in a `Mutex` is ahead, by calls or by whole lives."""
-    peers = [it for it in PLAN["locked"] if cells_of(it, kind)]
-    counts = {words: {len(cells_of(peer, kind, it)) for peer in peers} for words, it in calls.items()}
+def ahead(ours, calls):
+    """In how many rows of shards each peer in a `Mutex` is ahead: those of each kind, by how the names of its rows begin."""
+    def counted(cell, begins):
+        """Whether a cell is of that kind; whole lives have a kind for each of theirs, and one for all of them."""
+        kind, _, shards = cell[1].removeprefix("own-").partition("/")
+        name = cell[1].removeprefix("own-") if calls is None else cell[1]
+        return shards and (kind in LIVES) == (calls is None) and name.startswith(begins)
+
+    kinds = calls or {"all": "", **{f"`{it}`": f"{it}/" for it in LIVES}}
+    its = {(peer, words): [it for it in run() if it[0] == peer and counted(it, begins)]
+           for peer in PLAN["locked"] for words, begins in kinds.items()}
+    peers = [it for it in PLAN["locked"] if its[it, "all"]]
+    counts = {words: {len(its[peer, words]) for peer in peers} for words in kinds}
     if any(len(it) != 1 for it in counts.values()):
         raise LookupError("the peers have not as many rows as one another")
-    return grid(["In a `Mutex`", *(f"{words}: of {min(its)}" for words, its in counts.items())],
-                ([PLAN["locked"][peer], *(lost(ours, cells_of(peer, kind, it)) for it in calls.values())] for peer in peers))
+    return grid(["In a `Mutex`", *(f"{words}: of {min(it)}" for words, it in counts.items())],
+                ([PLAN["locked"][peer], *(sum(is_faster(it, ours) for it in its[peer, words]) for words in kinds)] for peer in peers))
 
 
 def shard_standing():
-    return ahead("ours-shards", "calls", PLAN["shard_calls"])
+    return ahead("ours-shards", PLAN["shard_calls"])
 
 
 def life_standing():
-    return ahead("rust-shards", "lives", {"all": "", **{f"`{it}`": f"{it}/" for it in LIVES}})
+    return ahead("rust-shards", None)
 
 
 def longest_of(name, peer, entries):

@@ -23,7 +23,7 @@ TEST = re.compile(r"#\[test\]\s*(?:(?:#\[.*\]|//.*)\s*)*(?:pub )?fn (\w+)")
 # A row of the table of crates in docs/ARCHITECTURE.md.
 ROW = re.compile(r"^\| `(\w+)` \|[^|\n]*\|$", re.M)
 # a definition in a module with parameters is indented
-DEFINITION = re.compile(r"^( *)(?:pub (?:record|data) |(?:abbrev|unfoldable) pub )(\S+)", re.M)
+DEFINITION = re.compile(r"^( *)(?:pub (?:record|data) |(?:abbrev|unfoldable) pub )([^\s:]+)", re.M)
 
 
 def text_of(path):
@@ -130,11 +130,11 @@ def wrong_uses():
         words = crate.words()
         for part in {**ours, **load}[crate.name]:
             if part not in words:
-                yield "crates.txt", f"{crate.name} lists {part}, which none of its sources names"
+                yield TOP / "crates.txt", f"{crate.name} lists {part}, which none of its sources names"
     page = text_of(TOP / "docs" / "ARCHITECTURE.md").partition("## The crates")[2].partition("\n## ")[0]
     for crate in sorted(set(ours) ^ set(ROW.findall(page))):
-        yield "docs/ARCHITECTURE.md", f"its table and crates.txt don't both have `{crate}`"
+        yield TOP / "docs" / "ARCHITECTURE.md", f"its table and crates.txt don't both have `{crate}`"
     for block in re.findall(r"^```text\n(dq_ticks:.*?)^```", text_of(TOP / "docs" / "PARTS.md"), re.M | re.S):
         for crate, parts in listed(block).items():
             if crate in ours and parts != ours[crate]:
-                yield "docs/PARTS.md", f"its crates.txt has `{crate}:{' '.join(['', *parts])}`, and ours `{' '.join(ours[crate])}`"
+                yield TOP / "docs" / "PARTS.md", f"its crates.txt has `{crate}:{' '.join(['', *parts])}`, and ours `{' '.join(ours[crate])}`"
