@@ -24,22 +24,20 @@ TOP = pathlib.Path(__file__).resolve().parent.parent
 LEN, WRONG_LEN = "self.handles.len()\n", "let most = self.most; most\n"
 BY_NO_GOAL = "REFUSED BY NO GOAL OF THE RIGHT BODY"
 REFUSED_TOO = "test-edits: small: a right body is refused too, as idle::Idle::len_right1: nothing is known of its edits"
-
-
-def script(path, says, status):
-    """A script in the place of a part, which says something and ends with a status."""
-    path.parent.mkdir(parents=True, exist_ok=True)
-    path.write_text(f"#!/usr/bin/env python3\nimport sys\nprint('{says}')\nsys.exit({status})\n", encoding="utf-8")
-    path.chmod(0o755)
+SAID = {"stdout": subprocess.PIPE, "stderr": subprocess.STDOUT, "encoding": "utf-8", "check": False}
+# What a part says in whose place a script stands; what is asked of test-edits is what it says in the cases of the draw.
+SCRIPT = "#!/usr/bin/env python3\nimport sys\nprint('{}')\nsys.exit({})\n"
+ASKED = "import sys\nprint('asked:', *(it for it in sys.argv[1:] if '/' in it))\nprint('1 passed, 0 failed')\n"
 
 
 def lay_out_gate(folder, parts):
-    """The gate over parts that say these."""
-    parts = {"docs/check": ("", 0), "c/generate": ("", 0), **parts}
-    for name in ("docs/check", "c/generate", "tools/test-edits", "rust/test"):
-        script(folder / name, *parts[name])
-    for name in ("rt", "cargo"):
-        script(folder / "bin" / name, *parts.get(name, ("", 0)))
+    """The gate over parts that say these, and end with a status."""
+    parts = {**dict.fromkeys(("docs/check", "c/generate", "rt"), ("", 0)), **parts}
+    for name, how in parts.items():
+        path = folder / ("bin/rt" if name == "rt" else name)
+        path.parent.mkdir(parents=True, exist_ok=True)
+        path.write_text(SCRIPT.format(*how), encoding="utf-8")
+        path.chmod(0o755)
     (folder / ".ci").mkdir()
     shutil.copy(TOP / ".ci" / "gate.py", folder / ".ci")
 
@@ -49,48 +47,34 @@ def run_gate(folder, *words):
     return subprocess.run(["python3", ".ci/gate.py", *words], cwd=folder, env={**os.environ, "PATH": path}, **SAID)
 
 
-def gate(folder, parts, last, status, line):
-    """What went wrong where the parts say these."""
-    lay_out_gate(folder, parts)
-    ran = run_gate(folder)
-    said = ran.stdout.splitlines()
-    wrong = [f"the last line is {said[-1]}"] * (said[-1] != last)
-    wrong += [f"the status is {ran.returncode}"] * (ran.returncode != status)
-    return wrong + [f"no line is {line}"] * (line not in said)
-
-
-SAID = {"stdout": subprocess.PIPE, "stderr": subprocess.STDOUT, "encoding": "utf-8", "check": False}
-
-
-def try_gates():
-    """How many cases of the gate went wrong."""
-    known, failed = tomllib.loads((TOP / ".ci" / "planted" / "gates.toml").read_text(encoding="utf-8")), 0
+def gates():
+    """The cases of the gate, each with what went wrong."""
+    known = tomllib.loads((TOP / ".ci" / "planted" / "gates.toml").read_text(encoding="utf-8"))
     for case in known["case"]:
         parts = case.get("parts", {})
         with tempfile.TemporaryDirectory(prefix="planted-") as folder:
-            wrong = gate(pathlib.Path(folder), {**known["well"], **parts}, case["last"], case["status"], case["line"])
-        failed += bool(wrong)
-        what = ", ".join(f"{name} says `{says}` and ends with {status}" for name, (says, status) in parts.items())
-        print(f"gate: {what or 'all is well'}: {'; '.join(wrong) or 'as it has to be'}", flush=True)
-    return failed
+            lay_out_gate(pathlib.Path(folder), {**known["well"], **parts})
+            ran = run_gate(pathlib.Path(folder))
+        said = ran.stdout.splitlines()
+        wrong = [f"the last line is {said[-1]}"] * (said[-1] != case["last"])
+        wrong += [f"the status is {ran.returncode}"] * (ran.returncode != case["status"])
+        wrong += [f"no line is {case['line']}"] * (case["line"] not in said)
+        yield ", ".join(f"{name} says `{says}` and ends with {status}" for name, (says, status) in parts.items()) or "all is well", wrong
 
 
 class Repository:
     """A repository of two crates that have nothing but wrong bodies, and the gate over parts that say nothing."""
 
-    def __init__(self, folder, parts):
-        self.folder = folder
-        lay_out_gate(folder, parts)
-        # what is asked of test-edits is what it says
-        (folder / "tools" / "test-edits").write_text(
-            "import sys\nprint('asked:', *(it for it in sys.argv[1:] if '/' in it))\nprint('1 passed, 0 failed')\n", encoding="utf-8")
+    def __init__(self, folder):
+        self.folder, self.stored = folder, folder / "bench" / "results" / "gate.tsv"
+        lay_out_gate(folder, dict.fromkeys(("rt", "tools/test-edits", "rust/test"), ("1 passed, 0 failed", 0)))
+        (folder / "tools" / "test-edits").write_text(ASKED, encoding="utf-8")
         self.edits = {crate: [f"{crate}/wrong_{number}" for number in range(8)] for crate in ("one", "two")}
         for crate, its in self.edits.items():
             path = folder / "crates" / crate / "edits" / "lib.edits"
             path.parent.mkdir(parents=True)
             path.write_text("".join(f"edit: {it.partition('/')[2]}\npromise: {crate}.row\n\n" for it in its), encoding="utf-8")
-        (folder / "bench" / "results").mkdir(parents=True)
-        self.stored = folder / "bench" / "results" / "gate.tsv"
+        self.stored.parent.mkdir(parents=True)
         self.git("init", "-q")
         self.commit()
 
@@ -144,22 +128,12 @@ def draws(its):
     yield "all, where what tries them changed", its.asked() == []
     its.commit()
     before = its.stored.read_text(encoding="utf-8")
-    script(its.folder / "rust" / "test", "1 passed, 1 failed", 1)
+    (its.folder / "rust" / "test").write_text(SCRIPT.format("1 passed, 1 failed", 1), encoding="utf-8")
     its.asked("--all", "--store")
     yield "nothing is stored of a run that failed", its.stored.read_text(encoding="utf-8") == before
     its.asked("--all", "--store")
     its.stored.write_text(re.sub(r"\b[0-9a-f]{40}\b", "0" * 40, before), encoding="utf-8")
     yield "all, where the clone hasn't the commit of the whole run", its.asked() == []
-
-
-def try_draws():
-    """How many cases of the draw went wrong."""
-    known, failed = tomllib.loads((TOP / ".ci" / "planted" / "gates.toml").read_text(encoding="utf-8")), 0
-    with tempfile.TemporaryDirectory(prefix="planted-") as folder:
-        for what, is_right in draws(Repository(pathlib.Path(folder), known["well"])):
-            failed += not is_right
-            print(f"draw: {what}: {'as it has to be' if is_right else 'WRONG'}", flush=True)
-    return failed
 
 
 def lay_out(folder):
@@ -181,7 +155,7 @@ def told_of(folder):
     return dict(re.findall(r"^edit: (\w+)\n(?:told: (.*))?", texts, re.M))
 
 
-def edits(folder, words, told, line="test-edits: "):
+def tried(folder, words, told, line="test-edits: "):
     """What went wrong where test-edits tries these: of each edit what it has to tell, a line that it has, the counts."""
     ran = subprocess.run(["python3", "tools/test-edits", *words], cwd=folder, **SAID)
     lost = {it: how for it, how in told.items() if how}
@@ -194,38 +168,41 @@ def edits(folder, words, told, line="test-edits: "):
     return wrong + ([f"it said:\n{ran.stdout}"] if wrong else [])
 
 
-def try_edits():
-    """How many cases of the edits went wrong."""
+def draw():
+    """The cases of the draw, each with what went wrong."""
+    with tempfile.TemporaryDirectory(prefix="planted-") as folder:
+        yield from ((what, [] if is_right else ["WRONG"]) for what, is_right in draws(Repository(pathlib.Path(folder))))
+
+
+def edits():
+    """The cases of the edits, each with what went wrong."""
     with tempfile.TemporaryDirectory(prefix="planted-") as room:
         small = lay_out(pathlib.Path(room))
         told, later = told_of(small / "edits"), told_of(small / "later")
         one, half, beside = "put_hands_back_with_room", "len_of_half", "put_beside_a_wrong_len"
-        cases = [("with those planted", ["-j", "2"], told), ("one by its name", [f"small/{one}"], {one: ""}),
-                 ("with those planted, as in the gate", ["--built", "-j", "2"], told),
-                 ("by goals of the right bodies", ["--goals", "-j", "2"], {**told, "put_is_full_one_early": BY_NO_GOAL})]
-        failed = sum(try_case(room, *case) for case in cases)
+        yield "with those planted", tried(room, ["-j", "2"], told)
+        yield "one by its name", tried(room, [f"small/{one}"], {one: ""})
+        yield "with those planted, as in the gate", tried(room, ["--built", "-j", "2"], told)
+        yield "by goals of the right bodies", tried(room, ["--goals", "-j", "2"], {**told, "put_is_full_one_early": BY_NO_GOAL})
         # a body that isn't proved, as the crate stands, an edit of it, and one of another function beside it
         source = small / "src" / "idle.rt"
         source.write_text(source.read_text(encoding="utf-8").replace(LEN, WRONG_LEN), encoding="utf-8")
         shutil.copytree(small / "later", small / "edits", dirs_exist_ok=True)
-        cases = [("of a function that isn't proved as it stands", ["--built", f"small/{half}"], {half: later[half]}, REFUSED_TOO),
-                 ("beside a function that isn't proved", ["--built", f"small/{beside}"], {beside: later[beside]})]
-        return failed + sum(try_case(room, *case) for case in cases)
-
-
-def try_case(folder, what, *its):
-    wrong = edits(folder, *its)
-    print(f"edits: {what}: {'; '.join(wrong) or 'as it has to be'}", flush=True)
-    return bool(wrong)
+        its = tried(room, ["--built", f"small/{half}"], {half: later[half]}, REFUSED_TOO)
+        yield "of a function that isn't proved as it stands", its
+        yield "beside a function that isn't proved", tried(room, ["--built", f"small/{beside}"], {beside: later[beside]})
 
 
 def main():
-    tries = {"gate": try_gates, "draw": try_draws, "edits": try_edits}
+    tries, failed = {"gate": gates, "draw": draw, "edits": edits}, 0
     asked = sys.argv[1:] or [*tries]
     if not set(asked) <= set(tries):
         print(__doc__, end="")
         return 2
-    failed = sum(tries[it]() for it in asked)
+    for it in asked:
+        for what, wrong in tries[it]():
+            failed += bool(wrong)
+            print(f"{it}: {what}: {'; '.join(wrong) or 'as it has to be'}", flush=True)
     print(f"planted: {failed} cases went wrong")
     return bool(failed)
 
