@@ -4,44 +4,36 @@ import re
 from patterns import TABLES, made
 from rattle import Refused, angle_close_of, clause, close_of, functions, homes
 
-WAYS = {"inside", "checked", "user code"}
 MODULES = dict(TABLES["modules"])
+# A name of the list, how it is closed, and the lines below it, which check it.
+ENTRY = re.compile(r"^([\w:]+): (inside|user code|checked(?=\n    ))\n((?:    .*\n)*)", re.M)
 
 
 class Closed:
     """The list: for each name how it is closed, and the lines that check it; and what the crate gives away."""
 
     def __init__(self, text, parts):
-        self.ways, self.checks, self.given, self.found = {}, {}, given(parts), set()
+        text = re.sub(r"(?m)^#.*\n", "", text)
+        self.ways = {name: (way, checks) for name, way, checks in ENTRY.findall(text)}
+        strange = ENTRY.sub("", text).strip()
+        if strange or len(self.ways) < len(ENTRY.findall(text)):
+            raise Refused(f"rust/closed: `{strange or 'a name that stands twice'}` says nothing")
+        self.given, self.found = given(parts), set()
         self.exported = {name for name, (module, _) in self.given.items() if module in MODULES.values()}
-        name = None
-        for number, line in enumerate(text.splitlines(), 1):
-            if line.startswith("    ") and name:
-                self.checks[name].append(line.strip())
-            elif line.strip() and not line.startswith("#"):
-                name, _, way = line.partition(": ")
-                if way not in WAYS or name in self.ways:
-                    raise Refused(f"rust/closed: line {number}: `{line}` says nothing")
-                self.ways[name], self.checks[name] = way, []
 
     def close(self, source):
         """Looks at each function of a file that has a `requires`, and puts the checks in."""
         for owner, name, line, body in reversed(requirements(source.tokens)):
-            full = f"{owner}::{name}" if owner else name
-            head = owner or name
-            if head in self.ways and self.ways[head] == "inside":
-                if head in self.exported:
-                    raise Refused(f"`{head}` is told to be inside by rust/closed, and is given away by src/parts.rs")
-                self.found.add(head)
-            elif full in self.ways:
-                self.found.add(full)
-                if self.ways[full] == "checked":
-                    if not self.checks[full]:
-                        raise Refused(f"rust/closed: nothing checks `{full}`")
-                    new = made("\n".join(self.checks[full]), source.tokens[body + 1], "\n        ")
-                    source.tokens[body + 1:body + 1] = new
-            elif head in self.exported:
+            head, full = owner or name, f"{owner}::{name}" if owner else name
+            is_inside = self.ways.get(head, "")[:1] == ("inside",)
+            way, checks = self.ways.get(head if is_inside else full, ("", ""))
+            if is_inside and head in self.exported:
+                raise Refused(f"`{head}` is told to be inside by rust/closed, and is given away by src/parts.rs")
+            if not way and head in self.exported:
                 raise Refused(f"line {line}: `{full}` has a `requires`, is reached, and isn't in rust/closed")
+            if way == "checked":
+                source.tokens[body + 1:body + 1] = made(re.sub("\n *", "\n        ", checks.strip()), source.tokens[body + 1], "\n        ")
+            self.found.add(head if is_inside else full)
 
     def all_found(self):
         for name in self.ways.keys() - self.found:
