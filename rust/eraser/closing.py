@@ -21,9 +21,9 @@ class Closed:
         self.given, self.found = given(parts), set()
         self.exported = {name for name, (module, _) in self.given.items() if module in MODULES.values()}
 
-    def close(self, source):
+    def close(self, tokens):
         """Looks at each function of a file that has a `requires`, and puts the checks in."""
-        for owner, name, line, body in reversed(requirements(source.tokens)):
+        for owner, name, line, body in reversed(requirements(tokens)):
             head, full = owner or name, f"{owner}::{name}" if owner else name
             is_inside = self.ways.get(head, "")[:1] == ("inside",)
             way, checks = self.ways.get(head if is_inside else full, ("", ""))
@@ -32,7 +32,7 @@ class Closed:
             if not way and head in self.exported:
                 raise Refused(f"line {line}: `{full}` has a `requires`, is reached, and isn't in rust/closed")
             if way == "checked":
-                source.tokens[body + 1:body + 1] = made(re.sub("\n *", "\n        ", checks.strip()), source.tokens[body + 1], "\n        ")
+                tokens[body + 1:body + 1] = made(re.sub("\n *", "\n        ", checks.strip()), tokens[body + 1], "\n        ")
             self.found.add(head if is_inside else full)
 
     def all_found(self):

@@ -21,26 +21,17 @@ class Source:
     """A file of a crate on its way."""
 
     def __init__(self, crate, path, text):
-        self.crate = crate
-        self.path = path
-        self.inner = path.relative_to(TOP / "crates" / crate / "src")
-        self.text = text
-        self.tokens = tokens_of(text)
+        self.crate, self.path, self.tokens = crate, path, tokens_of(text)
+        parts = path.relative_to(TOP / "crates" / crate / "src").with_suffix("").parts
+        self.module = () if parts == ("lib",) else parts
+        self.out = Path(MODULES[crate], *self.module).with_suffix(".rs")
 
-    def module_path(self):
-        parts = self.inner.with_suffix("").parts
-        return () if parts == ("lib",) else parts
-
-    def out(self):
-        return Path(MODULES[self.crate], *self.module_path()).with_suffix(".rs")
-
-
-def guarded(source, rule, *arguments):
-    """A rule's answer on a file; what it refuses is told with the file."""
-    try:
-        return rule(*arguments)
-    except Refused as refused:
-        raise Refused(f"{source.path.relative_to(TOP)}: {refused}") from None
+    def by(self, rule, *arguments):
+        """A rule's answer on its tokens; what the rule refuses is told with the file."""
+        try:
+            return rule(self.tokens, *arguments)
+        except Refused as refused:
+            raise Refused(f"{self.path.relative_to(TOP)}: {refused}") from None
 
 
 def sources(hand):
@@ -51,23 +42,21 @@ def sources(hand):
     return found
 
 
-def erase_modules(source, gone):
+def erase_modules(tokens, source, gone):
     """Takes out the `mod` of each module that is empty now."""
-    tokens = source.tokens
     for at in reversed(range(len(tokens) - 2)):
-        if tokens[at].text == "mod" and (source.crate, source.module_path() + (tokens[at + 1].text,)) in gone:
+        if tokens[at].text == "mod" and (source.crate, (*source.module, tokens[at + 1].text)) in gone:
             del tokens[item_start(tokens, at):at + 3]
 
 
-def rebuilt_uses(source, gone, names):
+def rebuilt_uses(tokens, source, gone, names):
     """The uses of a file over the modules of the crate: what is gone or isn't named any more is left out."""
-    tokens = source.tokens
     module = MODULES[source.crate]
     spans = paths.uses_of(tokens)
     words, wanted = paths.named(tokens, spans), []
     for start, end, vis, found in reversed(spans):
         found = [it for it in found if paths.last(it) not in names and not is_gone(source, it, gone)]
-        kept = list(filter(None, (guarded(source, paths.moved, it, module, MODULES) for it in found)))
+        kept = list(filter(None, (paths.moved(it, module, MODULES) for it in found)))
         if not vis:
             wanted += [it for it in kept if paths.last(it) in words or paths.last(it) in TRAITS]
         replace_use(tokens, start, end, vis, kept if vis else [])
@@ -99,7 +88,7 @@ def is_gone(source, path, gone):
         crate = source.crate
     elif head in MODULES:
         crate = head
-    elif source.module_path() == ():
+    elif source.module == ():
         crate, parts = source.crate, tuple(path.split("::"))
     else:
         return False
@@ -141,33 +130,29 @@ def guard_names(tokens):
             yield name
 
 
-def changed(source, rule, *arguments):
-    source.tokens = guarded(source, rule, source.tokens, *arguments)
-
-
 def erased(hand, closed):
     """The erased text of each file, by its path in the crate."""
     found, fields = sources(hand), {}
     for source in found:
-        changed(source, ghosts.erased, (ghosts.ghost, ghosts.model, ghosts.tactic))
+        source.tokens = source.by(ghosts.erased, (ghosts.ghost, ghosts.model, ghosts.tactic))
     names = laws.law_names([source.tokens for source in found])
     for source in found:
-        changed(source, laws.without_laws, names)
-        fields.setdefault(source.crate, set()).update(guarded(source, handed.without_fields, source.tokens))
-        guarded(source, closed.close, source)
+        source.tokens = source.by(laws.without_laws, names)
+        fields.setdefault(source.crate, set()).update(source.by(handed.without_fields))
+        source.by(closed.close)
         GUARDS.update(guard_names(source.tokens))
     closed.all_found()
     for source in found:
-        changed(source, ghosts.erased)
-        guarded(source, kit.early, source.tokens)
-        changed(source, handed.without_handed, fields[source.crate])
-        guarded(source, kit.by_std, source.tokens)
-        guarded(source, errors.with_errors, source.tokens)
+        source.tokens = source.by(ghosts.erased)
+        source.by(kit.early)
+        source.tokens = source.by(handed.without_handed, fields[source.crate])
+        source.by(kit.by_std)
+        source.by(errors.with_errors)
         if source.crate != "dq_replay":
-            guarded(source, indexes.with_indexes, source.tokens)
-    gone = {(source.crate, source.module_path()) for source in found if not laws.has_items(source.tokens)}
+            source.by(indexes.with_indexes)
+    gone = {(source.crate, source.module) for source in found if not laws.has_items(source.tokens)}
     for source in found:
-        guarded(source, erase_modules, source, gone)
-        rebuilt_uses(source, gone, names)
-        guarded(source, paths.with_links, source.tokens, MODULES[source.crate], closed.given)
-    return {it.out(): text_of(it.tokens) for it in found if (it.crate, it.module_path()) not in gone}
+        source.by(erase_modules, source, gone)
+        source.by(rebuilt_uses, source, gone, names)
+        source.by(paths.with_links, MODULES[source.crate], closed.given)
+    return {it.out: text_of(it.tokens) for it in found if (it.crate, it.module) not in gone}
