@@ -1,4 +1,5 @@
 """The product crates, erased file by file."""
+import itertools
 from pathlib import Path
 
 import errors
@@ -60,21 +61,8 @@ def rebuilt_uses(tokens, source, gone, names):
         if not vis:
             wanted += [it for it in kept if paths.last(it) in words or paths.last(it) in TRAITS]
         replace_use(tokens, start, end, vis, kept if vis else [])
-    defined = defined_names(tokens)
-    wanted += [path for word, path in paths.PROVIDED.items() if word in words and word not in defined]
+    wanted += [path for word, path in paths.PROVIDED.items() if word in words - paths.defined(tokens)]
     put_uses(tokens, wanted)
-
-
-def defined_names(tokens):
-    """The names that a file defines at its top."""
-    found = set()
-    depth = 0
-    for token, behind in zip(tokens, tokens[1:]):
-        if token.kind == "other":
-            depth += (token.text == "{") - (token.text == "}")
-        if depth == 0 and token.kind == "word" and token.text in paths.DEFINES:
-            found.add(behind.text)
-    return found
 
 
 TRAITS = {"Read", "Write", "Deref", "DerefMut", "Hash", "TickSource", "Shard", "Until"}
@@ -82,26 +70,19 @@ TRAITS = {"Read", "Write", "Deref", "DerefMut", "Hash", "TickSource", "Shard", "
 
 def is_gone(source, path, gone):
     """Whether a path names an empty module or leads through one."""
-    head, _, rest = path.partition("::")
-    parts = tuple(rest.split("::"))
-    if head == "crate":
-        crate = source.crate
-    elif head in MODULES:
-        crate = head
-    elif source.module == ():
-        crate, parts = source.crate, tuple(path.split("::"))
-    else:
+    crate, parts = source.crate, path.split("::")
+    if parts[0] in ("crate", *MODULES):
+        crate, parts = crate if parts[0] == "crate" else parts[0], parts[1:]
+    elif source.module:
         return False
-    return any((crate, parts[:count]) in gone for count in range(1, len(parts) + 1))
+    return any((crate, tuple(parts[:count])) in gone for count in range(1, len(parts) + 1))
 
 
 def grouped(found):
     """The lines of uses, one for each parent."""
-    groups = {}
-    for path in sorted(set(found)):
-        parent, _, name = path.rpartition("::")
-        groups.setdefault(parent, []).append(name)
-    for parent, names in sorted(groups.items()):
+    pairs = sorted({path.rpartition("::")[::2] for path in found})
+    for parent, its in itertools.groupby(pairs, key=lambda pair: pair[0]):
+        names = [name for _, name in its]
         yield f"use {parent}::{names[0]};" if len(names) == 1 else f"use {parent}::{{{', '.join(names)}}};"
 
 

@@ -75,13 +75,15 @@ def last(path):
     return path.rsplit("::", 1)[-1]
 
 
+def defined(tokens):
+    """The names that a file defines."""
+    return {behind.text for token, behind in zip(tokens, tokens[1:]) if token.kind == "word" and token.text in DEFINES}
+
+
 def known_names(tokens, module, given):
     """The names that a file imports or defines and that its docs may link to as they are."""
     names = {last(path) for *_, found in uses_of(tokens) for path in found}
-    for token, behind in zip(tokens, tokens[1:]):
-        if token.kind == "word" and token.text in DEFINES and given.get(behind.text, [None])[0] == module:
-            names.add(behind.text)
-    return names
+    return names | {it for it in defined(tokens) if given.get(it, [None])[0] == module}
 
 
 def with_links(tokens, module, given):
