@@ -1,4 +1,4 @@
-//! The same server without timeouts, for `./measure`: what the others take beyond it is what their timeouts take.
+//! The same server without timeouts, for `count --servers`: what the others take beyond it is what their timeouts take.
 
 use std::io;
 use tokio::io::{AsyncReadExt, AsyncWriteExt};
