@@ -6,16 +6,17 @@ import errors
 import ghosts
 import handed
 import indexes
-import kit
 import laws
 import paths
-from patterns import GUARDS, TABLES, made
+from patterns import GUARDS, TABLES, made, rewritten
 from rattle import Refused, close_of, functions, item_start, text_of, tokens_of
 
 TOP = Path(__file__).resolve().parent.parent.parent
 OUT = TOP / "rust" / "hontkhale" / "src"
 
 MODULES = dict(TABLES["modules"])
+# What is said where a waker is forgotten, which in std is dropped.
+WAKES = "// A waker that is dropped wakes.\n"
 
 
 class Source:
@@ -125,9 +126,13 @@ def erased(hand, closed):
     closed.all_found()
     for source in found:
         source.tokens = source.by(ghosts.erased)
-        source.by(kit.early)
+        for token in source.tokens:
+            token.before = token.before.replace(WAKES, "")
+        source.by(rewritten, "early")
         source.tokens = source.by(handed.without_handed, fields[source.crate])
-        source.by(kit.by_std)
+        source.by(rewritten, "std")
+        source.by(rewritten, "last")
+        source.by(handed.unused)
         source.by(errors.with_errors)
         if source.crate != "dq_replay":
             source.by(indexes.with_indexes)

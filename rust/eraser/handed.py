@@ -1,7 +1,9 @@
-"""Rules for what each call is handed and std needs not: the runtime, the allocator, the name of a source of wakes."""
+"""Rules for what each call is handed and std needs not: the runtime, the allocator, the name of a source of wakes; and what only
+clauses name."""
 import re
 
 from lists import elements, joined, next_of, type_lists
+from patterns import formatted
 from rattle import Refused, close_of, functions
 
 # Bounds that say no more than that a type is a runtime or an allocator.
@@ -145,3 +147,20 @@ def without_handed(tokens, fields_of_crate):
         if end is not None:
             without_values(tokens, tokens.index(start, at) + 1, end, names, fields_of_crate)
     return without_types(tokens, types)
+
+
+def unused(tokens):
+    """A parameter that only clauses name is marked as one that the body doesn't use."""
+    for _, _, _, head, body in reversed(functions(tokens)):
+        if tokens[body].text != "{":
+            continue
+        inside = tokens[body:close_of(tokens, body)]
+        words = {token.text for token in inside}
+        for token in inside:
+            if token.kind == "string":
+                words |= formatted(token.text)
+        for at in range(head + 1, close_of(tokens, head)):
+            name = tokens[at]
+            if name.kind == "word" and tokens[at + 1].text == ":" and tokens[at - 1].text in ("(", ","):
+                if name.text not in words and not name.text.startswith("_"):
+                    name.text = "_" + name.text

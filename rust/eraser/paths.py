@@ -1,9 +1,8 @@
 """Paths: a crate becomes a module, and what is imported is what is named; and where the links of docs lead."""
 import re
 
-from kit import formatted
 from lists import elements, next_of
-from patterns import TABLES
+from patterns import TABLES, formatted
 from rattle import Refused
 
 IMPORTS, PROVIDED = (dict(TABLES[it]) for it in ("imports", "provided"))

@@ -49,6 +49,11 @@ def matched(tokens, at, parts):
     return found, at
 
 
+def formatted(text):
+    """The names that the text of a format has."""
+    return {part.split("}")[0].split(":")[0] for part in text.split("{")[1:]}
+
+
 # The functions whose answer is the guard of a lock, which the sources add: a rule says `guards` for all of them.
 GUARDS = {"lock", "try_lock"}
 
