@@ -1,4 +1,4 @@
-"""The marks of a page, and its links.
+"""The marks of a page, its links, and the statements that it names or quotes, each of which is looked for in its file.
 
 A mark is a comment that a reader of the page does not see:
 
@@ -126,3 +126,51 @@ def word_count(text):
     """The words of a page beside its code, its tables and what a reader doesn't see."""
     text = re.sub(r"<!--.*?-->", "", BLOCK.sub("", TABLE.sub("", text)), flags=re.S)
     return len(re.sub(r"(?m)^(?:\||    ).*$", "", text).split())
+
+
+NAME = re.compile(r"[A-Za-z_][A-Za-z0-9_]*")
+
+
+def parts(path):
+    """What a file of specs/ defines: each name, and its definition up to a blank line."""
+    for part in re.split(r"\n\s*\n", text_of(TOP / path)):
+        if head := tree.DEFINITION.search(part):
+            yield head[2], part[head.start():]
+
+
+def is_defined(path, name):
+    """Whether a file of specs/ defines a name."""
+    return (TOP / path).is_file() and name in dict(parts(path))
+
+
+def contract(path, name):
+    """The head and the clauses of a function of a file, the first of its name, without its body."""
+    for it in tree.file_of(TOP / path).functions:
+        if it.name.rpartition("::")[2] == name:
+            return text_of(TOP / path)[it.begin:it.body]
+    raise LookupError(f"{path} has no function {name}")
+
+
+def stands_in(path, quote):
+    """Whether the lines of a quote stand in a file, one after the other, at any depth."""
+    lines = lambda text: "\n".join(it.strip() for it in ["", *text.strip("\n").splitlines(), ""])
+    return lines(quote) in lines(text_of(TOP / path))
+
+
+@functools.cache
+def all_definitions():
+    """The words that each name of specs/ is defined by, over all crates."""
+    known = {}
+    for path in (it for it in tree.files(tree.CRATES, ".antt") if "specs" in it.parts):
+        for name, part in parts(path):
+            known.setdefault(name, set()).update(NAME.findall(re.sub(r"(?m)^\s*--.*$", "", part)))
+    return known
+
+
+def carries(path, function_name, statement):
+    """Whether a function's contract cites a statement, itself or by the definitions that it cites."""
+    todo, seen = set(NAME.findall(contract(path, function_name))), set()
+    while todo:
+        seen |= todo
+        todo = {it for name in todo for it in all_definitions().get(name, ())} - seen
+    return statement in seen
