@@ -39,7 +39,7 @@ class Source:
 def sources(hand):
     found = [(crate, path) for crate in MODULES for path in sorted((TOP / "crates" / crate / "src").rglob("*.rt"))]
     found = [(*it, it[1].read_text(encoding="utf-8")) for it in found if not hand.leaves_out(it[1])]
-    found = [Source(crate, path, hand.applied(path, text)) for crate, path, text in found]
+    found = [Source(crate, path, errors.with_errors(hand.applied(path, text))) for crate, path, text in found]
     hand.all_used()
     return found
 
@@ -133,7 +133,6 @@ def erased(hand, closed):
         source.by(rewritten, "std")
         source.by(rewritten, "last")
         source.by(handed.unused)
-        source.by(errors.with_errors)
         if source.crate != "dq_replay":
             source.by(indexes.with_indexes)
     gone = {(source.crate, source.module) for source in found if not laws.has_items(source.tokens)}
