@@ -1,5 +1,4 @@
 """The product crates, erased file by file."""
-import itertools
 from pathlib import Path
 
 import errors
@@ -8,8 +7,8 @@ import handed
 import indexes
 import laws
 import paths
-from patterns import GUARDS, TABLES, made, rewritten
-from rattle import Refused, close_of, functions, item_start, text_of, tokens_of
+from patterns import GUARDS, TABLES, rewritten
+from rattle import Refused, close_of, functions, text_of, tokens_of
 
 TOP = Path(__file__).resolve().parent.parent.parent
 OUT = TOP / "rust" / "hontkhale" / "src"
@@ -29,9 +28,13 @@ class Source:
         self.out = Path(MODULES[crate], *self.module).with_suffix(".rs")
 
     def by(self, rule, *arguments):
-        """A rule's answer on its tokens; what the rule refuses is told with the file."""
+        """A rule's answer on its tokens."""
+        return self.told(rule, self.tokens, *arguments)
+
+    def told(self, rule, *arguments):
+        """A rule's answer; what the rule refuses is told with the file."""
         try:
-            return rule(self.tokens, *arguments)
+            return rule(*arguments)
         except Refused as refused:
             raise Refused(f"{self.path.relative_to(TOP)}: {refused}") from None
 
@@ -42,67 +45,6 @@ def sources(hand):
     found = [Source(crate, path, errors.with_errors(hand.applied(path, text))) for crate, path, text in found]
     hand.all_used()
     return found
-
-
-def erase_modules(tokens, source, gone):
-    """Takes out the `mod` of each module that is empty now."""
-    for at in reversed(range(len(tokens) - 2)):
-        if tokens[at].text == "mod" and (source.crate, (*source.module, tokens[at + 1].text)) in gone:
-            del tokens[item_start(tokens, at):at + 3]
-
-
-def rebuilt_uses(tokens, source, gone, names):
-    """The uses of a file over the modules of the crate: what is gone or isn't named any more is left out."""
-    module = MODULES[source.crate]
-    spans = paths.uses_of(tokens)
-    words, wanted = paths.named(tokens, spans), []
-    for start, end, vis, found in reversed(spans):
-        found = [it for it in found if paths.last(it) not in names and not is_gone(source, it, gone)]
-        kept = list(filter(None, (paths.moved(it, module, MODULES) for it in found)))
-        if not vis:
-            wanted += [it for it in kept if paths.last(it) in words or paths.last(it) in TRAITS]
-        replace_use(tokens, start, end, vis, kept if vis else [])
-    wanted += [path for word, path in paths.PROVIDED.items() if word in words - paths.defined(tokens)]
-    put_uses(tokens, wanted)
-
-
-TRAITS = {"Read", "Write", "Deref", "DerefMut", "Hash", "TickSource", "Shard", "Until"}
-
-
-def is_gone(source, path, gone):
-    """Whether a path names an empty module or leads through one."""
-    crate, parts = source.crate, path.split("::")
-    if parts[0] in ("crate", *MODULES):
-        crate, parts = crate if parts[0] == "crate" else parts[0], parts[1:]
-    elif source.module:
-        return False
-    return any((crate, tuple(parts[:count])) in gone for count in range(1, len(parts) + 1))
-
-
-def grouped(found):
-    """The lines of uses, one for each parent."""
-    pairs = sorted({path.rpartition("::")[::2] for path in found})
-    for parent, its in itertools.groupby(pairs, key=lambda pair: pair[0]):
-        names = [name for _, name in its]
-        yield f"use {parent}::{names[0]};" if len(names) == 1 else f"use {parent}::{{{', '.join(names)}}};"
-
-
-def replace_use(tokens, start, end, vis, kept):
-    new = [token for line in grouped(kept) for token in made(vis + line, tokens[start], "\n")]
-    if new:
-        new[0].before = tokens[start].before
-    elif tokens[end].before.count("\n") < 2 and "//" not in tokens[end].before:
-        tokens[end].before = tokens[start].before
-    tokens[start:end] = new
-
-
-def put_uses(tokens, found):
-    # A module is told first, as in its source.
-    at = next(place for place, token in enumerate(tokens) if not token.text.startswith("//!"))
-    new = [token for line in grouped(found) for token in made(line, tokens[at], "\n")]
-    if new:
-        new[0].before = "\n\n" if at else ""
-        tokens[at:at] = new
 
 
 def guard_names(tokens):
@@ -135,9 +77,11 @@ def erased(hand, closed):
         source.by(handed.unused)
         if source.crate != "dq_replay":
             source.by(indexes.with_indexes)
-    gone = {(source.crate, source.module) for source in found if not laws.has_items(source.tokens)}
-    for source in found:
-        source.by(erase_modules, source, gone)
-        source.by(rebuilt_uses, source, gone, names)
-        source.by(paths.with_links, MODULES[source.crate], closed.given)
-    return {it.out: text_of(it.tokens) for it in found if (it.crate, it.module) not in gone}
+    texts = {source: text_of(source.tokens) for source in found}
+    gone = {(source.crate, source.module) for source, text in texts.items() if not paths.has_items(text)}
+    made = {}
+    for source, text in texts.items():
+        if (source.crate, source.module) not in gone:
+            text = source.told(paths.with_uses, text, source, gone, names)
+            made[source.out] = source.told(paths.with_links, text, MODULES[source.crate], closed.given)
+    return made

@@ -1,5 +1,4 @@
 """Laws: functions that do nothing and are there for what they promise. They go, with the statements that call them."""
-from paths import uses_of
 from rattle import Refused, close_of, functions, words_at
 
 STARTS = {"{", "}", ";"}
@@ -83,12 +82,3 @@ def idle_statement(tokens, at, laws):
         if tokens[place].text in ("?", "{", "=") or is_call(tokens, place) and tokens[place].text != called:
             raise Refused(f"line {tokens[place].line}: `{tokens[place].text}` would go with the law `{called}` that it is handed to")
     return index + 1
-
-
-def has_items(tokens):
-    """Whether a file has more than docs and uses."""
-    ends = {start: end for start, end, _, _ in uses_of(tokens)}
-    at = 0
-    while tokens[at].kind == "doc" or at in ends:
-        at = ends.get(at, at + 1)
-    return tokens[at].kind != "end"

@@ -1,49 +1,45 @@
-"""Paths: a crate becomes a module, and what is imported is what is named; and where the links of docs lead."""
+"""Paths, in the text of an erased file: a crate becomes a module, and what is imported is what is named; and where the links of docs
+lead."""
+import itertools
 import re
 
-from lists import elements, next_of
 from patterns import TABLES, formatted
 from rattle import Refused
 
-IMPORTS, PROVIDED = (dict(TABLES[it]) for it in ("imports", "provided"))
-# The words that define a name.
-DEFINES = {"fn", "struct", "type", "enum", "trait", "const"}
+MODULES, IMPORTS, PROVIDED = (dict(TABLES[it]) for it in ("modules", "imports", "provided"))
 # Those of what is provided that are functions.
 CALLS = {"are_fresh", "filled", "room_for", "text_of", "copy_of", "nth", "nth_mut"}
+# Traits that are imported for their calls.
+TRAITS = {"Read", "Write", "Deref", "DerefMut", "Hash", "TickSource", "Shard", "Until"}
 
+USE = re.compile(r"^((?:pub(?:\(crate\))? )?)use ([^;]*);\n", re.M)
+MODULE = re.compile(r"^(?:(?:///|#\[).*\n)*(?:pub(?:\(crate\))? )?mod (\w+);\n", re.M)
+DOC = re.compile(r"^ *//[/!].*$", re.M)
+STRING = re.compile(r'"(?:[^"\\]|\\.)*"')
 LINK = re.compile(r"\[`((?:dq_\w+::)?)(\w+)((?:::\w+)?)`\](?![(\[:])")
 # A path of the crate as the docs of the sources have it: a part, or a name of one.
 OF_THE_CRATE = re.compile(r"(\bhontkhale::|\]\(crate::)(\w+)")
 
 
-def tree_of(its, prefix=""):
-    """The paths of the tokens of a `use`, or of a part of one behind a prefix."""
-    if its[0].text == "{":
-        return [path for it in elements(its, 1, len(its) - 1) for path in tree_of(it, prefix)]
-    if its[0].kind != "word" and its[0].text != "*" or its[1:] and its[1].text != "::":
-        raise Refused(f"line {its[0].line}: a use of another form")
-    path = prefix + its[0].text
-    return tree_of(its[2:], path + "::") if its[1:] else [path]
+def paths_of(text, prefix=""):
+    """The paths of a `use`, or of a part of one behind a prefix."""
+    head, _, inner = text.strip().partition("{")
+    if inner:
+        return [path for it in re.findall(r"[^\s,{}][^,{}]*(?:\{[^{}]*\})?", inner) for path in paths_of(it, prefix + head)]
+    if not re.fullmatch(r"(?:\w+::)*(?:\w+|\*)", head):
+        raise Refused(f"a use of another form: {text}")
+    return [prefix + head]
 
 
-def uses_of(tokens):
-    """The uses of a file outside of functions: where each begins and ends, whether it is public, its paths."""
-    found = []
-    for at, token in enumerate(tokens):
-        if token.text == "use" and token.kind == "word":
-            vis = "pub " if tokens[at - 1].text == "pub" else "pub(crate) " if tokens[at - 4].text == "pub" else ""
-            end = next_of(tokens, at, (";",))
-            found.append((at - {"": 0, "pub ": 1, "pub(crate) ": 4}[vis], end + 1, vis, tree_of(tokens[at + 1:end])))
-    return found
+def last(path):
+    return path.rsplit("::", 1)[-1]
 
 
-def moved(path, module, modules):
+def moved(path, module):
     """A path of a source as a path of the crate; empty where nothing is imported."""
     head, _, rest = path.partition("::")
-    if head == "crate":
-        return f"crate::{module}::{rest}"
-    if head in modules:
-        return f"crate::{modules[head]}::{rest}"
+    if head == "crate" or head in MODULES:
+        return f"crate::{MODULES.get(head, module)}::{rest}"
     parts = path.split("::")
     for count in range(len(parts), 0, -1):
         place = IMPORTS.get("::".join(parts[:count]))
@@ -54,60 +50,79 @@ def moved(path, module, modules):
     raise Refused(f"`{path}` is imported, which no rule knows")
 
 
-def named(tokens, spans):
-    """The words of a file outside of its uses."""
-    inside = {at for start, end, _, _ in spans for at in range(start, end)}
-    words = set()
-    for at, token in enumerate(tokens):
-        if token.kind == "word" and at not in inside and tokens[at - 1].text not in (".", "fn"):
-            if token.text not in CALLS or tokens[at + 1].text == "(":
-                words.add(token.text)
-        elif token.kind == "word" and token.text in ("try_push", "try_push_str"):
-            words.add(token.text)
-        elif token.kind == "string":
-            # A text of a format names constants.
-            words |= formatted(token.text)
-    return words
+def is_gone(source, path, gone):
+    """Whether a path names an empty module or leads through one."""
+    crate, parts = source.crate, path.split("::")
+    if parts[0] in ("crate", *MODULES):
+        crate, parts = crate if parts[0] == "crate" else parts[0], parts[1:]
+    elif source.module:
+        return False
+    return any((crate, tuple(parts[:count])) in gone for count in range(1, len(parts) + 1))
 
 
-def last(path):
-    return path.rsplit("::", 1)[-1]
+def named(text):
+    """The words of a file outside of its uses; a text of a format names constants."""
+    code = re.sub(r"//.*", "", USE.sub("", text))
+    words = {word for texts in STRING.findall(code) for word in formatted(texts)} | set(re.findall(r"\.(try_push(?:_str)?)\b", code))
+    found = re.findall(r"(?<![.\w])(?<!\bfn )(\w+)(\(?)", STRING.sub("", code))
+    return words | {word for word, called in found if called or word not in CALLS}
 
 
-def defined(tokens):
+def defined(text):
     """The names that a file defines."""
-    return {behind.text for token, behind in zip(tokens, tokens[1:]) if token.kind == "word" and token.text in DEFINES}
+    return set(re.findall(r"\b(?:fn|struct|type|enum|trait|const) (\w+)", DOC.sub("", text)))
 
 
-def known_names(tokens, module, given):
-    """The names that a file imports or defines and that its docs may link to as they are."""
-    names = {last(path) for *_, found in uses_of(tokens) for path in found}
-    return names | {it for it in defined(tokens) if given.get(it, [None])[0] == module}
+def lines_of(found, vis=""):
+    """The lines of uses, one for each parent."""
+    pairs = sorted({path.rpartition("::")[::2] for path in found})
+    for parent, its in itertools.groupby(pairs, key=lambda pair: pair[0]):
+        names = [name for _, name in its]
+        yield f"{vis}use {parent}::{names[0]};\n" if len(names) == 1 else f"{vis}use {parent}::{{{', '.join(names)}}};\n"
 
 
-def with_links(tokens, module, given):
-    """Each link of a doc leads to what the crate gives away, or is plain text."""
-    known = known_names(tokens, module, given)
-    for at in reversed([place for place, token in enumerate(tokens) if token.kind == "doc"]):
-        token = tokens[at]
-        if "&rt" in token.text:
-            raise Refused(f"line {token.line}: a doc speaks of the runtime")
-        token.text = OF_THE_CRATE.sub(lambda it: it[1] + part(it[2], given), token.text)
-        token.text = LINK.sub(lambda match: link(match, known, given), token.text)
+def with_uses(text, source, gone, names):
+    """A file with its uses over the modules of the crate: what is gone or isn't named any more is left out."""
+    words, wanted, module = named(text), [], MODULES[source.crate]
+
+    def kept(found):
+        its = (it for it in paths_of(found[2]) if last(it) not in names and not is_gone(source, it, gone))
+        its = list(filter(None, (moved(it, module) for it in its)))
+        if not found[1]:
+            wanted.extend(it for it in its if last(it) in words | TRAITS)
+        return "".join(lines_of(its, found[1])) if found[1] else ""
+
+    text = MODULE.sub(lambda it: "" if (source.crate, (*source.module, it[1])) in gone else it[0], text)
+    text = USE.sub(kept, text).lstrip("\n")
+    wanted += [path for word, path in PROVIDED.items() if word in words - defined(text)]
+    # a module is told first, as in its source
+    told = re.match(r"(?://!.*\n)*", text)[0]
+    return f"{told}\n{''.join(lines_of(wanted))}\n{text[len(told):]}"
 
 
-def part(name, given):
-    """The path of a part, or of what stands beside the parts; and else the name itself."""
-    return f"parts::{name}" if any(path.split("::")[1] == name for _, path in given.values()) else name
+def has_items(text):
+    """Whether a file has more than docs and uses."""
+    return bool(DOC.sub("", USE.sub("", text)).strip())
 
 
-def link(match, known, given):
-    crate, head, tail = match.groups()
-    name = head + tail
-    if head == "Self":
-        return match.group()
-    if head not in given:
-        return f"`{name}`"
-    if head in known and not crate:
-        return match.group()
-    return f"[`{name}`](crate::{given[head][1]}{tail})"
+def with_links(text, module, given):
+    """A file in whose docs each link leads to what the crate gives away, or is plain text."""
+    known = {last(path) for _, found in USE.findall(text) for path in paths_of(found)}
+    known |= {it for it in defined(text) if given.get(it, [None])[0] == module}
+
+    def part(found):
+        """A part, or what stands beside the parts; and else the name itself."""
+        return found[1] + "parts::" * any(path.split("::")[1] == found[2] for _, path in given.values()) + found[2]
+
+    def link(found):
+        crate, head, tail = found.groups()
+        if head == "Self" or head in given and head in known and not crate:
+            return found[0]
+        return f"[`{head}{tail}`](crate::{given[head][1]}{tail})" if head in given else f"`{head}{tail}`"
+
+    def linked(found):
+        if "&rt" in found[0]:
+            raise Refused(f"a doc speaks of the runtime: {found[0]}")
+        return LINK.sub(link, OF_THE_CRATE.sub(part, found[0]))
+
+    return DOC.sub(linked, text)
