@@ -2,7 +2,7 @@
 import re
 
 from patterns import TABLES, made
-from rattle import Refused, angle_close_of, clause, close_of, functions, homes
+from rattle import File, Refused, text_of
 
 MODULES = dict(TABLES["modules"])
 # A name of the list, how it is closed, and the lines below it, which check it.
@@ -23,7 +23,7 @@ class Closed:
 
     def close(self, tokens):
         """Looks at each function of a file that has a `requires`, and puts the checks in."""
-        for owner, name, line, body in reversed(requirements(tokens)):
+        for owner, name, line, body in list(requirements(tokens)):
             head, full = owner or name, f"{owner}::{name}" if owner else name
             is_inside = self.ways.get(head, "")[:1] == ("inside",)
             way, checks = self.ways.get(head if is_inside else full, ("", ""))
@@ -54,22 +54,11 @@ def given(parts):
     return found
 
 
-def bodies(tokens):
-    """Each `impl` and `trait`: its bracket, its end, its type's name (none for `impl Trait for`), whether a trait."""
-    for at, body in homes(tokens):
-        index = angle_close_of(tokens, at + 1) + 1 if tokens[at + 1].text == "<" else at + 1
-        is_for = any(part.text == "for" for part in tokens[index:body])
-        if tokens[at].text != "mod":
-            yield body, close_of(tokens, body), None if is_for else tokens[index].text, tokens[at].text == "trait"
-
-
 def requirements(tokens):
-    """The functions of a file that require something and that are public: their owner, their name, line and body."""
-    inside, found = list(bodies(tokens)), []
-    for _, at, name, head, body in functions(tokens):
-        clauses = range(close_of(tokens, head) + 1, body)
-        if any(tokens[it].text == "requires" and clause(tokens, it) is not None for it in clauses):
-            owner, is_trait = next((it[2:] for it in reversed(inside) if it[0] < at < it[1]), ("", False))
-            if owner is not None and (is_trait or tokens[at - 1].text == "pub"):
-                found.append((owner, name, tokens[at].line, body))
-    return found
+    """The functions of a file that require something and that are public or a trait's: their owner, their name, line and body."""
+    file = File(text_of(tokens))
+    index = {token.place: at for at, token in enumerate(file.tokens)}
+    for it in reversed(file.functions):
+        if re.search(r"\brequires\b[^{\n]*\{", file.text[it.begin:it.body]) and (it.is_public or not it.is_free):
+            owner, _, name = it.name.rpartition("::")
+            yield owner.rpartition("::")[2], name, tokens[index[it.begin]].line, index[it.body]
