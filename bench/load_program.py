@@ -11,7 +11,6 @@ import pathlib
 import re
 import shutil
 import subprocess
-import tempfile
 
 TOP = pathlib.Path(__file__).resolve().parents[1]
 SOURCES = TOP / "bench" / "load"
@@ -22,19 +21,19 @@ TREE = pathlib.Path(os.environ.get("XDG_CACHE_HOME") or pathlib.Path.home() / ".
 PROGRAM = TREE / "crates" / NAME / "out" / NAME
 
 
-def lay_out(tree=TREE):
+def lay_out():
     """Lays the sources out anew, and leaves what rt made of them."""
-    tree.mkdir(parents=True, exist_ok=True)
+    TREE.mkdir(parents=True, exist_ok=True)
     lines = [it.read_text(encoding="utf-8") for it in (TOP / "crates.txt", SOURCES / "crates.line")]
-    (tree / "crates.txt").write_text("".join(lines), encoding="utf-8")
-    shutil.copy(TOP / "HANDLES", tree)
+    (TREE / "crates.txt").write_text("".join(lines), encoding="utf-8")
+    shutil.copy(TOP / "HANDLES", TREE)
     for home in [SOURCES, *(it.parent for it in (TOP / "crates").glob("*/src"))]:
-        to = tree / "crates" / (NAME if home == SOURCES else home.name)
+        to = TREE / "crates" / (NAME if home == SOURCES else home.name)
         for part in ("src", "specs", "proofs"):
             shutil.rmtree(to / part, ignore_errors=True)
             if (home / part).is_dir():
                 shutil.copytree(home / part, to / part)
-    for path in (tree / "crates" / NAME / "src").glob("*.rattle"):
+    for path in (TREE / "crates" / NAME / "src").glob("*.rattle"):
         path.rename(path.with_suffix(".rt"))
 
 
@@ -49,11 +48,7 @@ def build():
 
 
 def faults():
-    """Lays the sources out in an empty folder, and tells which modules aren't there as rt wants them."""
-    with tempfile.TemporaryDirectory(prefix="hontkhale-load-") as folder:
-        lay_out(pathlib.Path(folder))
-        sources = pathlib.Path(folder, "crates", NAME, "src").glob("*.rt")
-        texts = {it.stem: it.read_text(encoding="utf-8") for it in sources}
+    """Tells which modules aren't there, and which files none names."""
+    texts = {it.stem: it.read_text(encoding="utf-8") for it in (SOURCES / "src").glob("*.rattle")}
     named = {it for text in texts.values() for it in re.findall(r"^ *(?:pub(?:\([a-z]+\))? )?mod (\w+);", text, re.M)}
-    strange = sorted(named ^ (texts.keys() - {"main"}))
-    return [f"{it} is a module that isn't there, or a file that none names" for it in strange]
+    return [f"{it} is a module that isn't there, or a file that none names" for it in sorted(named ^ (texts.keys() - {"main"}))]
