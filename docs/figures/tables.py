@@ -378,7 +378,7 @@ def lasts(*sizes):
         unit, size = next((it for it in UNITS if seconds >= 2 * it[1]), UNITS[-1])
         return f"{seconds / size:.1f} {unit}" if seconds / size < 100 else f"{seconds / size:.0f} {unit}"
 
-    stamps = tree.constant("crates/dq_ticks/src/lib.rt", "LAST_STAMP")
+    stamps = int(re.search(r"const LAST_STAMP: \w+ = ([0-9_]+);", text_of(TOP / "crates/dq_ticks/src/lib.rt"))[1])
     shapes = [tuple(map(int, it.split("x"))) for it in sizes]
     return grid(["Entries a shard", "Shards", *(f"{it:,} a second" for it in RATES)],
                 ([f"{capacity:,}", shards, *(told(capacity * shards * stamps / it) for it in RATES)] for capacity, shards in shapes), 0)

@@ -103,11 +103,6 @@ def plain_tests(folders=PLAIN):
     return [name for folder in folders for it in files(folder, ".rs") for name in TEST.findall(text_of(it))]
 
 
-def constant(path, name):
-    """The number that a constant of a file has."""
-    return int(re.search(rf"const {name}: \w+ = ([0-9_]+);", text_of(TOP / path))[1].replace("_", ""))
-
-
 def shared_definitions():
     """The names that the specs of more than one crate define, each with its crates."""
     homes = collections.defaultdict(set)
