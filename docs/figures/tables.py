@@ -326,28 +326,13 @@ def gate():
                  for form, part in parts), 2)
 
 
-def script_rows(path, begins):
-    """The lines and the answers of a table of a script, which stands behind a pattern."""
-    rows = re.search(begins + r".*?= &?\[(.*?)\n *\];", text_of(TOP / path), re.S)
-    texts = re.findall(r'"((?:[^"\\]|\\.)*)"', rows[1])
-    return texts[::2], texts[1::2]
-
-
-def text_bytes(lines):
-    """The bytes of lines with their ends."""
-    return sum(len(re.sub(r"\\.", ".", line)) + 1 for line in lines)
-
-
 def evidence():
     """What stands behind the claims, in numbers."""
-    scripts, refused = "crates/dq_scripts/src/tests/scripts.rt", "crates/dq_scripts/src/tests/memory.rt"
     code, proofs = tree.lines(tree.erased(), "//"), tree.lines(tree.files(tree.CRATES, ".antt"), "--")
     functions = [it for path in tree.erased() for it in tree.file_of(path).functions]
     planted = [f"{sum(float(it) for (_, its), it in noted('plant').items() if its == what):,.0f}" for what in ("refused", "let through", "not judged")]
     queues = re.search(r"let sizes: &\[\(usize, u32\)\] = &\[(.*?)\];", text_of(TOP / "rust/hontkhale/tests/slow/same_calls.rs"), re.S)[1].count("(")
     calls = re.search(r"const CALLS: u64 = if cfg!.debug_assertions. \{ ([\d_]+) \}", text_of(TOP / "rust/hontkhale/tests/models/draw.rs"))[1]
-    lines, answers = script_rows(scripts, "const THREE_NAMES")
-    ends = len(script_rows(refused, r"fn refused_memory\b")[0]) + 2 * len(script_rows(scripts, "const EVERY_COMMAND")[0])
     definitions = sum(not indent for it in tree.crates() for indent, _ in it.definitions())
     told = {
         "Lines of erased Rust, each function of them proved safe, total and true to its contract":
@@ -360,8 +345,6 @@ def evidence():
         "Mutations, each named for its bug, that each whole run of the gate tries and the prover refuses": f"{tree.edits():,}",
         "Bodies planted by `rt plant`": f"{planted[0]} refused, {planted[1]} let through and seen by a test, {planted[2]} not judged (the tactics met a limit)",
         "Calls beside a slow model, every answer and count compared": f"{queues * int(calls.replace('_', '')):,}; five times as many in a release build",
-        "Faults at each byte of a script and of its answers": f"{text_bytes(['delay 1', *lines]) + 1} of reading, {text_bytes(answers)} of writing",
-        "Places at which a refused allocation ends a run": f"{ends}",
         "Compilers of each program": "2; what both print is compared with what is stored",
     }
     return grid(["What", "How many"], told.items(), 2)
