@@ -174,3 +174,28 @@ def carries(path, function_name, statement):
         seen |= todo
         todo = {it for name in todo for it in all_definitions().get(name, ())} - seen
     return statement in seen
+
+
+def unstated(page):
+    """What is wrong with the rows that say which functions carry which statements."""
+    for definitions, functions in stated(page):
+        yield from (f"{path} defines no {name}" for path, name in definitions if not is_defined(path, name))
+        try:
+            pairs = [(it, to) for it in functions for to in definitions if carries(*it, to[1])]
+        except (LookupError, OSError) as error:
+            yield str(error)
+            continue
+        for it in [*functions, *definitions] if functions and definitions else ():
+            if not any(it in pair for pair in pairs):
+                yield f"in the row of {it[1]} no contract leads from a function to a statement with it"
+
+
+def faults(page):
+    """What is wrong with a page beside its tables."""
+    for path, quote in QUOTE.findall(text_of(page)):
+        if not (TOP / path).is_file() or not stands_in(path, quote):
+            yield f"what is quoted of {path} doesn't stand there"
+    yield from unstated(page)
+    yield from (f"the link {it} leads nowhere" for it in bad_links(page))
+    yield from (f"nothing builds the Rust of line {it}: it wants a `from` mark of a file that cargo builds" for it in unbuilt_blocks(page))
+    yield from (f"the file {it} isn't there" for it in bad_paths(page))
