@@ -86,16 +86,13 @@ def front_chart(cases, about):
     """Each product beside the best heap and tokio-util's queue, both in a lock."""
     known, panels = {case.key: case for case in cases}, []
     for product in stored.PLAN["chart"]:
-        lines = []
+        looks, lines = {HEAP_LOCKED: HEAP, QUEUE_LOCKED: QUEUE, product["peer"]: OURS}, []
         for words, *key in product["rows"]:
-            samples = known[tuple(key)].samples if tuple(key) in known else {}
-            looks = [(it, look) for it, look in ((HEAP_LOCKED, HEAP), (QUEUE_LOCKED, QUEUE), (product["peer"], OURS)) if it in samples]
-            dots = [(min(samples[it]), known[tuple(key)].median(it), max(samples[it]), look,
-                     f"{stored.NAMES[it]}: {known[tuple(key)].median(it):.1f} ns") for it, look in looks]
-            if len(dots) > 1:
-                lines.append((words, dots))
-        if lines:
-            panels.append((product["title"], lines))
+            case = known.get(tuple(key), stored.Case(*key))
+            dots = [(min(case.samples[it]), case.median(it), max(case.samples[it]), look, f"{stored.NAMES[it]}: {case.median(it):.1f} ns")
+                    for it, look in looks.items() if it in case.samples]
+            lines += [(words, dots)] if len(dots) > 1 else []
+        panels += [(product["title"], lines)] if lines else []
     legend = [("ours", OURS), ("the best heap we know, in a Mutex", HEAP), ("tokio-util's DelayQueue, in a Mutex", QUEUE)]
     return panels and drawn("Nanoseconds a call at 10,000 entries a queue or shard: median, best and worst sample", legend, panels, about)
 
@@ -106,8 +103,7 @@ def longest_chart(cases, about):
     for case in (it for row in stored.LONGEST_ROWS for it in cases if it.row == row):
         found = {peer: case.spreads[peer, "poll"][-1] / 1000 for peer in LONGEST_PEERS if (peer, "poll") in case.spreads}
         dots = [(value, value, value, LONGEST_PEERS[peer], f"{stored.NAMES[peer]}: {value:,.2f} µs") for peer, value in found.items()]
-        if dots:
-            lines.append((f"{case.entries:,} entries, {case.row.removeprefix('longest-')}s", dots))
+        lines += [(f"{case.entries:,} entries, {case.row.removeprefix('longest-')}s", dots)] if dots else []
     legend = [("ours (shared_queue)", OURS), ("the best heap we know", HEAP), ("an indexed heap", OTHER), ("tokio-util's DelayQueue", QUEUE)]
     return lines and drawn("The longest poll, in microseconds", legend, [("After sessions were touched by extends or resets, or all were cancelled", lines)], about)
 

@@ -42,18 +42,16 @@ class Token:
 
 def tokens_of(text):
     """The tokens of a text, the last one an empty token that has what is left before it."""
-    found, before, line = [], [], 1
+    found, before, line = [], "", 1
     for match in PATTERN.finditer(text):
-        kind = match.lastgroup
-        piece = match.group()
+        kind, piece = match.lastgroup, match.group()
         if kind in ("space", "comment"):
-            before.append(piece)
+            before += piece
         else:
-            found.append(Token(kind, piece, "".join(before), line, match.start()))
-            before = []
+            found.append(Token(kind, piece, before, line, match.start()))
+            before = ""
         line += piece.count("\n")
-    found.append(Token("end", "", "".join(before), line, len(text)))
-    return found
+    return [*found, Token("end", "", before, line, len(text))]
 
 
 def text_of(tokens):
