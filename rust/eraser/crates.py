@@ -5,7 +5,6 @@ import errors
 import ghosts
 import handed
 import indexes
-import laws
 import paths
 from patterns import GUARDS, TABLES, rewritten
 from rattle import Refused, close_of, functions, text_of, tokens_of
@@ -59,9 +58,9 @@ def erased(hand, closed):
     found, fields = sources(hand), {}
     for source in found:
         source.tokens = source.by(ghosts.erased, (ghosts.ghost, ghosts.model, ghosts.tactic))
-    names = laws.law_names([source.tokens for source in found])
+    names = ghosts.law_names([source.tokens for source in found])
     for source in found:
-        source.tokens = source.by(laws.without_laws, names)
+        source.tokens = source.by(ghosts.without_laws, names)
         fields.setdefault(source.crate, set()).update(source.by(handed.without_fields))
         source.by(closed.close)
         GUARDS.update(guard_names(source.tokens))

@@ -1,6 +1,7 @@
-"""Rules for what is there for proofs alone: ghosts, clauses, models, tactics."""
+"""Rules for what is there for proofs alone: ghosts, clauses, models, tactics; and laws, which are functions that do nothing and are
+there for what they promise. They go with the statements that call them."""
 from lists import next_of
-from rattle import clause, close_of, words_at
+from rattle import Refused, clause, close_of, functions, words_at
 
 
 def ghost(tokens, at):
@@ -69,3 +70,86 @@ def erased(tokens, rules=RULES):
                 tokens[at].before = told + (before if before.startswith("\n") or not told else "\n" + before)
             requires = [] if kept[-1].text in "{;" else requires
     return kept
+
+
+STARTS = {"{", "}", ";"}
+# What a statement that only calls something doesn't begin with.
+OTHER_STATEMENTS = {"let", "return", "if", "match", "while", "for", "use", "pub", "fn"}
+
+
+def is_law(tokens, name, head, body, laws):
+    """A function of no answer that promises something, changes nothing and only calls laws, if anything."""
+    behind = close_of(tokens, head) + 1
+    if tokens[body].text != "{":
+        return name == "law"
+    if tokens[behind].text == "->" or not empty_but_calls(tokens, body, laws):
+        return False
+    if any(token.text == "mut" for token in tokens[head:behind]):
+        return False
+    return name == "law" or any(token.text == "ensures" for token in tokens[behind:body])
+
+
+def law_names(files):
+    """The names of all laws of some files: those that call other laws are found once those are."""
+    parts = [(tokens, functions(tokens)) for tokens in files]
+    laws, more = None, set()
+    while laws != more:
+        laws = more
+        more = {name for tokens, found in parts for _, _, name, *its in found if is_law(tokens, name, *its, laws)}
+    return laws
+
+
+def without_laws(tokens, laws):
+    """The tokens without functions of those names, and without statements that only call one or look at a field."""
+    ends, kept, at = {}, [], 0
+    for start, _, name, head, body in functions(tokens):
+        if name in laws:
+            if not is_law(tokens, name, head, body, laws) and not empty_but_calls(tokens, body, laws):
+                raise Refused(f"line {tokens[start].line}: `{name}` is a law elsewhere, and does something here")
+            ends[start] = (close_of(tokens, body) if tokens[body].text == "{" else body) + 1
+    while at < len(tokens):
+        behind = ends.get(at)
+        if behind is None and kept and kept[-1].text in STARTS:
+            behind = idle_statement(tokens, at, laws)
+        if behind is None:
+            kept.append(tokens[at])
+        at = behind or at + 1
+    return kept
+
+
+def empty_but_calls(tokens, body, laws):
+    at, end = body + 1, close_of(tokens, body)
+    while at is not None and at < end:
+        at = idle_statement(tokens, at, laws)
+    return at is not None
+
+
+def is_call(tokens, at):
+    return tokens[at].kind == "word" and (tokens[at + 1].text in ("(", "!") or words_at(tokens, at + 1, "::", "<"))
+
+
+def idle_statement(tokens, at, laws):
+    """The index behind a statement that calls a law and nothing else, or that is `let _ = &self.field;`."""
+    if [token.text for token in tokens[at:at + 6]] == ["let", "_", "=", "&", "self", "."]:
+        return at + 8 if tokens[at + 7].text == ";" else None
+    if tokens[at].kind != "word" or tokens[at].text in OTHER_STATEMENTS:
+        return None
+    index, called = at, None
+    while tokens[index].text != ";":
+        token = tokens[index]
+        called = token.text if is_call(tokens, index) else called
+        if token.text == "(":
+            index = close_of(tokens, index)
+            if tokens[index + 1].text not in (";", "."):
+                return None
+        elif token.text == "[":
+            index = close_of(tokens, index)
+        elif token.kind not in ("word",) and token.text not in (".", "::", "<", ">", ",", "&", "'"):
+            return None
+        index += 1
+    if called not in laws:
+        return None
+    for place in range(at, index):
+        if tokens[place].text in ("?", "{", "=") or is_call(tokens, place) and tokens[place].text != called:
+            raise Refused(f"line {tokens[place].line}: `{tokens[place].text}` would go with the law `{called}` that it is handed to")
+    return index + 1
