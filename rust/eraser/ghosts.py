@@ -1,6 +1,6 @@
 """Rules for what is there for proofs alone: ghosts, clauses, models, tactics; and laws, which are functions that do nothing and are
 there for what they promise. They go with the statements that call them."""
-from lists import next_of
+from patterns import next_of
 from rattle import Refused, clause, close_of, functions, words_at
 
 

@@ -2,9 +2,8 @@
 clauses name."""
 import re
 
-from lists import elements, joined, next_of, type_lists
-from patterns import formatted
-from rattle import Refused, close_of, functions
+from patterns import formatted, next_of
+from rattle import OPENS, Refused, angle_close_of, close_of, functions, tokens_of
 
 # Bounds that say no more than that a type is a runtime or an allocator.
 RUNTIME = {"Wait"}
@@ -14,6 +13,51 @@ ALLOC_TYPE = "A"
 
 # A path, by reference or not, and what copies of it or the allocator behind it are taken by.
 HANDED = re.compile(r"(?:& |mut )*(\w+(?: \. \w+)*?)((?: \. (?:clone|alloc|allocator) \( \))*)(?: \?)?")
+# What ends an element of a list between brackets or angles.
+ENDS = {",", ")", "]", "}", ">", ";"}
+
+
+def element_end(tokens, at, are_values):
+    """The index of the comma or the bracket that ends an element; an angle compares values, and encloses types."""
+    while True:
+        token = tokens[at]
+        if token.kind == "other" and token.text in OPENS:
+            at = close_of(tokens, at)
+        elif token.text == "<" and not are_values:
+            at = angle_close_of(tokens, at)
+        elif token.text in ENDS and not (are_values and token.text == ">"):
+            return at
+        at += 1
+
+
+def elements(tokens, at, end, are_values=False):
+    """The elements of a list from an index to its end, each as its tokens."""
+    while at < end:
+        stop = min(element_end(tokens, at, are_values), end)
+        yield tokens[at:stop]
+        at = stop + 1
+
+
+def joined(its):
+    """The tokens of elements with commas between them, and none behind the last. Nothing has no comma."""
+    new = []
+    for it in filter(None, its):
+        new += [*tokens_of(",")[:-1], *it] if new else it
+    return new
+
+
+def type_lists(tokens):
+    """The lists of types, from the last to the first, as they are then: where each opens and where it ends."""
+    for at in reversed(range(len(tokens))):
+        if tokens[at].text == "where" and tokens[at].kind == "word":
+            yield at, next_of(tokens, at, ("{", ";"))
+        elif tokens[at].text == "<":
+            try:
+                end = angle_close_of(tokens, at)
+            except Refused:
+                # it compares
+                continue
+            yield at, end
 
 
 def texts_of(tokens):

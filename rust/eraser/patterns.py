@@ -2,13 +2,21 @@
 import re
 from pathlib import Path
 
-from lists import next_of
-from rattle import CLOSES, Refused, tokens_of
+from rattle import CLOSES, OPENS, Refused, close_of, tokens_of
 
 # The tables of the file by their names: pairs of what stands on both sides of the last arrow.
 TEXT = Path(__file__).with_name("rules").read_text(encoding="utf-8")
 TABLES = {name: [tuple(map(str.strip, line.rsplit(" =>", 1))) for line in lines.splitlines()]
           for name, lines in re.findall(r"^\[(\w+)\]\n((?:.+\n)*)", TEXT, re.M)}
+
+
+def next_of(tokens, at, texts):
+    """The index of the next token with one of these texts, outside of the brackets that open on the way."""
+    while tokens[at].text not in texts:
+        if tokens[at].kind == "other" and tokens[at].text in OPENS:
+            at = close_of(tokens, at)
+        at += 1
+    return at
 
 
 def parts_of(text):
