@@ -1,7 +1,7 @@
 """The two charts of a run, as SVG: nanoseconds as dots on a logarithmic axis, each with a whisker from the best sample to the worst.
 
 A bar's length would tell nothing on a logarithmic axis. A row that we lose is drawn as any other. `bench/run` draws them
-once it has stored a run; after a change of this file draw them by `python3 bench/chart.py`.
+once it has stored a run, and `docs/check --write` after a change of this file.
 """
 
 import math
@@ -112,14 +112,3 @@ def charts():
     """The charts of the stored run, by their files."""
     cases, about = stored.read()
     return {stored.RESULTS / "latest.svg": front_chart(cases, about), stored.RESULTS / "latest-longest.svg": longest_chart(cases, about)}
-
-
-def stale():
-    """The charts that aren't what the stored samples make."""
-    return [path for path, picture in charts().items() if not path.exists() or path.read_text() != picture]
-
-
-if __name__ == "__main__":
-    for path, picture in charts().items():
-        path.write_text(picture)
-        print(path.name)

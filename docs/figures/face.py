@@ -38,7 +38,7 @@ class Face:
     """The lines of a crate, and what is wrong with them."""
 
     def __init__(self, crate):
-        self.source, self.faults = TOP / "rust" / crate / "src", []
+        self.source, self.list, self.faults = TOP / "rust" / crate / "src", LISTS / f"{crate}.txt", set()
         # what each module has, by name, and whether that is public; the `impl`s; the public items, and by which paths
         self.modules, self.impls, self.paths = {}, [], {}
         self.read((), text_of(self.source / "lib.rs"))
@@ -112,22 +112,10 @@ class Face:
             it = self.found(module, found[0])
             kind = self.modules[it[0]][it[1]][0][4] if it and it not in self.modules else ""
             if kind in TYPES and it not in self.paths and it[1] not in SEALS:
-                self.faults.append(f"{found[0]}, which `{told}` names, isn't public")
+                self.faults.add(f"{found[0]}, which `{told}` names, isn't public")
             far = str(self.modules[module].get(found[0], [""])[0])
             far = far if far.startswith("hontkhale::") else found[0]
             return min(self.paths[it], key=len) if kind in {*TYPES, "type"} and it in self.paths else far
 
         told = re.sub(r"(?<=[(<]) |,? (?=[)>])", "", " ".join(head.split()))
         return indent + " ".join([*SHOWN.findall(attributes), re.sub(r"(?<![\w:.'])[A-Za-z][\w:]*", written, told)])
-
-
-def compared(write):
-    """Each list that isn't what its crate gives away, and each public line that names what isn't public."""
-    for crate in CRATES:
-        face, path = Face(crate), LISTS / f"{crate}.txt"
-        text = "".join(f"{it}\n" for it in face.lines)
-        if write:
-            path.write_text(text, encoding="utf-8")
-        elif not path.exists() or text_of(path) != text:
-            yield path, "it isn't what the crate gives away"
-        yield from ((TOP / "rust" / crate, it) for it in sorted(set(face.faults)))
