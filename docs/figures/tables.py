@@ -5,17 +5,15 @@ import itertools
 import math
 import re
 import statistics
-import tomllib
 
+import stored
 import tree
 from tree import TOP, text_of
 
-RESULTS = TOP / "bench" / "results"
 SIZES, TOUCHES = ("1000", "10000", "65536"), ("extend", "reset", "cancel")
 PIECE_WAYS = ("whole", "pieces-16", "pieces-64", "pieces-256")
 # The rows and the peers of the tables, by the table.
-BENCH = tomllib.loads(text_of(TOP / "bench" / "plan.toml"))
-PLAN, LIVES = BENCH["tables"], BENCH["rows"]["whole"]
+PLAN, LIVES = stored.PLAN["tables"], stored.WHOLE_ROWS
 
 
 def grid(heads, rows, left=1):
@@ -26,7 +24,7 @@ def grid(heads, rows, left=1):
 
 def rows_of(name):
     """The rows of a file of results/."""
-    return [it.split("\t") for it in text_of(RESULTS / f"{name}.tsv").splitlines() if it and not it.startswith("#")]
+    return [it.split("\t") for it in text_of(stored.RESULTS / f"{name}.tsv").splitlines() if it and not it.startswith("#")]
 
 
 def noted(name):
@@ -35,9 +33,14 @@ def noted(name):
 
 
 @functools.cache
+def cases():
+    return {case.key: case for case in stored.read()[0]}
+
+
+@functools.cache
 def run():
     """The median of each cell of the bench: by peer, row, entries and callers."""
-    return {tuple(cell): statistics.median(map(float, samples.split())) for *cell, samples in rows_of("latest")[1:]}
+    return {(peer, case.row, str(case.entries), str(case.threads)): case.median(peer) for case in cases().values() for peer in case.samples}
 
 
 def ns(name, peer, entries="10000", threads="1"):
@@ -177,10 +180,7 @@ def life_standing():
 
 def longest_of(name, peer, entries):
     """The nanoseconds of a peer's longest poll in a row of the longest call."""
-    for its_peer, its_row, its_entries, call, _, taken in rows_of("latest.longest")[1:]:
-        if (its_peer, its_row, its_entries, call) == (peer, name, entries, "poll"):
-            return float(taken.split()[-1])
-    raise LookupError(f"the stored run has no poll of {peer} in {name} at {entries}")
+    return cases()[name, int(entries), 1].spreads[peer, "poll"][-1]
 
 
 def touched(peers, cell):
