@@ -300,7 +300,7 @@ def old_snapshot(it):
     with held(it, "SET TRANSACTION ISOLATION LEVEL REPEATABLE READ", "SELECT count(*) FROM jobs"):
         it.enqueue(150000)
         wait_for(lambda: done(it) == 150000, every=0.5)
-        # What was due within two seconds is read again, and a session tells at most once a second what it has read. A
+        # What was due within a second is read again, and a session tells at most once a second what it has read. A
         # longer wait would hide readings that notifications of jobs that are over still ask for, one after another.
         time.sleep(4)
         it.sql("SELECT pg_stat_reset()")

@@ -30,8 +30,9 @@ const READ_EVERY: Duration = Duration::from_millis(400);
 const READ_AFTER: Duration = Duration::from_millis(20);
 /// Every how many readings a partition is read whole.
 const WHOLE: usize = 24;
-/// What is due within it is held in memory.
-const HORIZON: Duration = Duration::from_secs(2);
+/// What is due within it is held in memory. Each reading gives what waits of it once more, so it is no longer than a partition
+/// may have to wait for its next one.
+const HORIZON: Duration = Duration::from_secs(1);
 /// How often the table is searched for leases that have ended and that no worker knows.
 const SEARCH_EVERY: Duration = Duration::from_secs(10);
 /// How long one who has lost a session leaves what is free to others, who may have lost theirs by the same outage.
@@ -192,7 +193,9 @@ impl Owner<'_> {
         let (asked, since) = worker.partitions.to_read(self.of, self.readings);
         let partitions = numbers(&asked);
         let since: Vec<SystemTime> = since.into_iter().map(time).collect();
-        let (horizon, most, sent) = (HORIZON.as_secs_f64(), WAITING_ROOM as i64, worker.clock.uptime());
+        // The fewer partitions are read at a time, the longer each waits for its next reading.
+        let horizon = (HORIZON * self.of as u32).as_secs_f64();
+        let (most, sent) = (WAITING_ROOM as i64, worker.clock.uptime());
         let params: [Param<'_>; 7] =
             [&worker.number, &partitions, &horizon, &most, &left_over(), &since, &self.left_out];
         let answer = self.session.query(sql::READ, &params).await;
