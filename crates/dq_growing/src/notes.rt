@@ -65,7 +65,8 @@ impl<A: Allocator + Clone> PairTable<A> {
         self.map.is_empty()
     }
 
-    // What an id has with it.
+    // What an id has with it. Most stores have no note, and don't come here.
+    #[inline(never)]
     pub(crate) fn find(&self, id: &EntryId) -> Option<EntryId>
         ensures { result ≡ with_id self.now id.now }
     {
@@ -106,6 +107,7 @@ impl<A: Allocator + Clone> PairTable<A> {
     }
 
     // Takes from an id what it has.
+    #[inline(never)]
     pub(crate) fn take(&mut self, id: &EntryId)
         ensures at { SetsPair self.old id.now None self.new }
         ensures room { self.old.room ≤ self.new.room }

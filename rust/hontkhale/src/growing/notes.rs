@@ -38,7 +38,8 @@ impl PairTable {
         self.map.is_empty()
     }
 
-    // What an id has with it.
+    // What an id has with it. Most stores have no note, and don't come here.
+    #[inline(never)]
     pub(crate) fn find(&self, id: &EntryId) -> Option<EntryId> {
         self.map.get(&numbers_of(id)).copied()
     }
@@ -65,6 +66,7 @@ impl PairTable {
     }
 
     // Takes from an id what it has.
+    #[inline(never)]
     pub(crate) fn take(&mut self, id: &EntryId) {
         let _ = self.map.remove(&numbers_of(id));
     }
