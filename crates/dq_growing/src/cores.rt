@@ -30,7 +30,7 @@ pub enum TakeError {
 
 /// A delay queue of one owner that grows and shrinks.
 ///
-/// A call by an entry's id compares its number with those of the cores, one after another, until it has found its core.
+/// A call by an entry's id compares its number with those of the cores, the newest first, until it has found its core.
 /// What it costs, as it is told with the call, is in that core.
 #[derive(Drop)]
 pub struct Cores<T, W: Words, A: Allocator = Global> {
@@ -205,7 +205,9 @@ impl<T, W: Words, A: Allocator> Cores<T, W, A> {
         ensures found { IfSome result (λ i. (c : Core T W) × HasAt self.now.cores number i c) }
         ensures none { IfNone result (HasNo self.now.cores number) }
     {
-        for at in 0..self.cores.len() {
+        for newer in 0..self.cores.len() {
+            // The newest core has the most entries.
+            let at = self.cores.len() - 1 - newer;
             if self.cores[at].shard() == number {
                 return Some(at);
             }
@@ -273,6 +275,7 @@ impl<T, W: Words, A: Allocator> Cores<T, W, A> {
         // Exactly: a reset in the core of that number, and nothing else changes.
         ensures resets { OnCoreOr entry.now.shard (λ b c. Resets W.shared b entry.now when result c)
             (result ≡ Err (missing_error when)) self.old self.new }
+        ensures words { KeepsWords W.origin W.begun self.old self.new }
     {
         let Some(at) = self.place_of(entry.shard()) else {
             return Err(missing_at(when));
@@ -296,6 +299,7 @@ impl<T, W: Words, A: Allocator> Cores<T, W, A> {
         ensures tells { OnCoreOr entry.now.shard
             (λ b c. TellsDeadline W.shared b entry.now result c)
             (result ≡ Err Missing) self.old self.new }
+        ensures words { KeepsWords W.origin W.begun self.old self.new }
     {
         let Some(at) = self.place_of(entry.shard()) else {
             return Err(CoreError::Missing);
@@ -320,6 +324,7 @@ impl<T, W: Words, A: Allocator> Cores<T, W, A> {
 
         // Exactly: an insert into the open core, and nothing else changes.
         ensures inserts { InsertsIn self.old value when result self.new }
+        ensures words { KeepsWords W.origin W.begun self.old self.new }
     {
         if self.opened >= self.cores.len() {
             return (Err((closed_at(when), value)), None);

@@ -19,7 +19,7 @@ pub enum TakeError {
 
 /// A delay queue of one owner that grows and shrinks.
 ///
-/// A call by an entry's id compares its number with those of the cores, one after another, until it has found its core.
+/// A call by an entry's id compares its number with those of the cores, the newest first, until it has found its core.
 /// What it costs, as it is told with the call, is in that core.
 pub struct Cores<T, W: Words> {
     pub(crate) cores: Vec<DelayCore<T, W>>,
@@ -131,7 +131,9 @@ impl<T, W: Words> Cores<T, W> {
 
     // The place of the core of that number.
     pub(crate) fn place_of(&self, number: u32) -> Option<usize> {
-        for at in 0..self.cores.len() {
+        for newer in 0..self.cores.len() {
+            // The newest core has the most entries.
+            let at = self.cores.len() - 1 - newer;
             if nth(&self.cores, at).shard() == number {
                 return Some(at);
             }
