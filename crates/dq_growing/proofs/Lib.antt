@@ -5,5 +5,6 @@ pub mod Moves
 pub mod Pairing
 pub mod Quiet
 pub mod Rows
+pub mod Sizes
 pub mod Standing
 pub mod Stored

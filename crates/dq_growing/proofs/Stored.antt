@@ -435,7 +435,7 @@ module _ {T W : Type 0} where
       law_same_notes s cores law (subst P (sym gives.rest) (same_or_fewer s.cores (record s.cores { cores = remove s.cores.cores i; opened = opened_without s.cores.opened i }) from))
 
   -- nothing stands in a core in which nothing is linked
-  unlinked : (c : Core T W) → IsLawfulCore c → linked_in c ≡ 0 → (u : EntryId) (e : Entry T) → IsThere c u e → ⊥
+  pub unlinked : (c : Core T W) → IsLawfulCore c → linked_in c ≡ 0 → (u : EntryId) (e : Entry T) → IsThere c u e → ⊥
   unlinked c lawful none u e x =
       let w = word_at c.known u.index in
       let row = ap (λ r. r.entry) (table_row_is c.slots.rows c.known lawful.as_known u.index) in

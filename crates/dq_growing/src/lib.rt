@@ -11,7 +11,9 @@ mod least;
 mod moving;
 mod notes;
 mod polls;
+mod sizing;
 mod store;
+mod sweeping;
 mod sweeps;
 mod upkeep;
 
@@ -21,4 +23,5 @@ pub(crate) const NEVER: u64 = u64::MAX;
 pub use cores::{Cores, TakeError};
 pub use folds::Folds;
 pub use moving::{Moved, NextDeadline};
+pub use sizing::{CORES, Sizing};
 pub use store::Store;

@@ -10,7 +10,9 @@ mod least;
 mod moving;
 mod notes;
 mod polls;
+mod sizing;
 mod store;
+mod sweeping;
 mod sweeps;
 mod upkeep;
 
@@ -20,4 +22,5 @@ pub(crate) const NEVER: u64 = u64::MAX;
 pub use cores::{Cores, TakeError};
 pub use folds::Folds;
 pub use moving::{Moved, NextDeadline};
+pub use sizing::{Sizing, CORES};
 pub use store::Store;

@@ -4,8 +4,9 @@ use crate::core::{CoreConfig, DelayCore};
 use crate::delay_queue::errors::InsertErrorKind;
 use crate::delay_queue::shard::Seen;
 use crate::delay_queue::shared::Shared;
-use crate::delay_queue::store::{least, Core, Work, CORES};
+use crate::delay_queue::store::{least, Core, Work};
 use crate::directory::Clerk;
+use crate::growing::CORES;
 use crate::memory::AllocError;
 use crate::ticks::CAPACITY_LIMIT;
 use crate::words::{Keeper, OpenWords};
@@ -44,11 +45,11 @@ impl<T> Shared<T> {
     /// An empty core for a shard, with its words where they are new: then it has that number. No lock of a shard is held.
     fn make(&self, number: u32, at: usize, size: Size) -> Result<(Core<T>, Option<OpenWords>), AllocError> {
         let Size { capacity, now } = size;
-        let folded = self.lock(at).take_folded(capacity);
+        let folded = self.lock(at).folds.take(capacity);
         let (mut core, words) = match folded.map(|folded| folded.unfold::<T>()) {
             Some(Ok(core)) => (core, None),
             Some(Err(folded)) => {
-                let _ = self.lock(at).keep_folded(folded);
+                let _ = self.lock(at).folds.keep(folded);
                 return Err(AllocError);
             }
             None => {
@@ -106,7 +107,7 @@ impl<T> Shared<T> {
                 }
             }
         }
-        self.lock(at).note_work();
+        self.lock(at).sizing.note_work();
         true
     }
 
@@ -114,7 +115,7 @@ impl<T> Shared<T> {
     fn fold(&self, at: usize, core: Core<T>) {
         let Ok(folded) = core.fold() else { return };
         if 2 * folded.worn() <= folded.capacity() {
-            let kept = self.lock(at).keep_folded(folded);
+            let kept = self.lock(at).folds.keep(folded);
             // Where memory is refused it goes.
             drop(kept);
         }
@@ -194,12 +195,12 @@ impl<T> Shared<T> {
                         store.bring(core, capacity);
                     }
                 }
-                (Err(AllocError), None) => _ = core.fold().map(|folded| store.keep_folded(folded)),
+                (Err(AllocError), None) => _ = core.fold().map(|folded| store.folds.keep(folded)),
                 (Err(AllocError), Some(_)) => {}
             }
         }
         reserved.map_err(|_| InsertErrorKind::NoMemory)?;
-        self.locked().for_each(|mut store| store.keep(share));
+        self.locked().for_each(|mut store| store.sizing.keep(share));
         Ok(())
     }
 

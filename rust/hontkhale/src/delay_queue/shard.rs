@@ -112,8 +112,9 @@ impl<T> Drop for Locked<'_, T> {
             seen.hint.store(store.hint, SeqCst);
         }
         seen.left.store(store.left(), Relaxed);
-        if seen.quiet_since.load(Relaxed) != store.quiet_since {
-            seen.quiet_since.store(store.quiet_since, Relaxed);
+        let quiet_since = store.sizing.quiet_since();
+        if seen.quiet_since.load(Relaxed) != quiet_since {
+            seen.quiet_since.store(quiet_since, Relaxed);
         }
     }
 }

@@ -96,7 +96,7 @@ impl<T> Shared<T> {
     /// Lets a shard's lock go where so many entries ended, and makes a part of what keeps it of the right size.
     #[inline(always)]
     pub fn leave(&self, store: Locked<'_, T>, ended: usize) {
-        let (at, has_work) = (store.at, store.has_work);
+        let (at, has_work) = (store.at, store.sizing.has_work());
         drop(store);
         if ended > 0 {
             self.note_ended(ended);
@@ -170,7 +170,7 @@ impl<T> Shared<T> {
     fn made_room(&self, at: usize) -> Result<Locked<'_, T>, InsertErrorKind> {
         let mut is_tidy = false;
         loop {
-            if self.lock(at).is_kept() {
+            if self.lock(at).sizing.is_kept() {
                 if let Some(store) = self.any_room(at) {
                     return Ok(store);
                 }

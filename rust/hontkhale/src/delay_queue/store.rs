@@ -1,27 +1,21 @@
-//! What a shard keeps: its entries, in cores of which one is open to inserts and the others drain.
-//!
-//! The open core is exchanged where it is full, where more than half of its slots are worn, and where an eighth of it is used:
-//! the next one has room for twice what is there. The one before drains: what is in it stays, and ends there. Once nothing is in
-//! it, it is folded. Its words stay, so its keys are refused for good, and the next core of its size goes on with them. The few
-//! entries that are left of one are moved into the open one. A core that was made ahead is empty until it is opened.
+//! What a shard keeps: its entries, in cores of which one is open to inserts and the others drain. Its [`Sizing`] says which
+//! cores come and go.
 //!
 //! This file alone calls the proved store. Nobody's code runs in it, but for the closure of `with_value` and of `insert_with`.
 
-use crate::core::{CallError, CoreError, DelayCore, Folded, Piece, Turn};
+use crate::core::{CallError, CoreError, DelayCore, Piece, Turn};
 use crate::delay_queue::errors::{InsertErrorKind, KeyError};
 use crate::delay_queue::front::Step;
 use crate::delay_queue::key::Key;
 use crate::delay_queue::waking::NEVER;
 use crate::directory::Directory;
-use crate::growing::{Cores, Folds, Moved, NextDeadline, Store};
+use crate::growing::{Cores, Folds, Moved, NextDeadline, Sizing, Store};
 use crate::locks::lend;
 use crate::memory::AllocError;
-use crate::ticks::{self, EntryId, CAPACITY_LIMIT};
+use crate::ticks::{self, EntryId};
 use crate::words::{Keeper, OpenWords};
 use std::mem::{needs_drop, size_of};
 
-/// The most cores of a shard.
-pub(crate) const CORES: usize = 64;
 /// About how many bytes the values of the smallest core take.
 const LEAST_BYTES: usize = 65_536;
 /// By how many powers of two of ticks entries that come out late are counted. The last one is for all that are later, too.
@@ -33,8 +27,6 @@ const SLOTS: usize = 256;
 const MOVED_AT_ONCE: usize = 16;
 /// Each so many inserts a shard is looked after.
 const INSERTS: u64 = 1_024;
-/// Each so many ends it is looked whether its cores are of the right size, and at each of the last so many.
-const LOOKS: u64 = 16;
 /// What the wheel and the words take of each slot, what the words alone take, and what a core takes besides.
 const SLOT_BYTES: usize = 32;
 const WORD_BYTES: usize = 8;
@@ -52,19 +44,13 @@ pub(crate) struct ShardStore<T> {
     /// The shard's place, which its keys have.
     pub at: usize,
     store: Store<T, Keeper>,
-    folds: Folds<Keeper>,
-    sweep: Sweep,
+    pub sizing: Sizing,
+    pub folds: Folds<Keeper>,
     /// Nothing is due before this tick.
     pub hint: u64,
     pub counts: Counts,
-    /// For how many entries memory is kept for good.
-    kept: usize,
     /// The words that were made, which stay as long as the queue.
     words: usize,
-    /// Whether there may be something to do that keeps the shard of the right size.
-    pub has_work: bool,
-    /// The number of cancels since which a receiver that has time has nothing to do here, and else `NEVER`.
-    pub quiet_since: u64,
     /// Whether values may have been set aside since that was asked last, and whether some were then.
     pub may_have_aside: bool,
     has_aside: bool,
@@ -82,16 +68,6 @@ pub(crate) struct Counts {
     pub latest: u64,
     pub late: [u64; POWERS],
     pub counted_late: u64,
-}
-
-/// How far the way through the slots is on which cancelled entries are freed.
-#[derive(Default)]
-struct Sweep {
-    place: usize,
-    slot: usize,
-    /// The accepted cancels as the way began, and how many slots are left on it.
-    cancels: u64,
-    left: usize,
 }
 
 /// Why a call by key isn't made: the entry has ended, or `NoMemory` where it is to be moved and no slot is free.
@@ -123,43 +99,17 @@ pub(crate) enum Work<T> {
     Moved(u64),
 }
 
-/// How many slots are free in which no value waits for its drop, at least: values that wait in worn slots count as if they
-/// waited in free ones.
-#[inline(always)]
-fn free<T>(core: &Core<T>) -> usize {
-    let waiting = if needs_drop::<T>() { core.aside() } else { 0 };
-    (core.capacity() - core.len() - core.worn()).saturating_sub(waiting)
-}
-
-#[inline(always)]
-fn has_room<T>(core: &Core<T>) -> bool {
-    free(core) > 0
-}
-
-fn is_worn<T>(core: &Core<T>) -> bool {
-    2 * core.worn() > core.capacity()
-}
-
-/// Whether an eighth of a core is used at most.
-#[inline(always)]
-fn is_small<T>(core: &Core<T>) -> bool {
-    8 * core.len() <= core.capacity()
-}
-
 impl<T> ShardStore<T> {
     pub fn new(queue: u32, at: usize) -> ShardStore<T> {
         ShardStore {
             queue,
             at,
             store: Store::new(Cores::new()).expect("a store of no cores"),
+            sizing: Sizing::new(least::<T>()),
             folds: Folds::new(),
-            sweep: Sweep::default(),
             hint: NEVER,
             counts: Counts::default(),
-            kept: 0,
             words: 0,
-            has_work: false,
-            quiet_since: 0,
             may_have_aside: false,
             has_aside: false,
         }
@@ -168,18 +118,6 @@ impl<T> ShardStore<T> {
     /// All cores, by their places.
     fn rows(&self) -> impl Iterator<Item = &Core<T>> {
         (0..self.store.cores().count()).filter_map(|place| self.store.cores().get(place))
-    }
-
-    /// The open core.
-    #[inline(always)]
-    fn open(&self) -> Option<&Core<T>> {
-        self.store.cores().get(self.store.cores().opened())
-    }
-
-    /// The others, by their places.
-    fn others(&self) -> impl Iterator<Item = (usize, &Core<T>)> {
-        let opened = self.store.cores().opened();
-        self.rows().enumerate().filter(move |(place, _)| *place != opened)
     }
 
     #[inline(always)]
@@ -194,22 +132,10 @@ impl<T> ShardStore<T> {
         self.named(&ticks::Key::new(entry, entry.born()))
     }
 
-    /// Whether a slot is free for an insert: in the open core, or in another one of which half is free, or, where any will do, in
-    /// any. That one is open then. No value that is set aside is in the way.
+    /// Whether a slot is free for an insert.
     #[inline(always)]
     pub fn finds_room(&mut self, any_will_do: bool) -> bool {
-        self.open().is_some_and(has_room) || self.opens_another(any_will_do)
-    }
-
-    #[cold]
-    fn opens_another(&mut self, any_will_do: bool) -> bool {
-        let fits = |core: &Core<T>| has_room(core) && (any_will_do || 2 * free(core) >= core.capacity());
-        let roomy = self.others().filter(|(_, core)| fits(core));
-        let Some((place, _)) = roomy.max_by_key(|(_, core)| free(core)) else {
-            return false;
-        };
-        self.note_work();
-        self.store.open(place)
+        self.sizing.finds_room(&mut self.store, any_will_do)
     }
 
     /// Puts an entry in that is due at a tick, once there is room.
@@ -220,7 +146,7 @@ impl<T> ShardStore<T> {
         self.hint = self.hint.min(tick);
         self.counts.inserted += 1;
         if self.counts.inserted % INSERTS == 0 {
-            self.note_work();
+            self.sizing.note_work();
         }
         self.named(&key)
     }
@@ -271,27 +197,7 @@ impl<T> ShardStore<T> {
     #[inline(always)]
     fn note_left(&mut self) {
         let left = self.left();
-        // To look takes longer the more cores there are.
-        let looks = left < LOOKS || left % LOOKS == 0;
-        if looks && (self.store.cores().count() > 1 || self.open().is_some_and(is_small)) {
-            self.look_after();
-        }
-    }
-
-    #[cold]
-    fn look_after(&mut self) {
-        if self.is_too_large() || self.has_needless() {
-            self.note_work();
-        } else if self.straggler().is_some() {
-            // It is moved once a receiver has time.
-            self.quiet_since = NEVER;
-        }
-    }
-
-    /// Whether an eighth of the open core is used at most, and a smaller one would do.
-    fn is_too_large(&self) -> bool {
-        let is_large = |open: &Core<T>| is_small(open) && self.kept == 0 && 4 * self.next_capacity() <= open.capacity();
-        self.open().is_some_and(is_large)
+        self.sizing.note_left(&self.store, left);
     }
 
     #[inline(always)]
@@ -466,40 +372,9 @@ impl<T> ShardStore<T> {
     /// Frees cancelled entries at the next slots, unless each was looked at since the last of so many cancels. It tells whether
     /// it looked at some.
     pub fn sweep(&mut self, cancels: u64) -> bool {
-        if self.sweep.cancels != cancels {
-            (self.sweep.cancels, self.sweep.left) = (cancels, self.slots());
-        }
-        let has_slots = self.sweep.left > 0;
-        if has_slots {
-            self.sweep_some();
-        }
-        self.quiet_since = if self.sweep.left > 0 || self.is_busy() {
-            NEVER
-        } else {
-            cancels
-        };
-        has_slots
-    }
-
-    fn sweep_some(&mut self) {
-        let Sweep { place, slot, .. } = self.sweep;
-        let (capacity, len) = self
-            .store
-            .cores()
-            .get(place)
-            .map_or((0, 0), |core| (core.capacity(), core.len()));
-        let next = match len {
-            0 => None,
-            _ => self.store.sweep_some(place, slot, SLOTS).and_then(|swept| swept.next),
-        };
-        self.may_have_aside = true;
-        let looked_at = next.unwrap_or(capacity).saturating_sub(slot);
-        self.sweep.left = self.sweep.left.saturating_sub(looked_at.max(1));
-        (self.sweep.place, self.sweep.slot) = match next {
-            Some(next) => (place, next),
-            None if place + 1 < self.store.cores().count() => (place + 1, 0),
-            None => (0, 0),
-        };
+        let has_looked = self.sizing.sweep(&mut self.store, cancels);
+        self.may_have_aside |= has_looked;
+        has_looked
     }
 
     /// Takes out a value that is set aside. Its slot is free then.
@@ -507,7 +382,7 @@ impl<T> ShardStore<T> {
         self.may_have_aside = true;
         let value = self.store.take_aside();
         if value.is_some() && self.store.cores().count() > 1 {
-            self.note_work();
+            self.sizing.note_work();
         }
         value
     }
@@ -520,38 +395,14 @@ impl<T> ShardStore<T> {
         self.rows().map(DelayCore::capacity).sum()
     }
 
-    fn next_capacity(&self) -> usize {
-        let twice = 2 * self.linked();
-        twice.next_power_of_two().clamp(least::<T>(), CAPACITY_LIMIT)
-    }
-
-    /// Whether the open core is to be exchanged though it isn't full.
-    fn is_to_be_exchanged(&self) -> bool {
-        self.open().is_some_and(is_worn) || self.is_too_large()
-    }
-
-    /// Whether the next core is to be made ahead.
-    fn is_nearly_full(&self) -> bool {
-        let is_roomy = |core: &Core<T>| 4 * free(core) > core.capacity();
-        self.kept == 0 && !self.rows().any(is_roomy)
-    }
-
-    /// Notes that there may be something to do that keeps it of the right size.
-    #[cold]
-    pub fn note_work(&mut self) {
-        self.has_work = true;
-        self.quiet_since = NEVER;
-    }
-
     /// Whether something is to be done, beside a sweep, so that it keeps the right size.
     pub fn is_busy(&self) -> bool {
-        self.has_work || self.straggler().is_some() || self.has_needless()
+        self.sizing.is_busy(&self.store)
     }
 
     /// What is to be done next so that it keeps the right size.
     pub fn work(&mut self, now: u64) -> Work<T> {
-        self.has_work = false;
-        match self.take_needless() {
+        match self.sizing.take_needless(&mut self.store) {
             Some(core) => Work::Fold(core),
             None if self.wanted().is_some() => Work::Make,
             None => Work::Moved(self.move_stragglers(now)),
@@ -560,8 +411,7 @@ impl<T> ShardStore<T> {
 
     /// The capacity of a core that is to be made though an insert has room.
     pub fn wanted(&self) -> Option<usize> {
-        let is_wanted = self.open().is_some() && (self.is_to_be_exchanged() || self.is_nearly_full());
-        Some(self.next_capacity()).filter(|_| is_wanted && self.store.cores().count() < CORES)
+        self.sizing.capacity_ahead(&self.store)
     }
 
     /// The capacity of a core that is to be made for an insert, none where it has room by now. `Full` where the shard has as
@@ -570,10 +420,8 @@ impl<T> ShardStore<T> {
         if self.finds_room(false) {
             return Ok(None);
         }
-        if self.store.cores().count() >= CORES {
-            return Err(InsertErrorKind::Full);
-        }
-        Ok(Some(self.next_capacity()))
+        let capacity = self.sizing.capacity_for_insert(&self.store);
+        capacity.map(Some).ok_or(InsertErrorKind::Full)
     }
 
     /// Makes places for so many cores that are to be made.
@@ -581,32 +429,11 @@ impl<T> ShardStore<T> {
         self.store.reserve(cores)
     }
 
-    /// A folded core of that capacity.
-    pub fn take_folded(&mut self, capacity: usize) -> Option<Folded<Keeper>> {
-        self.folds.take(capacity)
-    }
-
-    /// Keeps a folded core. It comes back where memory is refused.
-    pub fn keep_folded(&mut self, folded: Folded<Keeper>) -> Result<(), Folded<Keeper>> {
-        self.folds.keep(folded)
-    }
-
-    /// Takes a core that was made, with so many new words: it is open from now on where the open one is to be exchanged or has no
-    /// room, and waits else until it is needed. Places for it were made.
+    /// Takes a core that was made, with so many new words. Places for it were made.
     pub fn bring(&mut self, core: Core<T>, words: usize) {
         self.words += words;
-        let is_needed = !self.open().is_some_and(has_room) || self.is_to_be_exchanged();
-        self.take_in(core, is_needed);
-        self.note_work();
-    }
-
-    fn take_in(&mut self, core: Core<T>, is_needed: bool) {
-        let opened = self.store.cores().opened();
         // One that is refused goes.
-        if self.store.take_in(core).is_ok() && !is_needed {
-            self.store.open(opened);
-        }
-        self.sweep.left = self.slots();
+        let _ = self.sizing.bring(&mut self.store, core);
     }
 
     /// How many slots are wanted for that many entries to be kept for good.
@@ -614,60 +441,12 @@ impl<T> ShardStore<T> {
         entries.saturating_sub(self.slots())
     }
 
-    /// Whether memory is kept for good.
-    pub fn is_kept(&self) -> bool {
-        self.kept > 0
-    }
-
-    pub fn keep(&mut self, entries: usize) {
-        self.kept = self.kept.max(entries);
-    }
-
-    /// The cores that are empty and not open, in the order in which they are taken out.
-    fn drained(&self) -> impl Iterator<Item = &Core<T>> {
-        let has_drained = |core: &&Core<T>| core.is_empty() && core.aside() == 0;
-        self.others().map(|(_, core)| core).filter(has_drained)
-    }
-
-    /// Whether an empty core isn't needed soon: it is worn, or there is memory enough without it.
-    fn is_needless(&self, core: &Core<T>, slots: usize) -> bool {
-        if self.kept > 0 {
-            return is_worn(core) || slots - core.capacity() >= self.kept;
-        }
-        let wanted = self.next_capacity();
-        let fits = (wanted / 2..=2 * wanted).contains(&core.capacity());
-        let is_roomy = |open: &Core<T>| 2 * free(open) >= open.capacity();
-        is_worn(core) || !fits || self.open().is_some_and(is_roomy)
-    }
-
-    fn has_needless(&self) -> bool {
-        let slots = self.slots();
-        self.drained().any(|core| self.is_needless(core, slots))
-    }
-
-    /// Takes an empty core off that isn't needed soon, for the caller to fold it behind the lock.
-    fn take_needless(&mut self) -> Option<Core<T>> {
-        while self.has_needless() {
-            let slots = self.slots();
-            let is_needless = self.drained().next().is_some_and(|core| self.is_needless(core, slots));
-            let core = self.store.take_drained()?;
-            (self.sweep.place, self.sweep.slot) = (0, 0);
-            if is_needless {
-                self.sweep.left = self.slots();
-                return Some(core);
-            }
-            // The next one is the first then.
-            self.take_in(core, false);
-        }
-        None
-    }
-
     /// Moves a few of the last entries of cores that drain, which aren't due, into the open one, and gives the least deadline that
     /// was moved.
     fn move_stragglers(&mut self, now: u64) -> u64 {
         let mut least = NEVER;
         for _ in 0..MOVED_AT_ONCE {
-            let Some(entry) = self.straggler() else { break };
+            let Some(entry) = self.sizing.straggler(&self.store) else { break };
             match self.store.deadline(&entry) {
                 Ok(deadline) if deadline > now => {
                     if self.relocate(&entry, NextDeadline::Same).is_err() {
@@ -686,12 +465,6 @@ impl<T> ShardStore<T> {
             }
         }
         least
-    }
-
-    /// An entry of a core that isn't open and of which an eighth is used at most.
-    fn straggler(&self) -> Option<EntryId> {
-        let mut small = self.others().filter(|(_, core)| is_small(core));
-        small.find_map(|(place, _)| self.store.first_in(place))
     }
 
     /// About how many bytes it takes, without what its values point to.

@@ -1,0 +1,6 @@
+use Rattle.dq_growing.specs.Stands.{SameStand}
+use Rattle.dq_growing.specs.Store.{StandsFor}
+use Rattle.dq_growing.proofs.sizing.Sizing.take_needless.Given as goal
+
+abbrev pub invariant-loop-turn : goal.invariant-loop-turn
+invariant-loop-turn g l = SameStand (StandsFor l.fn.store) (StandsFor l.store)

@@ -1,0 +1,497 @@
+//! How a store keeps the right size.
+//!
+//! The open core is exchanged where it is full, where more than half of its slots are worn, and where an eighth of it is
+//! used: the next one has room for twice what is there. The one before drains: what is in it stays, and ends there. Once
+//! nothing is in it, it is folded. Its words stay, so its keys are refused for good, and the next core of its size goes
+//! on with them. The few entries that are left of one are moved into the open one. A core that was made ahead is empty
+//! until it is opened.
+//!
+//! The numbers here are a policy: any others would keep what the calls of a [`Store`] promise.
+
+ghost use Rattle.std.specs.Prelude.{◌≡◌, ◌≢◌, ◌<◌, true, IfSome, IfErr, OnOk};
+ghost use Rattle.dq_core.specs.Folds.{IsFoldable};
+ghost use Rattle.dq_growing.specs.Moving.{HasFreeSlot, HasOpenRoom};
+ghost use Rattle.dq_growing.specs.Sizing.{HasRoomAt, OnlyOpens, ComesInto, IsFirstElsewhere};
+ghost use Rattle.dq_growing.specs.Stands.{SameStand};
+ghost use Rattle.dq_growing.specs.Store.{StandsFor};
+
+use crate::NEVER;
+use crate::cores::Cores;
+use crate::store::Store;
+use crate::sweeping::Sweep;
+use dq_core::{DelayCore, Words};
+use dq_ticks::{CAPACITY_LIMIT, EntryId};
+use std::alloc::Allocator;
+use std::mem::needs_drop;
+
+/// The most cores of a store. A call by an entry's id compares its number with that of each.
+pub const CORES: usize = 64;
+
+/// Each so many ends it is looked whether the cores are of the right size, and at each of the last so many: to look takes
+/// longer the more cores there are.
+const LOOKS: u64 = 16;
+
+/// Keeps a store at the right size.
+#[derive(Clone, Copy, Debug)]
+pub struct Sizing {
+    // The slots of the smallest core.
+    least: usize,
+    // For how many entries memory is kept for good.
+    kept: usize,
+    // Whether there may be something to do.
+    has_work: bool,
+    // The number of cancels since which there is nothing to do, and else `NEVER`.
+    pub(crate) quiet_since: u64,
+    pub(crate) sweep: Sweep,
+}
+
+// How many slots are free in which no value waits for its drop, at least: values that wait in worn slots count as if they
+// waited in free ones.
+#[inline(always)]
+fn free<T, W: Words, A: Allocator>(core: &DelayCore<T, W, A>) -> usize
+    ensures { 0 < result → HasFreeSlot core.now }
+{
+    core.law();
+    let waiting = if needs_drop::<T>() { core.aside() } else { 0 };
+    let taken = core.len() + core.worn();
+    core.capacity()
+        .saturating_sub(taken)
+        .saturating_sub(waiting)
+}
+
+// So of the core at a place.
+#[inline(always)]
+fn free_at<T, W: Words, A: Allocator>(cores: &Cores<T, W, A>, place: usize) -> usize
+    ensures { 0 < result → HasRoomAt cores.now place }
+{
+    let Some(core) = cores.get(place) else {
+        return 0;
+    };
+    free(core)
+}
+
+#[inline(always)]
+fn has_open_room<T, W: Words, A: Allocator>(cores: &Cores<T, W, A>) -> bool
+    ensures { result ≡ true → HasOpenRoom cores.now }
+{
+    free_at(cores, cores.opened()) > 0
+}
+
+// The place of the core with more free slots of two, where the second may be opened: half of it is free, or any will do.
+fn roomier<T, W: Words, A: Allocator>(
+    cores: &Cores<T, W, A>,
+    so_far: usize,
+    place: usize,
+    any_will_do: bool,
+) -> usize {
+    let Some(core) = cores.get(place) else {
+        return so_far;
+    };
+    let room = free(core);
+    if (room < core.capacity() / 2 && !any_will_do) || room < free_at(cores, so_far) {
+        so_far
+    } else {
+        place
+    }
+}
+
+// The place of the core that has the most free slots, of the open one, which has none, and of those that may be opened.
+fn roomiest<T, W: Words, A: Allocator>(cores: &Cores<T, W, A>, any_will_do: bool) -> usize {
+    let mut roomiest = cores.opened();
+    for at in 0..cores.count() {
+        roomiest = roomier(cores, roomiest, at, any_will_do);
+    }
+    roomiest
+}
+
+fn is_worn<T, W: Words, A: Allocator>(core: &DelayCore<T, W, A>) -> bool {
+    core.worn() > core.capacity() / 2
+}
+
+// Whether an eighth of a core is used at most.
+#[inline(always)]
+fn is_small<T, W: Words, A: Allocator>(core: &DelayCore<T, W, A>) -> bool {
+    core.len() <= core.capacity() / 8
+}
+
+// How many slots there are, worn ones among them.
+pub(crate) fn slots<T, W: Words, A: Allocator>(cores: &Cores<T, W, A>) -> usize {
+    let mut slots = 0usize;
+    for at in 0..cores.count() {
+        if let Some(core) = cores.get(at) {
+            slots = slots.saturating_add(core.capacity());
+        }
+    }
+    slots
+}
+
+// How many entries are linked, of which some may be cancelled.
+fn linked<T, W: Words, A: Allocator>(cores: &Cores<T, W, A>) -> usize {
+    let mut linked = 0usize;
+    for at in 0..cores.count() {
+        if let Some(core) = cores.get(at) {
+            linked = linked.saturating_add(core.len());
+        }
+    }
+    linked
+}
+
+// Whether an eighth of a core is used at most that isn't open.
+fn is_nearly_drained<T, W: Words, A: Allocator>(cores: &Cores<T, W, A>, place: usize) -> bool
+    ensures { result ≡ true → place ≢ cores.now.opened }
+{
+    if place == cores.opened() {
+        return false;
+    }
+    let Some(core) = cores.get(place) else {
+        return false;
+    };
+    is_small(core)
+}
+
+// Whether half of the open core is free.
+fn is_open_half_free<T, W: Words, A: Allocator>(cores: &Cores<T, W, A>) -> bool {
+    let Some(open) = cores.get(cores.opened()) else {
+        return false;
+    };
+    free(open) >= open.capacity() / 2
+}
+
+// Whether a quarter of a core is free in which no value waits.
+fn is_roomy<T, W: Words, A: Allocator>(core: &DelayCore<T, W, A>) -> bool {
+    free(core) > core.capacity() / 4
+}
+
+// Whether the next core is to be made ahead: none has a quarter of its slots free.
+fn is_nearly_full<T, W: Words, A: Allocator>(cores: &Cores<T, W, A>) -> bool {
+    for at in 0..cores.count() {
+        if let Some(core) = cores.get(at) {
+            if is_roomy(core) {
+                return false;
+            }
+        }
+    }
+    true
+}
+
+impl Sizing {
+    /// Keeps stores whose smallest core has so many slots.
+    pub const fn new(least: usize) -> Sizing {
+        Sizing {
+            least,
+            kept: 0,
+            has_work: false,
+            quiet_since: 0,
+            sweep: Sweep::new(),
+        }
+    }
+
+    /// The number of cancels since which there is nothing to do, and else `u64::MAX`.
+    #[inline(always)]
+    pub fn quiet_since(&self) -> u64 {
+        self.quiet_since
+    }
+
+    /// Whether there may be something to do.
+    #[inline(always)]
+    pub fn has_work(&self) -> bool {
+        self.has_work
+    }
+
+    /// Notes that there may be something to do.
+    #[cold]
+    pub fn note_work(&mut self) {
+        self.has_work = true;
+        self.quiet_since = NEVER;
+    }
+
+    /// Whether a slot is free for an insert: in the open core, or in another one of which half is free, or, where any will
+    /// do, in any. That one is open then. No value that waits for its drop is in the way.
+    #[inline(always)]
+    pub fn finds_room<T, W: Words, A: Allocator + Clone>(
+        &mut self,
+        store: &mut Store<T, W, A>,
+        any_will_do: bool,
+    ) -> bool
+        // Then an insert isn't refused as full.
+        ensures room { result ≡ true → HasOpenRoom store.new.cores }
+
+        // No more changes than which core is open.
+        ensures opens { OnlyOpens store.old store.new }
+    {
+        if has_open_room(store.cores()) {
+            return true;
+        }
+        self.opens_another(store, any_will_do)
+    }
+
+    #[cold]
+    fn opens_another<T, W: Words, A: Allocator + Clone>(
+        &mut self,
+        store: &mut Store<T, W, A>,
+        any_will_do: bool,
+    ) -> bool
+        ensures room { result ≡ true → HasOpenRoom store.new.cores }
+        ensures opens { OnlyOpens store.old store.new }
+    {
+        let place = roomiest(store.cores(), any_will_do);
+        if free_at(store.cores(), place) == 0 {
+            return false;
+        }
+        self.note_work();
+        store.open(place)
+    }
+
+    // The slots of the next core: twice as many as there are entries.
+    fn next_capacity<T, W: Words, A: Allocator>(&self, cores: &Cores<T, W, A>) -> usize {
+        let twice = linked(cores).saturating_mul(2).min(CAPACITY_LIMIT);
+        twice
+            .next_power_of_two()
+            .max(self.least)
+            .min(CAPACITY_LIMIT)
+    }
+
+    // Whether an eighth of the open core is used at most, and a smaller one would do.
+    fn is_too_large<T, W: Words, A: Allocator>(&self, cores: &Cores<T, W, A>) -> bool {
+        let Some(open) = cores.get(cores.opened()) else {
+            return false;
+        };
+        is_small(open) && self.kept == 0 && self.next_capacity(cores) <= open.capacity() / 4
+    }
+
+    // Whether the open core is to be exchanged though it isn't full.
+    fn is_to_be_exchanged<T, W: Words, A: Allocator>(&self, cores: &Cores<T, W, A>) -> bool {
+        let Some(open) = cores.get(cores.opened()) else {
+            return false;
+        };
+        is_worn(open) || self.is_too_large(cores)
+    }
+
+    /// The slots of a core that is to be made for an insert that finds no room. None where there are as many cores as may
+    /// be.
+    pub fn capacity_for_insert<T, W: Words, A: Allocator + Clone>(
+        &self,
+        store: &Store<T, W, A>,
+    ) -> Option<usize> {
+        let cores = store.cores();
+        if cores.count() >= CORES {
+            return None;
+        }
+        Some(self.next_capacity(cores))
+    }
+
+    /// The slots of a core that is to be made though an insert has room.
+    pub fn capacity_ahead<T, W: Words, A: Allocator + Clone>(
+        &self,
+        store: &Store<T, W, A>,
+    ) -> Option<usize> {
+        let cores = store.cores();
+        let is_ahead = self.kept == 0 && is_nearly_full(cores);
+        if cores.opened() >= cores.count() || !(is_ahead || self.is_to_be_exchanged(cores)) {
+            return None;
+        }
+        self.capacity_for_insert(store)
+    }
+
+    /// Takes a core in that was made: it is open from now on where the open one is to be exchanged or has no room, and waits
+    /// else until it is needed.
+    ///
+    /// # Errors
+    /// The core comes back, and nothing changes, as [`Store::take_in`] tells.
+    pub fn bring<T, W: Words, A: Allocator + Clone>(
+        &mut self,
+        store: &mut Store<T, W, A>,
+        core: DelayCore<T, W, A>,
+    ) -> Result<(), DelayCore<T, W, A>>
+        ensures comes { OnOk result (ComesInto store.old core store.new) }
+        ensures stands { SameStand (StandsFor store.old) (StandsFor store.new) }
+        ensures back { IfErr result (λ c. c ≡ core) }
+    {
+        let is_needed = !has_open_room(store.cores()) || self.is_to_be_exchanged(store.cores());
+        let taken = take_in(store, core, is_needed);
+        self.sweep.restart(slots(store.cores()));
+        self.note_work();
+        taken
+    }
+
+    // Whether an empty core isn't needed soon: it is worn, or there is memory enough without it.
+    fn is_needless<T, W: Words, A: Allocator>(
+        &self,
+        cores: &Cores<T, W, A>,
+        core: &DelayCore<T, W, A>,
+        slots: usize,
+    ) -> bool {
+        if is_worn(core) {
+            return true;
+        }
+        if self.kept > 0 {
+            return slots.saturating_sub(core.capacity()) >= self.kept;
+        }
+        let wanted = self.next_capacity(cores);
+        // One of half the size, or of twice, will do.
+        let fits = wanted / 2 <= core.capacity() && core.capacity() / 2 <= wanted;
+        !fits || is_open_half_free(cores)
+    }
+
+    // Whether the core at a place has drained, and isn't needed soon.
+    fn is_needless_at<T, W: Words, A: Allocator>(
+        &self,
+        cores: &Cores<T, W, A>,
+        place: usize,
+        slots: usize,
+    ) -> bool {
+        if place == cores.opened() {
+            return false;
+        }
+        let Some(core) = cores.get(place) else {
+            return false;
+        };
+        core.is_empty() && core.aside() == 0 && self.is_needless(cores, core, slots)
+    }
+
+    fn has_needless<T, W: Words, A: Allocator>(&self, cores: &Cores<T, W, A>) -> bool {
+        let slots = slots(cores);
+        for at in 0..cores.count() {
+            if self.is_needless_at(cores, at, slots) {
+                return true;
+            }
+        }
+        false
+    }
+
+    /// Takes a core out that has drained and isn't needed soon. Folded, it keeps its words alone.
+    pub fn take_needless<T, W: Words, A: Allocator + Clone>(
+        &mut self,
+        store: &mut Store<T, W, A>,
+    ) -> Option<DelayCore<T, W, A>>
+        ensures drained { IfSome result (λ c. IsFoldable c) }
+        ensures stands { SameStand (StandsFor store.old) (StandsFor store.new) }
+    {
+        self.has_work = false;
+        if !self.has_needless(store.cores()) {
+            return None;
+        }
+        // The cores get other places.
+        self.sweep.restart(slots(store.cores()));
+        for _turn in 0..store.cores().count() {
+            if let Some(core) = self.take_first(store) {
+                return Some(core);
+            }
+        }
+        None
+    }
+
+    // Takes the first core off that has drained, where it isn't needed soon. Else it is the last one, and the next one the
+    // first.
+    fn take_first<T, W: Words, A: Allocator + Clone>(
+        &self,
+        store: &mut Store<T, W, A>,
+    ) -> Option<DelayCore<T, W, A>>
+        ensures drained { IfSome result (λ c. IsFoldable c) }
+        ensures stands { SameStand (StandsFor store.old) (StandsFor store.new) }
+    {
+        let slots = slots(store.cores());
+        let Some(core) = store.take_drained() else {
+            return None;
+        };
+        core.law();
+        if self.is_needless(store.cores(), &core, slots) {
+            return Some(core);
+        }
+        if let Err(core) = take_in(store, core, false) {
+            return Some(core);
+        }
+        None
+    }
+
+    /// Returns an entry that may be moved into the open core, so that its own one drains: the one that is scheduled first
+    /// in a core that isn't open and of which an eighth is used at most.
+    pub fn straggler<T, W: Words, A: Allocator + Clone>(
+        &self,
+        store: &Store<T, W, A>,
+    ) -> Option<EntryId>
+        ensures { IfSome result (λ u. IsFirstElsewhere store.now u) }
+    {
+        let cores = store.cores();
+        for at in 0..cores.count() {
+            if is_nearly_drained(cores, at) {
+                if let Some(entry) = store.first_in(at) {
+                    return Some(entry);
+                }
+            }
+        }
+        None
+    }
+
+    /// Whether something is to be done, beside a sweep.
+    pub fn is_busy<T, W: Words, A: Allocator + Clone>(&self, store: &Store<T, W, A>) -> bool {
+        self.has_work || self.straggler(store).is_some() || self.has_needless(store.cores())
+    }
+
+    /// Notes that an entry left its core, and that so many are left.
+    #[inline(always)]
+    pub fn note_left<T, W: Words, A: Allocator + Clone>(
+        &mut self,
+        store: &Store<T, W, A>,
+        left: u64,
+    ) {
+        let looks = left < LOOKS || left % LOOKS == 0;
+        if looks && may_shrink(store.cores()) {
+            self.look_after(store);
+        }
+    }
+
+    #[cold]
+    fn look_after<T, W: Words, A: Allocator + Clone>(&mut self, store: &Store<T, W, A>) {
+        if self.is_too_large(store.cores()) || self.has_needless(store.cores()) {
+            self.note_work();
+        } else if self.straggler(store).is_some() {
+            // It is moved once there is time.
+            self.quiet_since = NEVER;
+        }
+    }
+
+    /// Keeps memory for so many entries for good.
+    pub fn keep(&mut self, entries: usize) {
+        self.kept = self.kept.max(entries);
+    }
+
+    /// Whether memory is kept for good.
+    pub fn is_kept(&self) -> bool {
+        self.kept > 0
+    }
+}
+
+// Whether there may be less to keep: there are several cores, or an eighth of the one is used at most.
+#[inline(always)]
+fn may_shrink<T, W: Words, A: Allocator>(cores: &Cores<T, W, A>) -> bool {
+    if cores.count() > 1 {
+        return true;
+    }
+    let Some(open) = cores.get(cores.opened()) else {
+        return false;
+    };
+    is_small(open)
+}
+
+// Takes a core in. It is open where it is needed.
+fn take_in<T, W: Words, A: Allocator + Clone>(
+    store: &mut Store<T, W, A>,
+    core: DelayCore<T, W, A>,
+    is_needed: bool,
+) -> Result<(), DelayCore<T, W, A>>
+    ensures comes { OnOk result (ComesInto store.old core store.new) }
+    ensures stands { SameStand (StandsFor store.old) (StandsFor store.new) }
+    ensures back { IfErr result (λ c. c ≡ core) }
+{
+    core.law();
+    let opened = store.cores().opened();
+    if let Err((_, core)) = store.take_in(core) {
+        return Err(core);
+    }
+    if is_needed {
+        return Ok(());
+    }
+    let _ = store.open(opened);
+    Ok(())
+}
