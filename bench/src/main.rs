@@ -391,7 +391,7 @@ fn time(asked: &Asked) {
     let paused: Vec<PausedClock> = names.iter().map(|_| PausedClock::new()).collect();
     #[cfg(feature = "rust")]
     let standing: Vec<Standing> = names.iter().map(|_| Standing::new()).collect();
-    let clocks = paused.iter().map(|paused| Clocks {
+    let clocks = paused.iter().enumerate().map(|(_at, paused)| Clocks {
         paused,
         within: TurnedWithin(paused),
         #[cfg(feature = "rust")]

@@ -1,11 +1,12 @@
 -- Ids that are found by their numbers.
-use Rattle.std.proofs.Common.{◌≡◌, ◌≢◌, ◌⊎◌, ℕ, Bool, true, false, ◌&&◌, nat_eq, Option, Some, None, refl, sym, ap, ◌∙◌, subst, inl, inr, ⊎_elim}
+use Rattle.std.proofs.Common.{◌≡◌, ◌≢◌, ◌⊎◌, ℕ, Bool, true, false, ◌&&◌, nat_eq, List, length, Option, Some, None, refl, sym, ap, ◌∙◌, subst, inl, inr, ⊎_elim}
 use Rattle.std.proofs.lemmas.Bool.{eqb-true}
+use Rattle.std.proofs.lemmas.List.{nil_from_length}
 use Rattle.std.specs.Map.{lookup}
 use Rattle.dq_ticks.specs.declared.keys.EntryId.{EntryId}
 use mathlib.Core.Logic.{dite}
 use native.Mathlib.Decide.{ℕ_discrete}
-use Rattle.dq_growing.specs.Notes.{Pairs, Book, AreNotes, numbers_of, same_numbers, with_id, SetsPair, TakesPair}
+use Rattle.dq_growing.specs.Notes.{Pairs, Book, AreNotes, HasNone, Forgets, numbers_of, same_numbers, with_id, or_own, user_at, place_by, meant_place, SetsPair, TakesPair}
 use Rattle.dq_growing.proofs.Standing.{same_id, some_is}
 use Rattle.dq_growing.proofs.Leasts.{some_not_none}
 
@@ -82,3 +83,30 @@ module _ (n : Book) (u p : EntryId) (o : Option EntryId) (places users users' : 
 
   pub noted_law : AreNotes (book places users')
   noted_law a q = (forth a q, back_again a q)
+
+-- nothing is among no entries
+pub none_listed : (es : List ((ℕ × ℕ × ℕ) × EntryId)) → length es ≡ 0 → (k : EntryId) → lookup (same_numbers (numbers_of k)) es ≡ None
+none_listed es none k = ap (λ l. lookup (same_numbers (numbers_of k)) l) (nil_from_length es none)
+
+-- where no user's id has a place, no place has a user's id
+module _ (n : Book) (law : AreNotes n) (none : HasNone n.places) where
+  no_user : (p : EntryId) (o : Option EntryId) → o ≡ with_id n.users p → o ≡ None
+  no_user p None at = refl
+  no_user p (Some w) at = absurd (some_not_none p (sym ((law w p).1 (sym at)) ∙ none w))
+
+  no_users : (p : EntryId) → with_id n.users p ≡ None
+  no_users p = no_user p (with_id n.users p) refl
+
+  own_by : (u : EntryId) (a b : Option EntryId) → a ≡ None → b ≡ None → Some u ≡ place_by u a b
+  own_by u None None x y = refl
+  own_by u (Some p) b x y = absurd (some_not_none p x)
+  own_by u None (Some w) x y = absurd (some_not_none w y)
+
+  pub own_place : (u : EntryId) → Some u ≡ meant_place n u
+  own_place u = own_by u (with_id n.places u) (with_id n.users u) (none u) (no_users u)
+
+  pub own_user : (p : EntryId) → p ≡ user_at n p
+  own_user p = sym (ap (or_own p) (no_users p))
+
+  pub nothing_to_forget : (p : EntryId) → Forgets n p None n
+  nothing_to_forget p = (no_users p, ((λ k. refl), (λ k. refl)))

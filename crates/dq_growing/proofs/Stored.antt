@@ -22,9 +22,9 @@ use Rattle.dq_growing.specs.declared.moving.Moved.{Moved}
 use Rattle.dq_growing.specs.declared.moving.Moved.TheVariants.{To, Out}
 use Rattle.dq_growing.specs.Polls.{TakesAsideIn}
 use Rattle.dq_growing.specs.Notes.{Book, AreNotes, SameNotes, Forgets, IsNoted, with_id, or_own, user_at, place_by, meant_place}
-use Rattle.dq_growing.specs.Store.{entry_told, TellsFirstIn, TellsFrom, HasFor, NoneStandsFor, NotesAfter, answer_as, NotesAnswered, AfterReset, ResetsFor, GoesOnFor, StoreState, IsStore, StandsFor, KeysAreApart, RemovesFor, ComesFor, removed_as}
+use Rattle.dq_growing.specs.Store.{entry_told, TellsPlaceFor, TakeRefusedFor, TellsFirstIn, TellsFrom, HasFor, NoneStandsFor, NotesAfter, answer_as, NotesAnswered, AfterReset, ResetsFor, GoesOnFor, StoreState, IsStore, StandsFor, KeysAreApart, RemovesFor, ComesFor, removed_as}
 use Rattle.dq_growing.specs.declared.cores.TakeError.{TakeError}
-use Rattle.dq_growing.specs.Notes.{ArePastIn}
+use Rattle.dq_growing.specs.Notes.{ArePastIn, AllArePast}
 use Rattle.dq_core.specs.AtTheCall.{linked_in}
 use Rattle.dq_core.specs.Slots.{row_at}
 use Rattle.dq_core.specs.declared.slots.Held.{Held}
@@ -550,6 +550,10 @@ module _ {T W : Type 0} (s : StoreState T W) (law : IsStore s) (u : EntryId) whe
       let there = stands_there p at e z in
       no_core there.0 there.1 there.2 (sym there.3.shard)
 
+  pub tells_place : (o : Option EntryId) → meant_place s.notes u ≡ o → TellsPlaceFor s u o
+  tells_place None at = none_meant at
+  tells_place (Some p) at = stands_there p at
+
   -- what its core tells of it
   pub none_found : AreCores s.cores → (p : EntryId) (i : ℕ) (c : Core T W) → meant_place s.notes u ≡ Some p → HasAt s.cores.cores p.shard i c → IsMissing c p → NoneStandsFor s u
   none_found cores p i c at here missing e z =
@@ -573,6 +577,12 @@ module _ {T W : Type 0} (s : StoreState T W) (law : IsStore s) (u : EntryId) whe
       → MatchOption o (IsMissing c p) (λ x. HoldsValue c p (v x)) → MatchOption o (NoneStandsFor s u) (λ x. HasFor s u (v x))
   found_by cores p i c at here lawful {X} v None missing = none_found cores p i c at here missing
   found_by cores p i c at here lawful {X} v (Some x) holds = value_found p i c (v x) lawful at here holds
+
+-- why a core doesn't come in, once no note stands against it
+pub refused_for : {T W X : Type 0} (s : StoreState T W) (c : Core T W) (cores : CoreRow T W) (r : Result X (TakeError × Core T W)) → AllArePast s.notes c
+    → IfErr r (λ e. TakeRefused s.cores c e.0 × (e.1 ≡ c) × (cores ≡ s.cores)) → IfErr r (λ e. TakeRefusedFor s c e.0)
+refused_for {T} {W} {X} s c cores (Ok x) past refused = tt {0}
+refused_for {T} {W} {X} s c cores (Err e) past refused = inr (past, refused.0)
 
 -- what a core tells of its first entries
 module _ {T W : Type 0} (s : StoreState T W) (place : ℕ) (c : Core T W) (at : IsCoreAt s.cores.cores place c) where

@@ -40,6 +40,10 @@ ArePastBy k c = k.0 ≡ c.shard → k.2 ≤ (table_at (machine c) k.1).stamp
 abbrev pub ArePastIn : {T W : Type 0} → Pairs → Core T W → Type 0
 ArePastIn p c = (k o : EntryId) → with_id p k ≡ Some o → ArePastBy (numbers_of k) c
 
+-- no id has another with it
+abbrev pub HasNone : Pairs → Type 0
+HasNone p = (k : EntryId) → with_id p k ≡ None
+
 -- every id has what it had
 abbrev pub SamePairs : Pairs → Pairs → Type 0
 SamePairs p q = (k : EntryId) → with_id q k ≡ with_id p k
@@ -55,6 +59,10 @@ AreNotes n =
     (u p : EntryId) →
     (with_id n.places u ≡ Some p → with_id n.users p ≡ Some u)
     × (with_id n.users p ≡ Some u → with_id n.places u ≡ Some p)
+
+-- no id of a note, a user's or a place's, is ahead of its slot's stamp in a core of its number
+abbrev pub AllArePast : {T W : Type 0} → Book → Core T W → Type 0
+AllArePast n c = ArePastIn n.places c × ArePastIn n.users c
 
 -- the id that the user of a place has: its own, where nothing is noted
 abbrev pub or_own : EntryId → Option EntryId → EntryId

@@ -20,11 +20,14 @@ use Rattle.dq_core.specs.declared.errors.ReapError.TheVariants.{Missing as NotTh
 use Rattle.dq_core.specs.Core.{Core}
 use Rattle.dq_core.specs.Machine.{Entry}
 use Rattle.dq_core.specs.Readers.{TellsLeast, TellsFirst}
-use Rattle.dq_growing.specs.Cores.{CoreRow, IsCoreAt, OnCoreOr, missing_error}
+use Rattle.dq_growing.specs.Cores.{CoreRow, IsCoreAt, OnCoreOr, TakeRefused, missing_error}
 use Rattle.dq_growing.specs.Polls.{PollsRow, PeeksIn}
 use Rattle.dq_growing.specs.Stands.{HasEntry, IsPastIn, OneComes, OthersStand}
 use Rattle.dq_growing.specs.Moving.{IsTakenOut, IsBaseIn, Relocates}
-use Rattle.dq_growing.specs.Notes.{Book, AreNotes, SameNotes, LosesNote, IsNoted, with_id, user_at, meant_place}
+use Rattle.dq_growing.specs.Notes.{Book, AreNotes, AllArePast, SameNotes, LosesNote, IsNoted}
+use Rattle.dq_growing.specs.Notes.{with_id, user_at, meant_place}
+use Rattle.dq_growing.specs.declared.cores.TakeError.{TakeError}
+use Rattle.dq_growing.specs.declared.cores.TakeError.TheVariants.{UsedNumber}
 
 -- a store: its cores, and the notes of entries that were moved
 pub record StoreState (T W : Type 0) : Type 0 where
@@ -115,6 +118,11 @@ module _ {T W : Type 0} where
   -- under a user's id an entry stands with that value, live or cancelled
   abbrev pub HasFor : StoreState T W → EntryId → T → Type 0
   HasFor s u v = (e : Entry T) × StandsFor s u e × (e.value ≡ v)
+
+  -- where an entry that stands under a user's id is; where there is no such place, none stands
+  abbrev pub TellsPlaceFor : StoreState T W → EntryId → Option EntryId → Type 0
+  TellsPlaceFor s u None = NoneStandsFor s u
+  TellsPlaceFor s u (Some p) = (e : Entry T) → StandsFor s u e → HasEntry s.cores p e
 
   -- no two entries have one user's id
   abbrev pub KeysAreApart : StoreState T W → Type 0
@@ -253,3 +261,10 @@ module _ {T W : Type 0} where
       (λ p. OnCoreOr p.shard (λ b c. Reaps shared b p r c) (r ≡ Err NotThere) s.cores t.cores
       × NotesReaped s r t p)
       ((r ≡ Err NotThere) × (t ≡ s))
+
+  -- why a core doesn't come in: first for a note that has an id which the core may give anew, and then
+  -- as cores refuse it
+  abbrev pub TakeRefusedFor : StoreState T W → Core T W → TakeError → Type 0
+  TakeRefusedFor s c e =
+      ((e ≡ UsedNumber) × (¬ AllArePast s.notes c))
+      ⊎ (AllArePast s.notes c × TakeRefused s.cores c e)

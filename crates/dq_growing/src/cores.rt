@@ -273,6 +273,7 @@ impl<T, W: Words, A: Allocator> Cores<T, W, A> {
         // Exactly: a reset in the core of that number, and nothing else changes.
         ensures resets { OnCoreOr entry.now.shard (λ b c. Resets W.shared b entry.now when result c)
             (result ≡ Err (missing_error when)) self.old self.new }
+        ensures words { KeepsWords W.origin W.begun self.old self.new }
     {
         let Some(at) = self.place_of(entry.shard()) else {
             return Err(missing_at(when));
@@ -296,6 +297,7 @@ impl<T, W: Words, A: Allocator> Cores<T, W, A> {
         ensures tells { OnCoreOr entry.now.shard
             (λ b c. TellsDeadline W.shared b entry.now result c)
             (result ≡ Err Missing) self.old self.new }
+        ensures words { KeepsWords W.origin W.begun self.old self.new }
     {
         let Some(at) = self.place_of(entry.shard()) else {
             return Err(CoreError::Missing);
@@ -320,6 +322,7 @@ impl<T, W: Words, A: Allocator> Cores<T, W, A> {
 
         // Exactly: an insert into the open core, and nothing else changes.
         ensures inserts { InsertsIn self.old value when result self.new }
+        ensures words { KeepsWords W.origin W.begun self.old self.new }
     {
         if self.opened >= self.cores.len() {
             return (Err((closed_at(when), value)), None);

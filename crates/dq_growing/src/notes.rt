@@ -1,8 +1,8 @@
 //! Where moved entries are, by the ids that their users have.
 
-ghost use Rattle.std.specs.Prelude.{◌≡◌, true, ◌<◌, ◌≤◌, IfOk, OnOk, None, Some};
+ghost use Rattle.std.specs.Prelude.{◌≡◌, true, false, ◌<◌, ◌≤◌, IfOk, OnOk, None, Some};
 ghost use Rattle.dq_ticks.specs.Keys.{EntryName};
-ghost use Rattle.dq_growing.specs.Notes.{numbers_of, with_id, ArePastBy, ArePastIn, user_at, meant_place, SetsPair, SamePairs, TakesPair, AreNotes, HasNoteRoom, SameNotes, IsNoted, Forgets};
+ghost use Rattle.dq_growing.specs.Notes.{numbers_of, with_id, HasNone, ArePastBy, ArePastIn, AllArePast, user_at, meant_place, SetsPair, SamePairs, TakesPair, AreNotes, HasNoteRoom, SameNotes, IsNoted, Forgets};
 
 use dq_core::{DelayCore, Words};
 use dq_ticks::EntryId;
@@ -23,7 +23,8 @@ fn is_past_in<T, W: Words, A: Allocator>(
     numbers: &(u32, u32, u32),
     core: &DelayCore<T, W, A>,
 ) -> bool
-    ensures { result ≡ true → ArePastBy numbers.now core.now }
+    ensures yes { result ≡ true → ArePastBy numbers.now core.now }
+    ensures no { result ≡ false → ¬ ArePastBy numbers.now core.now }
 {
     if numbers.0 != core.shard() {
         return true;
@@ -49,11 +50,19 @@ impl<A: Allocator> Model for PairTable<A> {
 impl<A: Allocator + Clone> PairTable<A> {
     // No ids.
     pub(crate) fn new(alloc: A) -> PairTable<A>
-        ensures { (id : EntryName) → with_id result id ≡ None }
+        ensures { HasNone result }
     {
         PairTable {
             map: HashMap::new(alloc),
         }
+    }
+
+    // Whether no id has another.
+    #[inline]
+    fn is_empty(&self) -> bool
+        ensures { result ≡ true → HasNone self.now }
+    {
+        self.map.is_empty()
     }
 
     // What an id has with it.
@@ -66,7 +75,8 @@ impl<A: Allocator + Clone> PairTable<A> {
 
     // Whether no id is ahead in a core of its number.
     fn are_past_in<T, W: Words, C: Allocator>(&self, core: &DelayCore<T, W, C>) -> bool
-        ensures { result ≡ true → ArePastIn self.now core.now }
+        ensures yes { result ≡ true → ArePastIn self.now core.now }
+        ensures no { result ≡ false → ¬ ArePastIn self.now core.now }
     {
         for numbers in self.map.keys() {
             if !is_past_in(numbers, core) {
@@ -158,9 +168,13 @@ impl<A: Allocator + Clone> Notes<A> {
     }
 
     /// The place that a user's id means: its own, where nothing is noted; none, where another's entry is there.
+    #[inline]
     pub fn place(&self, user: &EntryId) -> Option<EntryId>
         ensures { result ≡ meant_place self.now user.now }
     {
+        if self.places.is_empty() {
+            return Some(*user);
+        }
         let Some(place) = self.places.find(user) else {
             let None = self.users.find(user) else {
                 return None;
@@ -171,9 +185,13 @@ impl<A: Allocator + Clone> Notes<A> {
     }
 
     /// The id that the user of a place has: its own, where nothing is noted.
+    #[inline]
     pub fn user(&self, place: &EntryId) -> EntryId
         ensures { result ≡ user_at self.now place.now }
     {
+        if self.places.is_empty() {
+            return *place;
+        }
         let Some(user) = self.users.find(place) else {
             return *place;
         };
@@ -182,8 +200,8 @@ impl<A: Allocator + Clone> Notes<A> {
 
     /// Whether no id of a note, a user's or a place's, is ahead of its slot's stamp in a core of its number.
     pub fn are_past_in<T, W: Words, C: Allocator>(&self, core: &DelayCore<T, W, C>) -> bool
-        ensures { result ≡ true → ArePastIn self.now.places core.now
-            × ArePastIn self.now.users core.now }
+        ensures yes { result ≡ true → AllArePast self.now core.now }
+        ensures no { result ≡ false → ¬ AllArePast self.now core.now }
     {
         self.places.are_past_in(core) && self.users.are_past_in(core)
     }
@@ -213,9 +231,13 @@ impl<A: Allocator + Clone> Notes<A> {
     }
 
     /// Takes away the note of a place, and returns its user's id, none where nothing was noted.
+    #[inline]
     pub fn forget(&mut self, place: &EntryId) -> Option<EntryId>
         ensures { Forgets self.old place.now result self.new }
     {
+        if self.places.is_empty() {
+            return None;
+        }
         let Some(user) = self.users.find(place) else {
             return None;
         };

@@ -7,7 +7,7 @@ ghost use Rattle.dq_core.specs.Asides.{waiting_in};
 ghost use Rattle.dq_core.specs.Machine.{NoneLinked, NoneLiveBefore};
 ghost use Rattle.dq_core.specs.Calls.{TellsWake};
 ghost use Rattle.dq_growing.specs.Cores.{IsCoreAt};
-ghost use Rattle.dq_growing.specs.Stands.{Ages};
+ghost use Rattle.dq_growing.specs.Stands.{Ages, KeepsWords};
 ghost use Rattle.dq_growing.specs.Polls.{TellsLeastBelow, WakeBounds, PollsRow, DoesPoll, DoesPiece, TellsDue, told, IfPieceOut, IfPieceRests, OthersAreQuiet, PollsCore, HasTurn, NoneLiveIn, TellsWakeIn, PeeksIn, NoneWaits, TakesAsideIn};
 
 use crate::NEVER;
@@ -134,6 +134,7 @@ impl<T, W: Words, A: Allocator> Cores<T, W, A> {
 
         // Exactly: one core is polled, or nothing is due.
         ensures polls { PollsRow (DoesPoll W.shared) self.old tick result self.new }
+        ensures words { KeepsWords W.origin W.begun self.old self.new }
     {
         if tick > LAST_TICK {
             return Err(CoreError::TickTooLarge { limit: LAST_TICK });
@@ -171,6 +172,7 @@ impl<T, W: Words, A: Allocator> Cores<T, W, A> {
 
         // Exactly: a piece of one core's poll, or nothing is due.
         ensures polls { PollsRow (DoesPiece W.shared most) self.old tick result self.new }
+        ensures words { KeepsWords W.origin W.begun self.old self.new }
     {
         if tick > LAST_TICK {
             return Err(CoreError::TickTooLarge { limit: LAST_TICK });
@@ -196,6 +198,7 @@ impl<T, W: Words, A: Allocator> Cores<T, W, A> {
         ensures ahead { IfPieceRests (Ok result) (λ next. IfSome next (λ t. self.new.noted < t)) }
         ensures ages { Ages self.old self.new }
         ensures polls { PollsCore (DoesPoll W.shared) self.old result self.new }
+        ensures words { KeepsWords W.origin W.begun self.old self.new }
     {
         let noted = self.noted;
         let answer = self.cores[place].poll_deferring(noted.min(others));
@@ -218,6 +221,7 @@ impl<T, W: Words, A: Allocator> Cores<T, W, A> {
         ensures ahead { IfPieceRests (Ok result) (λ next. IfSome next (λ t. self.new.noted < t)) }
         ensures ages { Ages self.old self.new }
         ensures polls { PollsCore (DoesPiece W.shared most) self.old result self.new }
+        ensures words { KeepsWords W.origin W.begun self.old self.new }
     {
         let noted = self.noted;
         let answer = self.cores[place].poll_some_deferring(noted.min(others), most);

@@ -4,11 +4,11 @@ ghost use Rattle.dq_core.specs.declared.errors.CoreError.TheVariants.{Worn};
 ghost use Rattle.std.specs.Prelude.{◌≡◌, ◌↔◌, IsTrue, IfSome, IfNone, IfErr, IfOk, OnOk, OnErr, Ok, Err, None, Some};
 ghost use Rattle.dq_growing.specs.Cores.{InsertsIn, TakesIn, GivesDrained, NoneDrained};
 ghost use Rattle.dq_ticks.specs.Keys.{EntryName};
-ghost use Rattle.dq_growing.specs.Stands.{OneLeaves, SameStand};
-ghost use Rattle.dq_growing.specs.Store.{key_as, key_told, removed_as, expired_as, moved_as, answer_as, NotesMoved, NotesAnswered, IsStore, KeysAreApart, StandsFor, ComesFor, GoesOnFor, RemovesFor, TellsFor, RelocatesFor, PollsFor, PeeksFor, piece_as, NotesAfter, ReapsFor, ResetsFor};
+ghost use Rattle.dq_growing.specs.Stands.{OneLeaves, SameStand, KeepsWords};
+ghost use Rattle.dq_growing.specs.Store.{key_as, key_told, removed_as, expired_as, moved_as, answer_as, NotesMoved, NotesAnswered, IsStore, KeysAreApart, StandsFor, ComesFor, GoesOnFor, RemovesFor, TellsFor, RelocatesFor, PollsFor, PeeksFor, piece_as, NotesAfter, ReapsFor, ResetsFor, TakeRefusedFor, TellsPlaceFor};
 ghost use Rattle.dq_growing.specs.Moving.{IfTo, IfCameOut};
 ghost use Rattle.dq_growing.specs.Polls.{DoesPoll, DoesPiece};
-ghost use Rattle.dq_growing.specs.Notes.{HasNoteRoom, ArePastIn, user_at, with_id};
+ghost use Rattle.dq_growing.specs.Notes.{HasNoteRoom, AllArePast, user_at, with_id};
 
 use crate::cores::{Cores, TakeError, missing_at};
 use crate::moving::{Moved, NextDeadline};
@@ -205,6 +205,7 @@ impl<T, W: Words, A: Allocator + Clone> Store<T, W, A> {
         // Exactly: an insert into the open core, and the same notes.
         ensures inserts { InsertsIn self.old.cores value when result self.new.cores }
         ensures notes { self.new.notes ≡ self.old.notes }
+        ensures words { KeepsWords W.origin W.begun self.old.cores self.new.cores }
     {
         self.cores.law();
         let answer = self.cores.insert(value, when);
@@ -227,6 +228,7 @@ impl<T, W: Words, A: Allocator + Clone> Store<T, W, A> {
 
         // Exactly: a removal at the place that the notes tell, of which no note is left.
         ensures removes { RemovesFor W.shared self.old entry.now result self.new }
+        ensures words { KeepsWords W.origin W.begun self.old.cores self.new.cores }
     {
         let Some(place) = self.notes.place(entry) else {
             return Err(CoreError::Missing);
@@ -249,6 +251,7 @@ impl<T, W: Words, A: Allocator + Clone> Store<T, W, A> {
     /// - `WasCancelled` if the entry was cancelled.
     pub fn deadline(&mut self, entry: &EntryId) -> Result<u64, CoreError>
         ensures tells { TellsFor W.shared self.old entry.now result self.new }
+        ensures words { KeepsWords W.origin W.begun self.old.cores self.new.cores }
     {
         let Some(place) = self.notes.place(entry) else {
             return Err(CoreError::Missing);
@@ -288,6 +291,7 @@ impl<T, W: Words, A: Allocator + Clone> Store<T, W, A> {
 
         // Exactly: a move from the place that the notes tell, and its note; or which refusal comes.
         ensures relocates { RelocatesFor W.shared self.old entry.now next result self.new }
+        ensures words { KeepsWords W.origin W.begun self.old.cores self.new.cores }
     {
         let Some(place) = self.notes.place(entry) else {
             return (Err(CoreError::Missing), None);
@@ -311,6 +315,7 @@ impl<T, W: Words, A: Allocator + Clone> Store<T, W, A> {
     pub fn poll(&mut self, tick: u64) -> Result<Piece<T>, CoreError>
         // Exactly: a poll of the cores. What comes out has its user's key, and leaves no note.
         ensures polls { PollsFor (DoesPoll W.shared) self.old tick result self.new }
+        ensures words { KeepsWords W.origin W.begun self.old.cores self.new.cores }
     {
         let made = self.cores.poll(tick);
         let answer = note_out(&mut self.notes, made);
@@ -326,6 +331,7 @@ impl<T, W: Words, A: Allocator + Clone> Store<T, W, A> {
     pub fn poll_some(&mut self, tick: u64, most: u32) -> Result<Piece<T>, CoreError>
         // Exactly: a piece of a poll of the cores. What comes out has its user's key, and leaves no note.
         ensures polls { PollsFor (DoesPiece W.shared most) self.old tick result self.new }
+        ensures words { KeepsWords W.origin W.begun self.old.cores self.new.cores }
     {
         let made = self.cores.poll_some(tick, most);
         let answer = note_out(&mut self.notes, made);
@@ -361,6 +367,7 @@ impl<T, W: Words, A: Allocator + Clone> Store<T, W, A> {
     pub fn reset(&mut self, entry: &EntryId, when: u64) -> (Result<Key, CoreError>, Option<T>)
         // Exactly: a reset at the place that the notes tell, or a move from there.
         ensures resets { ResetsFor W.shared self.old entry.now when result self.new }
+        ensures words { KeepsWords W.origin W.begun self.old.cores self.new.cores }
     {
         let Some(place) = self.notes.place(entry) else {
             return (Err(missing_at(when)), None);
@@ -384,6 +391,7 @@ impl<T, W: Words, A: Allocator + Clone> Store<T, W, A> {
     pub fn reap(&mut self, entry: &EntryId) -> Result<(), ReapError>
         // Exactly: a reap at the place that the notes tell, of which no note is left.
         ensures reaps { ReapsFor W.shared self.old entry.now result self.new }
+        ensures words { KeepsWords W.origin W.begun self.old.cores self.new.cores }
     {
         let Some(place) = self.notes.place(entry) else {
             return Err(ReapError::Missing);
@@ -411,8 +419,8 @@ impl<T, W: Words, A: Allocator + Clone> Store<T, W, A> {
     ) -> Result<(), (TakeError, DelayCore<T, W, A>)>
         // It comes in as cores do, where it gives no id anew that a note has, and the notes stay.
         ensures takes { OnOk result (TakesIn self.old.cores core self.new.cores) }
-        ensures past { OnOk result (ArePastIn self.old.notes.places core
-            × ArePastIn self.old.notes.users core) }
+        ensures past { OnOk result (AllArePast self.old.notes core) }
+        ensures refused { IfErr result (λ e. TakeRefusedFor self.old core e.0) }
         ensures back { IfErr result (λ e. (e.1 ≡ core) × (self.new.cores ≡ self.old.cores)) }
         ensures notes { self.new.notes ≡ self.old.notes }
     {

@@ -3,7 +3,7 @@
 ghost use Rattle.std.specs.Prelude.{◌≡◌, ◌<◌, ◌≤◌, ◌+◌, MatchOption, Some, None, Err, length};
 ghost use Rattle.dq_core.specs.declared.errors.ReapError.TheVariants.{Missing};
 ghost use Rattle.dq_core.specs.Sweeps.{Clears, Reaps};
-ghost use Rattle.dq_growing.specs.Stands.{Ages};
+ghost use Rattle.dq_growing.specs.Stands.{Ages, KeepsWords};
 ghost use Rattle.dq_growing.specs.Cores.{OnCoreAt, OnCoreOr, SweepsFrom};
 
 use crate::cores::Cores;
@@ -22,6 +22,7 @@ impl<T, W: Words, A: Allocator> Cores<T, W, A> {
         ensures ages { Ages self.old self.new }
         ensures reaps { OnCoreOr entry.now.shard (λ b c. Reaps W.shared b entry.now result c)
             (result ≡ Err Missing) self.old self.new }
+        ensures words { KeepsWords W.origin W.begun self.old self.new }
     {
         let Some(at) = self.place_of(entry.shard()) else {
             return Err(ReapError::Missing);
@@ -40,6 +41,7 @@ impl<T, W: Words, A: Allocator> Cores<T, W, A> {
             ((length self.old.cores ≤ place) × (self.new ≡ self.old))
             (λ swept. OnCoreAt place
             (SweepsFrom W.shared from (from + count) swept) self.old self.new) }
+        ensures words { KeepsWords W.origin W.begun self.old self.new }
     {
         if place >= self.cores.len() {
             return None;

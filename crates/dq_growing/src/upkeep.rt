@@ -2,9 +2,10 @@
 
 ghost use Rattle.std.specs.Prelude.{◌≡◌, ◌+◌, true, false, ◌<◌, ◌≤◌, MatchOption, OnOk, length};
 ghost use Rattle.dq_growing.specs.Cores.{OnCoreAt, SweepsFrom};
-ghost use Rattle.dq_growing.specs.Notes.{HasNoteRoom, SameNotes};
+ghost use Rattle.dq_growing.specs.Notes.{HasNoteRoom, SameNotes, meant_place};
 ghost use Rattle.dq_growing.specs.Polls.{TakesAsideIn};
-ghost use Rattle.dq_growing.specs.Store.{HasFor, NoneStandsFor, TellsFirstIn, TellsFrom};
+ghost use Rattle.dq_growing.specs.Stands.{KeepsWords};
+ghost use Rattle.dq_growing.specs.Store.{HasFor, NoneStandsFor, TellsFirstIn, TellsFrom, TellsPlaceFor};
 
 use crate::cores::Cores;
 use crate::store::Store;
@@ -19,6 +20,18 @@ impl<T, W: Words, A: Allocator + Clone> Store<T, W, A> {
         ensures { result.now ≡ self.now.cores }
     {
         &self.cores
+    }
+
+    /// Returns where an entry is: the id under which its core has it, its own if it wasn't moved. It doesn't look whether the
+    /// entry is still there, and returns none if no entry of the store has that id for its user.
+    #[inline]
+    pub fn place(&self, entry: &EntryId) -> Option<EntryId>
+        // It is what the notes tell; and an entry that is there under its user's id is at that place.
+        ensures noted { result ≡ meant_place self.now.notes entry.now }
+        ensures tells { TellsPlaceFor self.now entry.now result }
+    {
+        let place = self.notes.place(entry);
+        place
     }
 
     /// Returns the value of an entry. It returns none if the entry isn't in the store any more, or never was. A cancelled
@@ -104,6 +117,7 @@ impl<T, W: Words, A: Allocator + Clone> Store<T, W, A> {
             (λ swept. OnCoreAt place
             (SweepsFrom W.shared from (from + count) swept) self.old.cores self.new.cores) }
         ensures notes { self.new.notes ≡ self.old.notes }
+        ensures words { KeepsWords W.origin W.begun self.old.cores self.new.cores }
     {
         let swept = self.cores.sweep_some(place, from, count);
         swept

@@ -47,13 +47,9 @@ impl<T, W: Words> DelayCore<T, W> {
 /// What the queue that threads share asks of the store of one owner, beside its calls.
 #[cfg(feature = "std")]
 impl<T, W: Words> Store<T, W> {
-    pub(crate) fn place(&self, entry: &EntryId) -> Option<EntryId> {
-        self.notes.place(entry)
-    }
-
     /// As [`DelayCore::get_mut`].
     pub(crate) fn get_mut(&mut self, entry: &EntryId) -> Option<&mut T> {
-        let entry = self.notes.place(entry)?;
+        let entry = self.place(entry)?;
         let place = self.cores.place_of(entry.shard())?;
         nth_mut(&mut self.cores.cores, place).get_mut(&entry)
     }

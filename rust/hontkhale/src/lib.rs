@@ -82,6 +82,8 @@ mod debug;
 mod delay_queue;
 mod entries;
 mod fresh;
+#[cfg(feature = "std")]
+mod hasher;
 mod index;
 mod law;
 #[cfg(feature = "std")]

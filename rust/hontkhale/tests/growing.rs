@@ -20,5 +20,7 @@ mod queue;
 mod refusing;
 #[path = "growing/run.rs"]
 mod run;
+#[path = "growing/store.rs"]
+mod store;
 #[path = "models/value.rs"]
 mod value;

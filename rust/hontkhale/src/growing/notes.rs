@@ -1,6 +1,7 @@
 //! Where moved entries are, by the ids that their users have.
 
 use crate::core::{DelayCore, Words};
+use crate::hasher::NumberHash;
 use crate::memory::AllocError;
 use crate::ticks::EntryId;
 use std::collections::HashMap;
@@ -20,13 +21,21 @@ fn is_past_in<T, W: Words>(numbers: &(u32, u32, u32), core: &DelayCore<T, W>) ->
 
 // Ids, each with another.
 pub(crate) struct PairTable {
-    map: HashMap<(u32, u32, u32), EntryId>,
+    map: HashMap<(u32, u32, u32), EntryId, NumberHash>,
 }
 
 impl PairTable {
     // No ids.
     pub(crate) fn new() -> PairTable {
-        PairTable { map: HashMap::new() }
+        PairTable {
+            map: HashMap::default(),
+        }
+    }
+
+    // Whether no id has another.
+    #[inline]
+    fn is_empty(&self) -> bool {
+        self.map.is_empty()
     }
 
     // What an id has with it.
@@ -90,7 +99,11 @@ impl Notes {
     }
 
     /// The place that a user's id means: its own, where nothing is noted; none, where another's entry is there.
+    #[inline]
     pub fn place(&self, user: &EntryId) -> Option<EntryId> {
+        if self.places.is_empty() {
+            return Some(*user);
+        }
         let Some(place) = self.places.find(user) else {
             let None = self.users.find(user) else {
                 return None;
@@ -101,7 +114,11 @@ impl Notes {
     }
 
     /// The id that the user of a place has: its own, where nothing is noted.
+    #[inline]
     pub fn user(&self, place: &EntryId) -> EntryId {
+        if self.places.is_empty() {
+            return *place;
+        }
         let Some(user) = self.users.find(place) else {
             return *place;
         };
@@ -133,7 +150,11 @@ impl Notes {
     }
 
     /// Takes away the note of a place, and returns its user's id, none where nothing was noted.
+    #[inline]
     pub fn forget(&mut self, place: &EntryId) -> Option<EntryId> {
+        if self.places.is_empty() {
+            return None;
+        }
         let user = self.users.find(place)?;
         self.places.take(&user);
         self.users.take(place);

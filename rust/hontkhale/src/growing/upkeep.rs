@@ -13,6 +13,13 @@ impl<T, W: Words> Store<T, W> {
         &self.cores
     }
 
+    /// Returns where an entry is: the id under which its core has it, its own if it wasn't moved. It doesn't look whether the
+    /// entry is still there, and returns none if no entry of the store has that id for its user.
+    #[inline]
+    pub fn place(&self, entry: &EntryId) -> Option<EntryId> {
+        self.notes.place(entry)
+    }
+
     /// Returns the value of an entry. It returns none if the entry isn't in the store any more, or never was. A cancelled
     /// entry has its value until it is freed. Constant time.
     pub fn get(&self, entry: &EntryId) -> Option<&T> {

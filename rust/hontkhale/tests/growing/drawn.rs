@@ -1,12 +1,13 @@
-//! Drawn calls of a row of cores, each answer of which the model knows.
+//! Drawn calls of a row of cores, and of a store, each answer of which the model knows.
 
-use super::draw::calls;
+use super::draw::{calls, Draw};
 use super::run::Run;
-
-type Call = fn(&mut Run);
+use super::store;
 
 // The calls of a round, each as often as its weight.
-const CALLS: &[(u64, Call)] = &[
+type Calls<R> = &'static [(u64, fn(&mut R))];
+
+const CALLS: Calls<Run> = &[
     (30, Run::insert),
     (3, Run::remove),
     (14, Run::reset),
@@ -30,14 +31,33 @@ const CALLS: &[(u64, Call)] = &[
     (2, Run::cores),
 ];
 
+const STORE_CALLS: Calls<store::Run> = &[
+    (30, store::Run::insert),
+    (4, store::Run::remove),
+    (14, store::Run::reset),
+    (10, store::Run::relocate),
+    (4, store::Run::deadline),
+    (12, store::Run::step),
+    (4, store::Run::reap),
+    (14, store::Run::poll),
+    (2, store::Run::peek),
+    (8, store::Run::take_aside),
+    (4, store::Run::sweep_some),
+    (4, store::Run::names),
+    (8, store::Run::exchange),
+    (1, store::Run::take_refused),
+    (10, store::Run::take_drained),
+    (4, store::Run::open),
+];
+
 /// How many calls are made of one row.
 const ROUND: u64 = 2_000;
 
-fn draws(run: &mut Run) {
-    let all: u64 = CALLS.iter().map(|it| it.0).sum();
+fn draws<R>(run: &mut R, calls: Calls<R>, draw: fn(&mut R) -> &mut Draw) {
+    let all: u64 = calls.iter().map(|it| it.0).sum();
     for _ in 0..ROUND {
-        let mut drawn = run.draw.below(all);
-        let call = CALLS.iter().find(|it| {
+        let mut drawn = draw(run).below(all);
+        let call = calls.iter().find(|it| {
             let is_it = drawn < it.0;
             drawn = drawn.saturating_sub(it.0);
             is_it
@@ -51,7 +71,17 @@ fn draws(run: &mut Run) {
 fn drawn_calls_of_a_row_answer_as_the_model_does() {
     for round in 0..calls().div_ceil(ROUND) {
         let mut run = Run::new(round);
-        draws(&mut run);
+        draws(&mut run, CALLS, |run| &mut run.draw);
+        run.ends();
+    }
+}
+
+// promise: growing.by-id growing.notes growing.upkeep
+#[test]
+fn drawn_calls_of_a_store_answer_as_the_model_does() {
+    for round in 0..calls().div_ceil(ROUND) {
+        let mut run = store::Run::new(round);
+        draws(&mut run, STORE_CALLS, |run| &mut run.draw);
         run.ends();
     }
 }

@@ -2,6 +2,7 @@ use Rattle.std.proofs.Common.{sym, arith}
 use Rattle.dq_growing.specs.Cores.{CoreRow, IsCoreAt}
 use Rattle.dq_growing.proofs.Quiet.{quiet_after, tells_noted, tells_late}
 use Rattle.dq_growing.proofs.Rows.{keeps_law, on_found, missing_in}
+use Rattle.dq_growing.proofs.Standing.{found_at, words_in}
 use Rattle.dq_growing.proofs.cores.Cores.deadline.Goals as goal
 
 pub returns-clause-tells : goal.returns-clause-tells
@@ -26,3 +27,11 @@ invariant_of-self g c =
     let at : IsCoreAt s.cores c.in-Some.at b = (inside, sym c.index_mut.ensures.value) in
     let noted = tells_noted _ b a c.args.entry.now _ c.deadline-answer.ensures.tells in
     (keeps_law s c.in-Some.at b a c.self.invariant.0 at c.deadline-answer.ensures.same.0 (omega arith), quiet_after s i.turn i.others i.others c.in-Some.at b a c.self.invariant.1 at (omega arith) (λ before. tells_late _ b a i.others before c.args.entry.now _ c.deadline-answer.ensures.tells))
+
+pub returns-clause-words : goal.returns-clause-words
+returns-clause-words g c =
+    let r = c.deadline-answer in
+    let found = rw (c.shard.ensures, ← c.self.view_is) at c.in-Some.ensures.found in
+    let at = found_at _ c.in-Some.at c.args.entry.now c.index_mut.result.now r.new.self c.self.invariant.0 found c.index_mut.ensures.value r.ensures.same.0 in
+    rw (← c.self.view_is)
+    (words_in _ c.in-Some.at c.index_mut.result.now r.new.self c.self.invariant.0 at r.ensures.same.0 g.W.Words.origin g.W.Words.begun r.ensures.origin r.ensures.begun)

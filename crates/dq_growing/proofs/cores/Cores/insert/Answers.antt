@@ -2,6 +2,7 @@ use Rattle.std.proofs.Common.{sym, arith, length, ◌<◌, rules, inl}
 use Rattle.dq_growing.proofs.Rows.{keeps_law, on_place}
 use Rattle.dq_growing.specs.Cores.{CoreRow, IsCoreAt}
 use Rattle.dq_growing.proofs.Quiet.{quiet_later, inserts_late, inserts_noted}
+use Rattle.dq_growing.proofs.Standing.{words_in}
 use Rattle.dq_growing.proofs.cores.Cores.insert.Goals as goal
 
 pub returns-clause-inserts : goal.returns-clause-inserts
@@ -23,3 +24,10 @@ invariant_of-self g c =
       keeps_law s i.opened b a c.self.invariant.0 at c.insert_deferring-answer.ensures.same.0 (omega arith),
       rw c.lowered-self-inside.ensures (quiet_later s i.turn i.others c.args.when i.opened b a c.self.invariant.1 at (λ t late before. inserts_late g.W.Words.shared b a t before c.args.value c.args.when _ late c.insert_deferring-answer.ensures.inserts)),
     )
+
+pub returns-clause-words : goal.returns-clause-words
+returns-clause-words g c =
+    let r = c.insert_deferring-answer in
+    let inside : c.self.inside.opened < length c.self.inside.cores.items = search rules in
+    rw (← c.self.view_is)
+    (words_in _ _ c.index_mut.result.now r.new.self c.self.invariant.0 (inside, sym c.index_mut.ensures.value) r.ensures.same.0 g.W.Words.origin g.W.Words.begun r.ensures.origin r.ensures.begun)

@@ -5,6 +5,7 @@ use Rattle.dq_growing.proofs.Quiet.{quiet_after, polls_late}
 use Rattle.dq_core.specs.declared.outcomes.Piece.TheVariants.{Answer}
 use Rattle.dq_growing.proofs.Aging.{ages_at, poll_run}
 use Rattle.dq_growing.proofs.Leasts.{polls_core, rests_core, ahead_core}
+use Rattle.dq_growing.proofs.Standing.{words_in}
 use Rattle.dq_growing.proofs.cores.Cores.poll_core.Goals as goal
 
 pub returns-clause-polls : goal.returns-clause-polls
@@ -47,3 +48,10 @@ returns-clause-ahead g c =
     let until = c.min.ensures in
     rw c.as_told.ensures
     (ahead_core c.self.inside.noted c.args.others c.poll_deferring-answer.new.self.noted (Answer c.in-Ok.turn) (omega arith) c.in-Ok.ensures.ahead)
+
+pub returns-clause-words : goal.returns-clause-words
+returns-clause-words g c =
+    let r = c.poll_deferring-answer in
+    let inside = rw (← c.self.view_is) at c.requires.place in
+    rw (← c.self.view_is)
+    (words_in _ c.args.place c.index_mut.result.now r.new.self c.self.invariant.0 (inside, sym c.index_mut.ensures.value) r.ensures.same.0 g.W.Words.origin g.W.Words.begun r.ensures.origin r.ensures.begun)

@@ -4,6 +4,7 @@ use Rattle.dq_growing.proofs.Rows.{keeps_law}
 use Rattle.dq_growing.proofs.Quiet.{quiet_after, pieces_late}
 use Rattle.dq_growing.proofs.Aging.{ages_at, piece_run}
 use Rattle.dq_growing.proofs.Leasts.{polls_core, rests_core}
+use Rattle.dq_growing.proofs.Standing.{words_in}
 use Rattle.dq_growing.proofs.cores.Cores.poll_piece.Goals as goal
 
 pub returns-clause-polls : goal.returns-clause-polls
@@ -39,3 +40,10 @@ returns-clause-ages g c =
     rw (← c.self.view_is)
     (ages_at _ c.args.place c.index_mut.result.now a.new.self c.self.invariant.0 (rw (← c.self.view_is) at c.requires.place) c.index_mut.ensures.value a.ensures.same.0
     (piece_run g.W.Words.shared c.index_mut.result.now a.new.self c.min.result c.args.most a.result a.ensures.polls))
+
+pub returns-clause-words : goal.returns-clause-words
+returns-clause-words g c =
+    let r = c.poll_some_deferring-answer in
+    let inside = rw (← c.self.view_is) at c.requires.place in
+    rw (← c.self.view_is)
+    (words_in _ c.args.place c.index_mut.result.now r.new.self c.self.invariant.0 (inside, sym c.index_mut.ensures.value) r.ensures.same.0 g.W.Words.origin g.W.Words.begun r.ensures.origin r.ensures.begun)

@@ -1,5 +1,6 @@
 use Rattle.dq_growing.proofs.Leasts.{rests_quiet}
 use Rattle.dq_growing.proofs.Aging.{all_age}
+use Rattle.dq_growing.proofs.Standing.{all_words}
 use Rattle.dq_growing.proofs.cores.Cores.poll_some.Goals as goal
 
 pub returns-in-Rests-Some-clause-rests : goal.returns-in-Rests-Some-clause-rests
@@ -19,3 +20,16 @@ returns-in-Rests-Some-clause-ages g c =
 
 pub poll_piece-requires-clause-turn : goal.poll_piece-requires-clause-turn
 poll_piece-requires-clause-turn g c = rw c.due.ensures.same c.in-In.ensures.due.2
+
+pub returns-in-In-clause-words : goal.returns-in-In-clause-words
+returns-in-In-clause-words g c = rw (← c.self.view_is) (rw c.due.ensures.same at c.poll_piece.ensures.words)
+
+pub returns-in-Rests-Some-clause-words : goal.returns-in-Rests-Some-clause-words
+returns-in-Rests-Some-clause-words g c =
+    let i = c.self.inside in
+    rw (c.due.ensures.same, ← c.self.view_is) (all_words g.W.Words.origin g.W.Words.begun (record { cores = i.cores.items; opened = i.opened; next = i.next; noted = i.noted }))
+
+pub returns-in-Rests-None-clause-words : goal.returns-in-Rests-None-clause-words
+returns-in-Rests-None-clause-words g c =
+    let i = c.self.inside in
+    rw (c.due.ensures.same, ← c.self.view_is) (all_words g.W.Words.origin g.W.Words.begun (record { cores = i.cores.items; opened = i.opened; next = i.next; noted = i.noted }))

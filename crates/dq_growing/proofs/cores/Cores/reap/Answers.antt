@@ -3,6 +3,7 @@ use Rattle.dq_growing.specs.Cores.{CoreRow, IsCoreAt}
 use Rattle.dq_growing.proofs.Quiet.{quiet_after, reap_late}
 use Rattle.dq_growing.proofs.Rows.{keeps_law, on_found}
 use Rattle.dq_growing.proofs.Aging.{ages_at, reap_run}
+use Rattle.dq_growing.proofs.Standing.{found_at, words_in}
 use Rattle.dq_growing.proofs.cores.Cores.reap.Goals as goal
 
 pub returns-clause-reaps : goal.returns-clause-reaps
@@ -28,3 +29,11 @@ returns-clause-ages g c =
     rw (← c.self.view_is)
     (ages_at _ c.in-Some.at c.index_mut.result.now a.new.self c.self.invariant.0 (rw (c.shard.ensures, ← c.self.view_is) at c.in-Some.ensures.found).1.0.0
     c.index_mut.ensures.value a.ensures.same.0 (reap_run g.W.Words.shared c.index_mut.result.now a.new.self c.args.entry.now a.result a.ensures.reaps))
+
+pub returns-clause-words : goal.returns-clause-words
+returns-clause-words g c =
+    let r = c.reap_deferring-answer in
+    let found = rw (c.shard.ensures, ← c.self.view_is) at c.in-Some.ensures.found in
+    let at = found_at _ c.in-Some.at c.args.entry.now c.index_mut.result.now r.new.self c.self.invariant.0 found c.index_mut.ensures.value r.ensures.same.0 in
+    rw (← c.self.view_is)
+    (words_in _ c.in-Some.at c.index_mut.result.now r.new.self c.self.invariant.0 at r.ensures.same.0 g.W.Words.origin g.W.Words.begun r.ensures.origin r.ensures.begun)

@@ -2,6 +2,7 @@ use Rattle.std.proofs.Common.{sym, arith}
 use Rattle.dq_growing.proofs.Rows.{keeps_law, on_found}
 use Rattle.dq_growing.specs.Cores.{CoreRow, IsCoreAt}
 use Rattle.dq_growing.proofs.Quiet.{quiet_later, resets_late, resets_noted}
+use Rattle.dq_growing.proofs.Standing.{found_at, words_in}
 use Rattle.dq_growing.proofs.cores.Cores.reset.Goals as goal
 
 pub returns-clause-resets : goal.returns-clause-resets
@@ -22,3 +23,11 @@ invariant_of-self g c =
       keeps_law s c.in-Some.at b a c.self.invariant.0 at c.reset-answer.ensures.same.0 (omega arith),
       rw c.lowered-self-inside.ensures (quiet_later s i.turn i.others c.args.when c.in-Some.at b a c.self.invariant.1 at (λ t late before. resets_late g.W.Words.shared b a t before c.args.entry.now c.args.when _ late c.reset-answer.ensures.resets)),
     )
+
+pub returns-clause-words : goal.returns-clause-words
+returns-clause-words g c =
+    let r = c.reset-answer in
+    let found = rw (c.shard.ensures, ← c.self.view_is) at c.in-Some.ensures.found in
+    let at = found_at _ c.in-Some.at c.args.entry.now c.index_mut.result.now r.new.self c.self.invariant.0 found c.index_mut.ensures.value r.ensures.same.0 in
+    rw (← c.self.view_is)
+    (words_in _ c.in-Some.at c.index_mut.result.now r.new.self c.self.invariant.0 at r.ensures.same.0 g.W.Words.origin g.W.Words.begun r.ensures.origin r.ensures.begun)

@@ -3,6 +3,7 @@ use Rattle.dq_growing.specs.Cores.{CoreRow, IsCoreAt}
 use Rattle.dq_growing.proofs.Quiet.{quiet_after, sweeps_late}
 use Rattle.dq_growing.proofs.Rows.{keeps_law, on_place}
 use Rattle.dq_growing.proofs.Aging.{ages_at, sweep_run}
+use Rattle.dq_growing.proofs.Standing.{words_in}
 use Rattle.dq_growing.proofs.cores.Cores.sweep_some.Goals as goal
 
 pub returns-clause-sweeps : goal.returns-clause-sweeps
@@ -30,3 +31,10 @@ invariant_of-self g c =
     let at : IsCoreAt s.cores c.args.place b = (inside, sym c.index_mut.ensures.value) in
     let noted = c.sweep_some_deferring-swept.ensures.noted in
     (keeps_law s c.args.place b a c.self.invariant.0 at c.sweep_some_deferring-swept.ensures.same.0 (omega arith), quiet_after s i.turn i.others i.others c.args.place b a c.self.invariant.1 at (omega arith) (λ before. sweeps_late _ b a i.others before _ _ _ c.sweep_some_deferring-swept.ensures.sweeps))
+
+pub returns-clause-words : goal.returns-clause-words
+returns-clause-words g c =
+    let r = c.sweep_some_deferring-swept in
+    let inside : c.args.place < length c.self.inside.cores.items = search rules in
+    rw (← c.self.view_is)
+    (words_in _ c.args.place c.index_mut.result.now r.new.self c.self.invariant.0 (inside, sym c.index_mut.ensures.value) r.ensures.same.0 g.W.Words.origin g.W.Words.begun r.ensures.origin r.ensures.begun)

@@ -5,4 +5,6 @@ use Rattle.dq_growing.proofs.Among.{Among}
 use Rattle.dq_growing.proofs.notes.PairTable.are_past_in.Given as goal
 
 abbrev pub invariant-loop-numbers : goal.invariant-loop-numbers
-invariant-loop-numbers g l = (k : ℕ × ℕ × ℕ) → Among k (keys_of l.self.entries) → Among k l.numbers-iterator ⊎ ArePastBy k l.core
+invariant-loop-numbers g l =
+    ((k : ℕ × ℕ × ℕ) → Among k (keys_of l.self.entries) → Among k l.numbers-iterator ⊎ ArePastBy k l.core)
+    × ((k : ℕ × ℕ × ℕ) → Among k l.numbers-iterator → Among k (keys_of l.self.entries))

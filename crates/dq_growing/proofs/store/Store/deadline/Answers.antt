@@ -11,4 +11,4 @@ invariant_of-self g c =
 
 pub returns : goal.returns
 returns g c =
-    rw (← c.self.view_is) (record { tells = inl (c.in-Some.place, sym c.place.ensures ∙ c.in-Some.is, (c.deadline-answer.ensures.tells, refl)) })
+    rw (← c.self.view_is) (record { tells = inl (c.in-Some.place, sym c.place.ensures ∙ c.in-Some.is, (c.deadline-answer.ensures.tells, refl)); words = c.deadline-answer.ensures.words })

@@ -12,3 +12,6 @@ returns-clause-comes g c =
     let i = c.self.inside in
     let a = c.insert-answer in
     rw (← c.self.view_is) (inserts_for (stored i.cores i.notes) a.new.self c.args.value c.args.when a.result c.self.invariant c.law.ensures a.ensures.inserts)
+
+pub returns-clause-words : goal.returns-clause-words
+returns-clause-words g c = rw (← c.self.view_is) c.insert-answer.ensures.words

@@ -9,7 +9,7 @@ invariant_of-self g c =
 
 pub returns-in-Err : goal.returns-in-Err
 returns-in-Err g c =
-    rw (← c.self.view_is) (record { reaps = inl (c.in-Some.place, sym c.place.ensures ∙ c.in-Some.is, (c.in-Err.ensures.reaps, refl)) })
+    rw (← c.self.view_is) (record { reaps = inl (c.in-Some.place, sym c.place.ensures ∙ c.in-Some.is, (c.in-Err.ensures.reaps, refl)); words = c.reap.ensures.words })
 
 pub invariant_of-self-2 : goal.invariant_of-self-2
 invariant_of-self-2 g c =
@@ -19,4 +19,4 @@ invariant_of-self-2 g c =
 
 pub returns : goal.returns
 returns g c =
-    rw (← c.self.view_is) (record { reaps = inl (c.in-Some.place, sym c.place.ensures ∙ c.in-Some.is, (c.in_default-reap.ensures.reaps, (c.forget.result, c.forget.ensures))) })
+    rw (← c.self.view_is) (record { reaps = inl (c.in-Some.place, sym c.place.ensures ∙ c.in-Some.is, (c.in_default-reap.ensures.reaps, (c.forget.result, c.forget.ensures))); words = c.reap.ensures.words })

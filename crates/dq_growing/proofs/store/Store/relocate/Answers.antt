@@ -2,6 +2,7 @@ use Rattle.std.proofs.Common.{inl, inr, sym, ◌∙◌}
 use Rattle.dq_growing.proofs.Aging.{all_age}
 use Rattle.dq_growing.proofs.Standing.{all_same}
 use Rattle.dq_growing.proofs.Stored.{stored, law_reserved, same_reserved, moved_free, moved_law, moved_goes, moved_out, moved_refused, moved_notes}
+use Rattle.dq_growing.proofs.Standing.{all_words}
 use Rattle.dq_growing.proofs.store.Store.relocate.Goals as goal
 
 pub invariant_of-self : goal.invariant_of-self
@@ -64,3 +65,9 @@ returns-clause-relocates g c =
     let notes = moved_notes (stored i.cores i.notes) r.new.self c.reserve.new.self a.new.notes c.args.entry.now c.in-Some.place c.self.invariant
     (sym c.place.ensures ∙ c.in-Some.is) c.reserve.ensures.same r.result.0 a.ensures.notes in
     rw (← c.self.view_is) (inl (c.in-Some.place, sym c.place.ensures ∙ c.in-Some.is, inr (r.result.0, r.ensures.relocates, a.ensures.answer, notes)))
+
+pub returns-clause-words : goal.returns-clause-words
+returns-clause-words g c = rw (← c.self.view_is) c.relocate-answer.ensures.words
+
+pub returns-then-is_err-clause-words : goal.returns-then-is_err-clause-words
+returns-then-is_err-clause-words g c = rw (← c.self.view_is) (all_words g.W.Words.origin g.W.Words.begun c.self.inside.cores)

@@ -39,3 +39,9 @@ returns-clause-removes g c =
     rw (c.removed_as.ensures, ← c.self.view_is)
     (removes_for g.W.Words.shared (stored i.cores i.notes) (stored c.remove.new.self c.forget.new.self) c.args.entry.now c.in-Some.place c.in-Ok.removed c.forget.result
     (sym c.place.ensures ∙ c.in-Some.is) c.in-Ok.ensures.removes c.forget.ensures)
+
+pub returns-clause-words : goal.returns-clause-words
+returns-clause-words g c = rw (← c.self.view_is) c.remove.ensures.words
+
+pub returns-in-Err-clause-words : goal.returns-in-Err-clause-words
+returns-in-Err-clause-words g c = rw (← c.self.view_is) c.remove.ensures.words

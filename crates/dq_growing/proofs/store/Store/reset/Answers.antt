@@ -1,5 +1,6 @@
 use Rattle.std.proofs.Common.{◌≡◌, ◌≢◌, Ok, Err, inl, inr, refl, sym, ◌∙◌, rules}
 use Rattle.dq_core.specs.declared.errors.CoreError.TheVariants.{Worn}
+use Rattle.dq_growing.proofs.Moves.{then_words}
 use Rattle.dq_growing.proofs.Stored.{stored, law_resets, resets_for}
 use Rattle.dq_growing.proofs.store.Store.reset.Goals as goal
 
@@ -10,6 +11,7 @@ returns-in-Ok g c =
     (record {
       resets = resets_for g.W.Words.shared (stored i.cores i.notes) c.args.entry.now c.in-Some.place c.args.when (Ok c.in-Ok.key) c.reset.new.self _ _
           (sym c.place.ensures ∙ c.in-Some.is) c.in-Ok.ensures.resets (refl, refl, refl);
+      words = c.reset.ensures.words;
     })
 
 pub invariant_of-self-then-not-is_worn : goal.invariant_of-self-then-not-is_worn
@@ -25,6 +27,7 @@ returns-then-not-is_worn g c =
     (record {
       resets = resets_for g.W.Words.shared (stored i.cores i.notes) c.args.entry.now c.in-Some.place c.args.when (Err c.in-Err.error) c.reset.new.self _ _
           (sym c.place.ensures ∙ c.in-Some.is) c.in-Err.ensures.resets (inr (other, refl, refl, refl));
+      words = c.reset.ensures.words;
     })
 
 pub invariant_of-self-2 : goal.invariant_of-self-2
@@ -41,6 +44,7 @@ returns g c =
     (record {
       resets = resets_for g.W.Words.shared (stored i.cores i.notes) c.args.entry.now c.in-Some.place c.args.when (Err c.in-Err.error) c.reset.new.self _ m.new.self
           (sym c.place.ensures ∙ c.in-Some.is) c.in-Err.ensures.resets (inl (worn, (m.result.0, m.ensures.relocates, c.key_told.ensures)));
+      words = then_words g.W.Words.origin g.W.Words.begun i.cores c.reset.new.self m.new.self.cores c.reset.ensures.words m.ensures.words;
     })
 
 pub invariant_of-self : goal.invariant_of-self

@@ -6,3 +6,6 @@ invariant_of-self g c =
     let i = c.self.inside in
     let a = c.sweep_some-swept in
     law_same_notes (stored i.cores i.notes) a.new.self c.self.invariant a.ensures.ages
+
+pub returns-clause-words : goal.returns-clause-words
+returns-clause-words g c = rw (← c.self.view_is) c.sweep_some-swept.ensures.words

@@ -1,0 +1,461 @@
+//! A store under drawn calls, and what each has to answer, by a map from each id that a user has to what is known of its entry.
+
+use super::draw::Draw;
+use super::value::{Living, Value};
+use hontkhale::parts::growing::{Cores, Moved, NextDeadline, Store, TakeError};
+use hontkhale::parts::owner::{
+    CoreConfig, CoreError, DelayCore, EntryId, Expired, Keeper, Key, OpenWords, Piece, ReapError, Turn, LAST_TICK,
+};
+use std::collections::{BTreeMap, BTreeSet};
+
+/// What is known of an entry that is in the store.
+#[derive(Clone, Copy)]
+struct Known {
+    value: u64,
+    /// None where it was cancelled.
+    deadline: Option<u64>,
+    place: EntryId,
+    stamp: u32,
+}
+
+/// The parts of an id, in the order of cores and slots.
+type Id = (u32, u32, u32);
+
+pub struct Run {
+    store: Store<Value, Keeper>,
+    entries: BTreeMap<Id, Known>,
+    /// The ids that were given, the last one last.
+    given: Vec<EntryId>,
+    ways: BTreeMap<u32, (OpenWords, u32)>,
+    aside: BTreeSet<u64>,
+    noted: u64,
+    pub draw: Draw,
+    living: Living,
+    values: u64,
+    numbers: u32,
+}
+
+fn id_of(entry: &EntryId) -> Id {
+    (entry.shard(), entry.index(), entry.born())
+}
+
+fn entry_of(id: &Id) -> EntryId {
+    EntryId::new(id.0, id.1, id.2)
+}
+
+impl Run {
+    pub fn new(seed: u64) -> Run {
+        Run {
+            store: Store::new(Cores::new()).expect("a store of no cores"),
+            entries: BTreeMap::new(),
+            given: Vec::new(),
+            ways: BTreeMap::new(),
+            aside: BTreeSet::new(),
+            noted: 0,
+            draw: Draw::new(seed),
+            living: Living::default(),
+            values: 0,
+            numbers: 0,
+        }
+    }
+
+    /// A tick near the noted one, or now and then one beyond the last.
+    fn tick(&mut self) -> u64 {
+        match self.draw.below(40) {
+            0 => LAST_TICK + 1 + self.draw.below(3),
+            1 => self.draw.below(self.noted + 1),
+            2 => self.noted + self.draw.of_bits(30),
+            _ => self.noted + self.draw.of_bits(9),
+        }
+    }
+
+    /// The id of an entry that is in, or one that was given, mostly one of the last; or the place of a moved one.
+    fn id(&mut self) -> Option<EntryId> {
+        if self.draw.one_in(20) {
+            let places: Vec<_> = self.entries.values().map(|known| known.place).collect();
+            return (!places.is_empty()).then(|| self.draw.one_of(&places));
+        }
+        if !self.entries.is_empty() && self.draw.one_in(2) {
+            let at = self.draw.below(self.entries.len() as u64) as usize;
+            return self.entries.keys().nth(at).map(entry_of);
+        }
+        let back = self.draw.below(self.given.len().min(8) as u64) as usize;
+        self.given.iter().rev().nth(back).copied()
+    }
+
+    /// What is known of a live entry, or why a call by its id is refused.
+    fn live(&self, entry: &EntryId) -> Result<(Known, u64), CoreError> {
+        let known = self.entries.get(&id_of(entry)).ok_or(CoreError::Missing)?;
+        known
+            .deadline
+            .map(|deadline| (*known, deadline))
+            .ok_or(CoreError::WasCancelled)
+    }
+
+    /// Why the open core takes no entry, none where it does.
+    fn is_full(&self) -> Option<CoreError> {
+        let Some(open) = self.store.cores().get(self.store.cores().opened()) else {
+            return Some(CoreError::Full { linked: 0, worn: 0 });
+        };
+        let (linked, worn) = (open.len(), open.worn());
+        (linked + worn == open.capacity()).then_some(CoreError::Full { linked, worn })
+    }
+
+    /// An entry came into the open core, by that key at that place. What waited in its slot came out beside.
+    fn comes(&mut self, key: Key, place: EntryId, value: u64, when: u64, beside: Option<Value>) {
+        if let Some(beside) = beside {
+            assert!(self.aside.remove(&beside.number()), "a value that didn't wait");
+        }
+        let open = self
+            .store
+            .cores()
+            .get(self.store.cores().opened())
+            .expect("an open core");
+        assert_eq!(place.shard(), open.shard());
+        let known = Known {
+            value,
+            deadline: Some(when),
+            place,
+            stamp: key.stamp(),
+        };
+        self.entries.insert(id_of(&key.entry()), known);
+        self.has_deadline(key.entry(), when);
+    }
+
+    /// The entry's deadline is `when`, or one up to the noted tick where that is sooner.
+    fn has_deadline(&mut self, entry: EntryId, when: u64) {
+        let deadline = self.store.deadline(&entry).expect("a live entry");
+        let most = when.max(self.noted);
+        assert!(when <= deadline && deadline <= most, "{deadline} for {when}");
+        let known = self.entries.get_mut(&id_of(&entry)).expect("an entry that is in");
+        known.deadline = Some(deadline);
+        assert_eq!(self.store.place(&entry), Some(known.place));
+        assert_eq!(self.store.get(&entry).map(Value::number), Some(known.value));
+    }
+
+    fn leaves(&mut self, entry: &EntryId) -> Known {
+        self.entries.remove(&id_of(entry)).expect("an entry that is in")
+    }
+
+    pub fn insert(&mut self) {
+        let when = self.tick();
+        self.values += 1;
+        let known = match when > LAST_TICK {
+            true => Some(CoreError::TooFar { limit: LAST_TICK }),
+            false => self.is_full(),
+        };
+        let (answer, beside) = self.store.insert(self.living.value(self.values), when);
+        match answer {
+            Ok(key) => {
+                assert_eq!(known, None);
+                let is_new = !self.given.contains(&key.entry());
+                assert!(is_new && self.entries.values().all(|it| it.place != key.entry()));
+                self.given.push(key.entry());
+                self.comes(key, key.entry(), self.values, when, beside);
+            }
+            Err((error, value)) => assert_eq!((Some(error), value.number()), (known, self.values)),
+        }
+    }
+
+    pub fn remove(&mut self) {
+        let Some(entry) = self.id() else { return };
+        let known = self.live(&entry);
+        let answer = self.store.remove(&entry);
+        assert_eq!(answer.as_ref().err(), known.as_ref().err());
+        if let (Ok(removed), Ok((known, deadline))) = (answer, known) {
+            assert_eq!(
+                (removed.key, removed.deadline),
+                (Key::new(entry, known.stamp), deadline)
+            );
+            assert_eq!(removed.value.number(), known.value);
+            self.leaves(&entry);
+            self.is_gone(&entry);
+        }
+    }
+
+    /// No call finds an entry that left, and its note went with it.
+    fn is_gone(&mut self, entry: &EntryId) {
+        assert_eq!(self.store.deadline(entry), Err(CoreError::Missing));
+        assert!(self.store.get(entry).is_none());
+        assert_eq!(self.store.place(entry), Some(*entry));
+    }
+
+    pub fn reset(&mut self) {
+        let Some(entry) = self.id() else { return };
+        let when = self.tick();
+        let (known, full) = (self.live(&entry), self.is_full());
+        let (answer, beside) = self.store.reset(&entry, when);
+        let is_worn = |known: &Known| known.stamp == self.ways[&known.place.shard()].1;
+        let error = match &known {
+            _ if when > LAST_TICK => Some(CoreError::TooFar { limit: LAST_TICK }),
+            Ok((known, _)) => full.filter(|_| is_worn(known)),
+            Err(error) => Some(*error),
+        };
+        assert_eq!(answer.as_ref().err(), error.as_ref());
+        let (Ok(key), Ok((known, _))) = (answer, &known) else {
+            return assert!(beside.is_none());
+        };
+        assert_eq!(key.entry(), entry);
+        if is_worn(known) {
+            let place = self.store.place(&entry).expect("where it is");
+            self.comes(key, place, known.value, when, beside);
+        } else {
+            assert_eq!((key.stamp(), beside.is_none()), (known.stamp + 1, true));
+            self.entries.get_mut(&id_of(&entry)).expect("it is in").stamp += 1;
+            self.has_deadline(entry, when);
+        }
+    }
+
+    pub fn relocate(&mut self) {
+        let Some(entry) = self.id() else { return };
+        let tick = self.tick();
+        let next = self.draw.one_of(&[
+            NextDeadline::Same,
+            NextDeadline::At(tick),
+            NextDeadline::SameIfAfter(tick),
+        ]);
+        let (known, full) = (self.live(&entry), self.is_full());
+        let is_too_far = matches!(next, NextDeadline::At(_)) && tick > LAST_TICK;
+        let error = match (&known, full) {
+            // It is looked first whether a place has another's entry.
+            _ if self.store.place(&entry).is_none() => Some(CoreError::Missing),
+            _ if is_too_far => Some(CoreError::TooFar { limit: LAST_TICK }),
+            (_, Some(full)) => Some(full),
+            (known, None) => known.as_ref().err().copied(),
+        };
+        let (answer, beside) = self.store.relocate(&entry, next);
+        assert_eq!(answer.as_ref().err(), error.as_ref());
+        let (Ok(moved), Ok((known, deadline))) = (answer, known) else {
+            return assert!(beside.is_none());
+        };
+        match moved {
+            Moved::To { key, deadline: told } => {
+                let wanted = if let NextDeadline::At(tick) = next {
+                    tick
+                } else {
+                    deadline
+                };
+                assert_eq!((key.entry(), told), (entry, wanted));
+                let place = self.store.place(&entry).expect("where it is");
+                self.comes(key, place, known.value, told, beside);
+            }
+            Moved::Out(removed) => {
+                assert!(matches!(next, NextDeadline::SameIfAfter(tick) if deadline <= tick));
+                assert_eq!((removed.key.entry(), removed.value.number()), (entry, known.value));
+                self.leaves(&entry);
+                self.is_gone(&entry);
+            }
+        }
+    }
+
+    pub fn deadline(&mut self) {
+        let Some(entry) = self.id() else { return };
+        let known = self.live(&entry).map(|it| it.1);
+        assert_eq!(self.store.deadline(&entry), known);
+        let value = self.entries.get(&id_of(&entry)).map(|it| it.value);
+        assert_eq!(self.store.get(&entry).map(Value::number), value);
+    }
+
+    /// An extend or a cancel at the entry's place.
+    pub fn step(&mut self) {
+        let (Some(entry), when) = (self.id(), self.noted + self.draw.of_bits(9)) else {
+            return;
+        };
+        let Ok((known, deadline)) = self.live(&entry) else {
+            return;
+        };
+        let (words, key) = (&self.ways[&known.place.shard()].0, Key::new(known.place, known.stamp));
+        let after = if self.draw.one_in(3) {
+            assert_eq!(words.cancel(&key), Ok(deadline));
+            None
+        } else {
+            assert_eq!(words.extend(&key, when), Ok(deadline.max(when)));
+            Some(deadline.max(when))
+        };
+        self.entries.get_mut(&id_of(&entry)).expect("it is in").deadline = after;
+    }
+
+    pub fn reap(&mut self) {
+        let Some(entry) = self.id() else { return };
+        let known = match self.live(&entry) {
+            Ok(_) => Err(ReapError::Live),
+            Err(CoreError::WasCancelled) => Ok(()),
+            Err(_) => Err(ReapError::Missing),
+        };
+        assert_eq!(self.store.reap(&entry), known);
+        if known.is_ok() {
+            let value = self.leaves(&entry).value;
+            self.aside.insert(value);
+            self.is_gone(&entry);
+        }
+    }
+
+    /// A poll, whole or by so many steps.
+    pub fn poll(&mut self) {
+        let tick = self.tick();
+        let answer = match self.draw.below(12) {
+            most if most < 6 => self.store.poll_some(tick, most as u32),
+            _ => self.store.poll(tick),
+        };
+        if tick > LAST_TICK {
+            return assert_eq!(answer.err(), Some(CoreError::TickTooLarge { limit: LAST_TICK }));
+        }
+        self.noted = self.noted.max(tick);
+        match answer.expect("a tick up to the last") {
+            Piece::Answer(Turn::Out(expired)) => self.came_out(expired),
+            Piece::Answer(Turn::Waiting { .. } | Turn::Idle) => {
+                assert!(self
+                    .entries
+                    .values()
+                    .all(|it| it.deadline.is_none_or(|at| at > self.noted)));
+            }
+            Piece::Working => {}
+        }
+        self.find_reaped();
+    }
+
+    fn came_out(&mut self, expired: Expired<Value>) {
+        let entry = expired.key.entry();
+        let (known, deadline) = self.live(&entry).expect("a live entry");
+        assert!(deadline <= self.noted, "an entry comes out early");
+        assert_eq!((expired.key.stamp(), expired.deadline), (known.stamp, deadline));
+        assert_eq!(expired.value.number(), known.value);
+        self.leaves(&entry);
+        self.is_gone(&entry);
+    }
+
+    /// Finds which of the cancelled entries were reaped.
+    fn find_reaped(&mut self) {
+        let cancelled = self.entries.iter().filter(|it| it.1.deadline.is_none());
+        let cancelled: Vec<_> = cancelled.map(|it| entry_of(it.0)).collect();
+        for entry in cancelled {
+            match self.store.deadline(&entry) {
+                Err(CoreError::Missing) => {
+                    let value = self.leaves(&entry).value;
+                    self.aside.insert(value);
+                }
+                answer => assert_eq!(answer, Err(CoreError::WasCancelled)),
+            }
+        }
+    }
+
+    pub fn peek(&mut self) {
+        let known = self
+            .store
+            .peek()
+            .map(|key| (key.stamp(), self.entries.get(&id_of(&key.entry()))));
+        match known {
+            Some((stamp, known)) => assert_eq!(known.map(|it| it.stamp), Some(stamp)),
+            None => assert!(self.entries.is_empty()),
+        }
+    }
+
+    pub fn take_aside(&mut self) {
+        match self.store.take_aside() {
+            Some(value) => assert!(self.aside.remove(&value.number()), "a value that didn't wait"),
+            None => assert!(self.aside.is_empty()),
+        }
+    }
+
+    /// A place in the row, and the number of the core there.
+    fn place(&mut self) -> (usize, Option<u32>) {
+        let place = self.draw.below(self.store.cores().count() as u64 + 1) as usize;
+        (place, self.store.cores().get(place).map(DelayCore::shard))
+    }
+
+    pub fn sweep_some(&mut self) {
+        let ((place, core), from, count) = (self.place(), self.draw.below(5), self.draw.below(5));
+        let before = self.aside.len();
+        let answer = self.store.sweep_some(place, from as usize, count as usize);
+        assert_eq!(answer.is_none(), core.is_none());
+        self.find_reaped();
+        assert_eq!(answer.map_or(0, |answer| answer.reaped), self.aside.len() - before);
+    }
+
+    /// A core names its entries by the ids that their users have.
+    pub fn names(&mut self) {
+        let ((place, core), from, count) = (self.place(), self.draw.below(5), self.draw.below(5));
+        let slots = from as u32..(from + count) as u32;
+        let there = self.entries.iter().filter(|it| Some(it.1.place.shard()) == core);
+        let there: Vec<_> = there.map(|it| (it.1.place.index(), entry_of(it.0))).collect();
+        let first = self.store.first_in(place);
+        let is_there = first.is_some_and(|first| there.iter().any(|it| it.1 == first));
+        assert_eq!((first.is_some(), is_there), (!there.is_empty(), !there.is_empty()));
+        let known = there.iter().filter(|it| slots.contains(&it.0)).min_by_key(|it| it.0);
+        let answer = self.store.entry_from(place, from as usize, count as usize);
+        assert_eq!(answer, known.map(|it| it.1));
+    }
+
+    fn core_of(&mut self, number: u32, last_stamp: u32) -> DelayCore<Value, Keeper> {
+        let capacity = 1 + self.draw.below(4) as usize;
+        let mut keeper = Keeper::new(capacity).expect("a keeper");
+        let words = keeper.open().expect("open words");
+        self.ways.entry(number).or_insert((words, last_stamp));
+        let config = CoreConfig {
+            shard: number,
+            capacity,
+            last_stamp,
+        };
+        DelayCore::new(config, keeper).map_err(|it| it.0).expect("a core")
+    }
+
+    /// Another core is open, of 1 to 4 slots and 1 to 3 stamps.
+    pub fn exchange(&mut self) {
+        if self.store.cores().count() as u64 > self.draw.below(8) {
+            return;
+        }
+        self.numbers += 1;
+        let last_stamp = 1 + self.draw.below(3) as u32;
+        let core = self.core_of(self.numbers, last_stamp);
+        assert!(self.store.reserve(1).is_ok() && self.store.take_in(core).is_ok());
+    }
+
+    /// A core of fresh words doesn't come in under a number that the id of a moved entry has.
+    pub fn take_refused(&mut self) {
+        let is_moved = |it: &(&Id, &Known)| entry_of(it.0) != it.1.place;
+        let Some(number) = self.entries.iter().find(is_moved).map(|it| it.0 .0) else {
+            return;
+        };
+        let core = self.core_of(number, 1);
+        let refused = self.store.take_in(core).map_err(|it| (it.0, it.1.shard()));
+        assert_eq!(refused, Err((TakeError::UsedNumber, number)));
+    }
+
+    /// Takes a core out that has drained, and drops it, or takes it in again.
+    pub fn take_drained(&mut self) {
+        let is_foldable = |core: &DelayCore<Value, Keeper>| core.is_empty() && core.aside() == 0;
+        let cores = self.store.cores();
+        let others = (0..cores.count()).filter(|place| *place != cores.opened());
+        let has_drained = others.filter_map(|place| cores.get(place)).any(is_foldable);
+        let core = self.store.take_drained();
+        assert_eq!(core.is_some(), has_drained);
+        let Some(core) = core else { return };
+        assert!(is_foldable(&core));
+        if self.draw.one_in(2) {
+            assert!(self.store.take_in(core).is_ok());
+        }
+    }
+
+    pub fn open(&mut self) {
+        let (place, core) = self.place();
+        assert_eq!(self.store.open(place), core.is_some());
+        if let Some(core) = core {
+            let opened = self.store.cores().get(self.store.cores().opened());
+            assert_eq!(opened.map(DelayCore::shard), Some(core));
+        }
+    }
+
+    /// All that is left comes out. Then all that waits is dropped, and no value lives.
+    pub fn ends(mut self) {
+        while let Some(last) = self.entries.values().filter_map(|it| it.deadline).max() {
+            self.noted = self.noted.max(last);
+            if let Ok(Piece::Answer(Turn::Out(expired))) = self.store.poll(last) {
+                self.came_out(expired);
+            }
+        }
+        let lives = self.living.count();
+        let waits = self.aside.len() + self.entries.len();
+        drop(self.store);
+        assert_eq!((lives, self.living.count()), (waits as u64, 0));
+    }
+}
