@@ -72,6 +72,10 @@ module _ {T W : Type 0} where
   abbrev pub HasAt : List (Core T W) → ℕ → ℕ → Core T W → Type 0
   HasAt cores number i c = IsCoreAt cores i c × (c.shard ≡ number)
 
+  -- so of each core of that number
+  abbrev pub EachOf : CoreRow T W → ℕ → (Core T W → Type 0) → Type 0
+  EachOf s number P = (i : ℕ) (c : Core T W) → HasAt s.cores number i c → P c
+
   -- no core has that number
   abbrev pub HasNo : List (Core T W) → ℕ → Type 0
   HasNo cores number = (i : ℕ) (c : Core T W) → IsCoreAt cores i c → c.shard ≢ number

@@ -5,6 +5,7 @@
 //! folded; its words stay, so its keys stay refused.
 #![tactic(auto)]
 
+mod beside;
 mod cores;
 mod folds;
 mod least;

@@ -1,12 +1,16 @@
 -- What an entry of a call makes of a shard's history.
 use Rattle.std.proofs.Common.{◌≡◌, ◌<◌, ℕ, List, ◌∷◌, Some, refl, sym, ap, ◌∙◌, subst}
+use Rattle.boxcar.specs.Slot.{Named}
+use Rattle.dq_directory.specs.Claims.{Claimed}
 use Rattle.dq_journal.specs.declared.views.Entry.{Entry}
 use Rattle.dq_journal.specs.declared.views.View.{View}
 use Rattle.dq_journal.specs.History.{entry, entries_by}
 use Rattle.dq_journal.specs.Once.{EntersOnce, IsTold, IsUnderLock}
 use Rattle.dq_growing.specs.Store.{StoreState, IsStore}
+use Rattle.dq_words.specs.OpenCalls.{Open}
 use Rattle.dq_words.specs.Seats.{Sat}
 use Rattle.dq_queue.specs.Calls.{IsStoreCall}
+use Rattle.dq_queue.specs.Claims.{AreClaimed, AreClaimsOf}
 use Rattle.dq_queue.specs.Shards.{Held, CallerView, caller_of, IsAsLeft, IsStoreHistory, MadeOnce, HasCallMore}
 
 -- what stands under the name of one number
@@ -22,15 +26,16 @@ module _ {T : Type 0} where
       let P : List (Entry (Held T)) → Type 0 = λ l. IsAsLeft l b × IsStoreHistory l in
       subst P (sym (same ∙ enters.2)) (refl, (a, b, refl, follows, number, call, history))
 
-  -- after a call that was entered the history is still that which the shard's number names
-  pub stays : {X : Type 0} (rooms : ℕ) (named : ℕ → X) (old now : X) (h v w u : View (Held T)) (a b : Held T)
-      → (a.number < rooms) × (old ≡ named a.number) × IsUnderLock h × IsAsLeft h.log a × IsStoreHistory h.log
+  -- after a call that was entered the history is still that which the shard's number names, and the words are claimed
+  pub stays : {X : Type 0} (rooms : ℕ) (named : ℕ → X) (rows : List Named) (old now : X) (h v w u : View (Held T)) (a b : Held T) (was is : List (Claimed Open))
+      → (a.number < rooms) × (old ≡ named a.number) × IsUnderLock h × IsAsLeft h.log a × IsStoreHistory h.log × AreClaimsOf rows was × AreClaimed a.store.cores.cores was
       → b.number ≡ a.number → IsStoreCall a.store b.store → EntersOnce h v (Some b) w → u.log ≡ w.log → now ≡ old → IsUnderLock u
-      → (b.number < rooms) × (now ≡ named b.number) × IsUnderLock u × IsAsLeft u.log b × IsStoreHistory u.log
-  stays rooms named old now h v w u a b s number call enters log of under =
+      → AreClaimsOf rows is × AreClaimed b.store.cores.cores is
+      → (b.number < rooms) × (now ≡ named b.number) × IsUnderLock u × IsAsLeft u.log b × IsStoreHistory u.log × AreClaimsOf rows is × AreClaimed b.store.cores.cores is
+  stays rooms named rows old now h v w u a b was is s number call enters log of under claimed =
       let on = goes_on h v w u.log a b enters log s.3 number call s.4 in
       let P : ℕ → Type 0 = λ n. n < rooms in
-      (subst P (sym number) s.0, of ∙ (s.1 ∙ ap named (sym number)), under, on.0, on.1)
+      (subst P (sym number) s.0, of ∙ (s.1 ∙ ap named (sym number)), under, on.0, on.1, claimed.0, claimed.1)
 
   -- the caller's call was made once
   pub once : (gives : StoreState T Sat → StoreState T Sat → Type 0) (h x u : View (Held T)) (m : ℕ) (v : CallerView T) (a b : Held T)

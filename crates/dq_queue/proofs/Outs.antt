@@ -1,8 +1,13 @@
 -- What a store's answers say of the true words.
 use Rattle.std.proofs.Common.{true, false, ◌≡◌, ◌⊎◌, ℕ, zero, suc, ◌+◌, ◌<◌, ◌≤◌, Bool, List, [], ◌∷◌, length, get_or, set, min, sym, refl, ap, ◌∙◌, subst, inl, inr, ⊎_elim, length-set, get_or-set_same, arith, nat_lt, nat_eq, if◌then◌else◌, Option, Some, None, Result, Ok, Err, IfOk}
+use Rattle.std.specs.List.{AllByRecursion}
+use Rattle.std.proofs.lemmas.List.{get_or-set_other}
 use Rattle.atomic_table.specs.Table.{State}
+use mathlib.Core.Logic.{dite}
+use native.Mathlib.Decide.{ℕ_discrete}
 use mathlib.Core.Option.{some, some-injective, some-ne-none}
 use lib.ListN.{get_elem?}
+use Rattle.dq_ticks.specs.declared.keys.EntryId.{EntryId}
 use Rattle.dq_ticks.specs.declared.keys.Key.{Key}
 use Rattle.dq_ticks.specs.declared.words.Parts.{Parts}
 use Rattle.dq_ticks.specs.Word.{word, stamp_of, mark_of, field_of, mark_number, mark_by, packed, parts_of}
@@ -13,21 +18,31 @@ use Rattle.dq_core.specs.declared.outcomes.Expired.{Expired}
 use Rattle.dq_core.specs.declared.outcomes.Turn.TheVariants.{Out, Waiting, Idle}
 use Rattle.dq_core.specs.declared.outcomes.Piece.{Piece}
 use Rattle.dq_core.specs.declared.outcomes.Piece.TheVariants.{Answer, Working}
-use Rattle.dq_core.specs.Core.{Core, table_of, machine}
+use Rattle.dq_core.specs.Core.{Core, IsLawfulCore, table_of, machine}
 use Rattle.dq_core.specs.Calls.{IsTurn, TurnRow, noting, Inserts}
-use Rattle.dq_core.specs.Machine.{Machine, RunOf, IsOnTheWay, table_at}
-use Rattle.dq_growing.specs.Cores.{CoreRow, IsCoreAt, OnCoreAt, InsertsBeside, IsClosed, closed_error}
-use Rattle.dq_growing.specs.Notes.{user_at}
+use Rattle.dq_core.specs.Machine.{Machine, Entry, TableRow, Event, Note, Pass, Insert, Reset, Extend, Cancel, Remove, Reap, Expire, Has, Step, Run, RunOf, IsOnTheWay, table_at, put, with_due}
+use Rattle.dq_growing.specs.Cores.{CoreRow, IsCoreAt, HasAt, EachOf, OnCoreAt, InsertsBeside, IsClosed, closed_error}
+use Rattle.dq_growing.specs.Notes.{Book, with_id, or_own, user_at, place_by, meant_place}
+use Rattle.dq_growing.specs.Stands.{HasEntry, KeepsWords}
 use Rattle.dq_growing.specs.Polls.{PollsRow, PollsCore, DoesPiece, IfPieceOut, noting_in, told}
-use Rattle.dq_growing.specs.Store.{StoreState, expired_as, piece_as}
+use Rattle.dq_growing.specs.Store.{StoreState, IsStore, expired_as, piece_as}
+use Rattle.dq_growing.proofs.Leasts.{some_not_none}
+use Rattle.dq_growing.proofs.Rows.{one_at}
+use Rattle.dq_growing.proofs.Standing.{some_is}
 use Rattle.dq_words.specs.declared.views.View.{View}
 use Rattle.dq_words.specs.declared.views.Write.{Write}
 use Rattle.dq_words.specs.Word.{parts_row}
 use Rattle.dq_words.specs.Files.{file, IsIn, Among, ends_at, keeper_writes}
 use Rattle.dq_words.specs.Rule.{Ruled, Had, HadAt}
 use Rattle.dq_words.specs.Endings.{StampsEndOnce, EndsAreInForce}
+use Rattle.dq_words.specs.KeeperCalls.{HasBegun}
+use Rattle.dq_words.specs.Plays.{Covers}
 use Rattle.dq_words.specs.Seats.{Sat}
+use Rattle.dq_words.specs.Together.{IsBeside}
+use Rattle.dq_queue.specs.Calls.{KeepsPromise, StorePollsSome}
 use Rattle.dq_queue.specs.Endings.{InEachTable, EndsInForce, WasGivenOnce, IsKeptCore, CameInForce, KeepsWhatItShowed, CameOutOf, StoreOutsAreInForce, StoreInsertsAreGiven}
+use Rattle.dq_queue.specs.Words.{PromiseView}
+use Rattle.dq_queue.proofs.Claims.{table_by}
 
 -- words and parts
 
@@ -106,6 +121,13 @@ writes_first : (vs : List View) (v : View) → get_elem? vs 0 ≡ some v → kee
 writes_first [] v at = absurd (some-ne-none v (sym at))
 writes_first (u ∷ vs) v at = ap (λ (x : View). x.writes) (some-injective u v at)
 
+-- the place that the notes tell of an entry, by the id that its user has
+meant_own : (p : EntryId) (a b : Option EntryId) → a ≡ None → b ≡ None → place_by p a b ≡ Some p
+meant_own p a b x y = let P : Option EntryId × Option EntryId → Type 0 = λ o. place_by p o.0 o.1 ≡ Some p in subst P (λ q. (sym x q, sym y q)) refl
+
+meant_note : (u p : EntryId) (a b : Option EntryId) → a ≡ Some p → place_by u a b ≡ Some p
+meant_note u p a b x = let P : Option EntryId → Type 0 = λ o. place_by u o b ≡ Some p in subst P (sym x) refl
+
 module _ {T : Type 0} where
   -- an entry that comes out, of a run to that turn and its row of words
   out_of : EndsAreInForce → (b c : Core T Sat) (x : Expired T) → IsKeptCore c
@@ -138,6 +160,57 @@ module _ {T : Type 0} where
       let ended = (out.0 stood.0 stood.1 stood.2).0 in
       let P : List Write → Type 0 = λ ws. IsIn (ends_at x.key.entry.index x.key.stamp ws) (2, x.deadline) in
       beside.0 x.key.entry.index x.key.stamp (2, x.deadline) (subst P (writes_first stood.0.views c.words.view stood.2) ended)
+
+  -- a slot of a machine that was changed at one
+  at_put : (m : Machine T) (j s : ℕ) (x : Option (Entry T)) (i : ℕ) (g : Entry T) → j < length m.table → (table_at (put m j s x) i).entry ≡ Some g
+      → ((i ≡ j) × (x ≡ Some g)) ⊎ ((table_at m i).entry ≡ Some g)
+  at_put m j s x i g inside at =
+      let E : TableRow T → Option (Entry T) = λ r. r.entry in
+      let P : ℕ → Type 0 = λ k. (table_at (put m j s x) k).entry ≡ Some g in
+      dite (ℕ_discrete i j)
+      (λ e. inl (e, sym (ap E (get_or-set_same m.table j _ _ inside)) ∙ subst P e at))
+      (λ ne. inr (sym (ap E (get_or-set_other m.table j i _ _ ne)) ∙ at))
+
+  abbrev StoodAt : Machine T → ℕ → Entry T → Type 0
+  StoodAt m i e = (f : Entry T) × ((table_at m i).entry ≡ Some f) × (f.born ≡ e.born)
+
+  -- an entry whose deadline was raised, or that was cancelled, stood there
+  raised_stood : (m : Machine T) (j s : ℕ) (d : Option ℕ) (x : Entry T) (i : ℕ) (g : Entry T) → Has m j x
+      → (table_at (put m j s (with_due x d)) i).entry ≡ Some g → StoodAt m i g
+  raised_stood m j s d x i g has at = ⊎_elim
+      (λ (y : (i ≡ j) × (with_due x d ≡ Some g)). let P : ℕ → Type 0 = λ k. (table_at m k).entry ≡ Some x in
+      (x, subst P (sym y.0) has.1, ap (λ (e : Entry T). e.born) (some_is _ g y.1)))
+      (λ (y : (table_at m i).entry ≡ Some g). (g, y, refl))
+      (at_put m j s (with_due x d) i g has.0 at)
+
+  -- what stands at a slot on a poll's way stood there before
+  step_stood : (last : ℕ) (m n : Machine T) (e : Event T) → IsOnTheWay true e → Step last m e n → (i : ℕ) (g : Entry T) → (table_at n i).entry ≡ Some g → StoodAt m i g
+  step_stood last m n (Note t) is step i g at = absurd is
+  step_stood last m n (Pass t) is step i g at = let P : Machine T → Type 0 = λ k. (table_at k i).entry ≡ Some g in (g, subst P step.3 at, refl)
+  step_stood last m n (Insert j v when) is step i g at = absurd is
+  step_stood last m n (Reset j b when) is step i g at = absurd is
+  step_stood last m n (Extend j s when) is step i g at =
+      let P : Machine T → Type 0 = λ k. (table_at k i).entry ≡ Some g in
+      raised_stood m j s _ step.0 i g step.2 (subst P step.5 at)
+  step_stood last m n (Cancel j s) is step i g at =
+      let P : Machine T → Type 0 = λ k. (table_at k i).entry ≡ Some g in
+      raised_stood m j s _ step.0 i g step.2 (subst P step.5 at)
+  step_stood last m n (Remove j b) is step i g at = absurd is
+  step_stood last m n (Reap j b) is step i g at =
+      let P : Machine T → Type 0 = λ k. (table_at k i).entry ≡ Some g in
+      ⊎_elim
+      (λ (y : (i ≡ j) × (None ≡ Some g)). absurd (some_not_none g (sym y.1)))
+      (λ (y : (table_at m i).entry ≡ Some g). (g, y, refl))
+      (at_put m j _ None i g step.1.0 (subst P step.4 at))
+  step_stood last m n (Expire j b t) is step i g at = absurd is
+
+  way_stood : (last : ℕ) (m n : Machine T) (es : List (Event T)) → AllByRecursion (IsOnTheWay true) es → Run last m es n → (i : ℕ) (g : Entry T)
+      → (table_at n i).entry ≡ Some g → StoodAt m i g
+  way_stood last m n [] all r i g at = let P : Machine T → Type 0 = λ k. (table_at k i).entry ≡ Some g in (g, subst P r at, refl)
+  way_stood last m n (e ∷ es) all r i g at =
+      let h = way_stood last r.0 n es all.1 r.2 i g at in
+      let f = step_stood last m r.0 e all.0 r.1 i h.0 h.1 in
+      (f.0, f.1, f.2 ∙ h.2)
 
   -- the piece of a core that took an entry out
 
@@ -195,6 +268,10 @@ module _ {T : Type 0} where
         out = y;
         number = answered.run.2.1;
         told = refl;
+        stood =
+            let m = answered.run.0 in
+            let f = way_stood on.before.slots.last_stamp _ m answered.run.1.0 answered.run.1.1 answered.run.1.2 y.key.entry.index _ answered.run.2.0.1.1 in
+            (f.0, (core.place, on.before, on.at, record { shard = answered.run.2.1; linked = f.1; born = f.2 }));
         in_force = out;
         kept = λ law. keeps on.after y (out law);
       }
@@ -207,6 +284,39 @@ module _ {T : Type 0} where
   by_made in_force s t tick most (Ok (Answer Idle)) polled = tt
   by_made in_force s t tick most (Ok Working) polled = tt
   by_made in_force s t tick most (Err e) polled = tt
+
+  meant_by : (s : StoreState T Sat) (p : EntryId) (e : Entry T) (a b : Option EntryId) → IsStore s → HasEntry s.cores p e
+      → a ≡ with_id s.notes.places p → b ≡ with_id s.notes.users p → meant_place s.notes (or_own p b) ≡ Some p
+  meant_by s p e a (Some u) law there at of = meant_note u p _ _ ((law.noted u p).1 (sym of))
+  meant_by s p e None None law there at of = meant_own p _ _ (sym at) (sym of)
+  meant_by s p e (Some q) None law there at of = absurd (law.away p q (sym at) e there)
+
+  meant_is : (s : StoreState T Sat) (p : EntryId) (e : Entry T) → IsStore s → HasEntry s.cores p e → meant_place s.notes (user_at s.notes p) ≡ Some p
+  meant_is s p e law there = meant_by s p e (with_id s.notes.places p) (with_id s.notes.users p) law there refl refl
+
+  -- what came out of a core that the promise's words are of keeps the promise
+  pub keeps_promise : StoreOutsAreInForce T → (s t : StoreState T Sat) (tick most : ℕ) (r : Result (Piece T) CoreError) (p : PromiseView)
+      → IsStore s → StorePollsSome tick most r s t → KeepsWords table_by HasBegun s.cores t.cores → EachOf t.cores p.claim.number (λ c. IsBeside c.words p.receipt)
+      → EachOf t.cores p.claim.number (λ c. IsLawfulCore c × (c.known ≡ parts_row c.words.view.seen)) → IfPieceOut r (KeepsPromise s.notes p)
+  keeps_promise outs s t tick most (Ok (Answer (Out x))) p law polled words beside lawful = λ place meant number.
+      let o = outs s t tick most (Ok (Answer (Out x))) polled in
+      let u = o.out.key.entry in
+      let N : Expired T → Option EntryId = λ y. meant_place s.notes y.key.entry in
+      let is : place ≡ u = some_is place u (sym meant ∙ (ap N o.told ∙ meant_is s u o.stood.0 law o.stood.1)) in
+      let k = words o.place o.before o.was in
+      let same = one_at t.cores.cores o.place k.0 o.after k.1 o.is in
+      let shard : o.after.shard ≡ p.claim.number =
+      ap (λ (c : Core T Sat). c.shard) (sym same) ∙ (k.2 ∙ (sym o.number ∙ (ap (λ (e : EntryId). e.shard) (sym is) ∙ number))) in
+      let at : HasAt t.cores.cores p.claim.number o.place o.after = (o.is, shard) in
+      let kept = lawful o.place o.after at in
+      let covers = o.kept (record { core = kept.0; known = kept.1 }) p.receipt (beside o.place o.after at) in
+      let P : EntryId → Expired T → Type 0 = λ e y. Covers p.receipt.view.calls e.index y.key.stamp y.deadline in
+      let Q : EntryId → Type 0 = λ e. P e x in
+      subst Q (sym is) (subst (P u) (sym o.told) covers)
+  keeps_promise outs s t tick most (Ok (Answer (Waiting next))) p law polled words beside lawful = tt
+  keeps_promise outs s t tick most (Ok (Answer Idle)) p law polled words beside lawful = tt
+  keeps_promise outs s t tick most (Ok Working) p law polled words beside lawful = tt
+  keeps_promise outs s t tick most (Err e) p law polled words beside lawful = tt
 
 pub outs : (T : Type 0) → EndsAreInForce → StoreOutsAreInForce T
 outs T in_force s t tick most r (made, polled, is, notes) =

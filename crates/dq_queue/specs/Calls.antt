@@ -1,21 +1,33 @@
 -- What one call does to what lies behind a shard's lock.
-use Rattle.std.specs.Prelude.{◌≡◌, ◌⊎◌, ℕ, true, Option, Result, IfErr, IfSome, IfNone, OnOk}
+use Rattle.std.specs.Prelude.{◌≡◌, ◌⊎◌, ℕ, true, Option, Some, Result, IfErr, IfSome, IfNone, OnOk}
 use Rattle.dq_ticks.specs.declared.keys.Key.{Key}
 use Rattle.dq_ticks.specs.declared.keys.EntryId.{EntryId}
 use Rattle.dq_core.specs.declared.errors.CoreError.{CoreError}
 use Rattle.dq_core.specs.declared.outcomes.Removed.{Removed}
 use Rattle.dq_core.specs.declared.outcomes.Piece.{Piece}
+use Rattle.dq_core.specs.declared.outcomes.Expired.{Expired}
 use Rattle.dq_core.specs.Core.{Core}
 use Rattle.dq_growing.specs.declared.cores.TakeError.{TakeError}
 use Rattle.dq_growing.specs.Cores.{InsertsIn, TakesIn, GivesDrained, NoneDrained}
-use Rattle.dq_growing.specs.Polls.{PollsRow, DoesPiece}
+use Rattle.dq_growing.specs.Notes.{Book, meant_place}
+use Rattle.dq_growing.specs.Polls.{PollsRow, DoesPiece, IfPieceOut}
 use Rattle.dq_core.specs.declared.errors.ReapError.{ReapError}
 use Rattle.dq_growing.specs.declared.moving.Moved.{Moved}
 use Rattle.dq_growing.specs.declared.moving.NextDeadline.{NextDeadline}
 use Rattle.dq_growing.specs.Store.{StoreState, RemovesFor, TellsFor, ResetsFor, RelocatesFor, ReapsFor, piece_as, NotesAfter}
+use Rattle.dq_words.specs.Plays.{Covers}
 use Rattle.dq_words.specs.Seats.{Sat}
+use Rattle.dq_queue.specs.Words.{PromiseView}
 
 module _ {T : Type 0} where
+  -- What came out, from the place that the notes told of it, keeps what a call promised: where the
+  -- call was made on the words of that place's core, it promised no later deadline of what stood
+  -- there under that stamp, and didn't cancel it.
+  abbrev pub KeepsPromise : Book → PromiseView → Expired T → Type 0
+  KeepsPromise n p x =
+      (place : EntryId) → meant_place n x.key.entry ≡ Some place → place.shard ≡ p.claim.number →
+      Covers p.receipt.view.calls place.index x.key.stamp x.deadline
+
   -- a value comes in at a deadline, and the notes stay
   abbrev pub StoreInserts : T → ℕ → Result Key (CoreError × T) × Option T → StoreState T Sat →
       StoreState T Sat → Type 0
@@ -42,6 +54,12 @@ module _ {T : Type 0} where
       (made : Result (Piece T) CoreError)
       × PollsRow (DoesPiece true most) s.cores tick made t.cores
       × (r ≡ piece_as s.notes made) × NotesAfter s.notes made t.notes
+
+  -- a piece of a poll, of which what comes out keeps what a call promised
+  abbrev pub StorePollsBeside : PromiseView → ℕ → ℕ → Result (Piece T) CoreError →
+      StoreState T Sat → StoreState T Sat → Type 0
+  StorePollsBeside p tick most r s t =
+      StorePollsSome tick most r s t × IfPieceOut r (KeepsPromise s.notes p)
 
   -- a core comes in, which is open from then on; or it comes back, and the store stays
   abbrev pub StoreTakesIn : Core T Sat → Result (Unit {0}) (TakeError × Core T Sat) →

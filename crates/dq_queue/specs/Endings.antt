@@ -5,12 +5,14 @@ use mathlib.Core.Option.{some}
 use lib.ListN.{get_elem?}
 use Rattle.dq_ticks.specs.declared.keys.Key.{Key}
 use Rattle.dq_core.specs.Core.{Core, IsLawfulCore}
+use Rattle.dq_core.specs.Machine.{Entry}
 use Rattle.dq_core.specs.declared.errors.CoreError.{CoreError}
 use Rattle.dq_core.specs.declared.outcomes.Expired.{Expired}
 use Rattle.dq_core.specs.declared.outcomes.Piece.{Piece}
 use Rattle.dq_growing.specs.Cores.{IsCoreAt}
 use Rattle.dq_growing.specs.Notes.{user_at}
 use Rattle.dq_growing.specs.Polls.{IfPieceOut}
+use Rattle.dq_growing.specs.Stands.{HasEntry}
 use Rattle.dq_growing.specs.Store.{StoreState, expired_as}
 use Rattle.dq_words.specs.declared.views.View.{View}
 use Rattle.dq_words.specs.Endings.{lives_at}
@@ -66,9 +68,9 @@ module _ {T : Type 0} where
   KeepsWhatItShowed c x =
       (p : Sat) → IsBeside c.words p → Covers p.view.calls x.key.entry.index x.key.stamp x.deadline
 
-  -- What came out came out of one core of the store, which had the number that its place's key has.
-  -- Its user knows it by the id that the notes tell. By what the core keeps, it came out in force, and
-  -- kept what was promised.
+  -- What came out came out of one core of the store, which had the number that its place's key has,
+  -- and stood there before. Its user knows it by the id that the notes tell. By what the core keeps,
+  -- it came out in force, and kept what was promised.
   pub record CameOutOf (s : StoreState T Sat) (x : Expired T) (t : StoreState T Sat) : Type 0 where
     pub place : ℕ
     pub before : Core T Sat
@@ -78,6 +80,7 @@ module _ {T : Type 0} where
     pub out : Expired T
     pub number : out.key.entry.shard ≡ before.shard
     pub told : x ≡ expired_as (user_at s.notes out.key.entry) out
+    pub stood : (e : Entry T) × HasEntry s.cores out.key.entry e
     pub in_force : IsKeptCore after → CameInForce after out
     pub kept : IsKeptCore after → KeepsWhatItShowed after out
 

@@ -1,4 +1,5 @@
 pub mod Calls
+pub mod Claims
 pub mod Endings
 pub mod Shards
 pub mod Words

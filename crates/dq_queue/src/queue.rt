@@ -2,11 +2,11 @@
 ghost use Rattle.std.specs.Prelude.{◌≡◌, ◌<◌, ◌≤◌, ◌^◌, vec_len, IfOk, IfErr, IfSome};
 ghost use Rattle.std.specs.Sync.Mutex.{mutex_guard_value};
 ghost use Rattle.dq_queue.specs.declared.queue.QueueError.TheVariants.{Unknown};
-ghost use Rattle.dq_queue.specs.Calls.{StoreInserts, StoreRemoves, StoreResets, StoreTells, StorePollsSome};
+ghost use Rattle.dq_queue.specs.Calls.{StoreInserts, StoreRemoves, StoreResets, StoreTells, StorePollsSome, StorePollsBeside};
 ghost use Rattle.dq_queue.specs.Shards.{MadeOnce};
 
 use crate::shard::{Caller, Rooms, Shard};
-use crate::words::QueueWords;
+use crate::words::{Promise, QueueWords};
 use dq_core::{CoreError, Piece, Removed};
 use dq_ticks::{EntryId, Key};
 use std::alloc::{Allocator, Global};
@@ -244,6 +244,29 @@ impl<T, J: Rooms, A: Allocator + Clone> GrowingQueue<T, J, A> {
     {
         let mut shard = self.locked_for(rt, me);
         let answer = shard.poll_some(me, tick, most);
+        drop(shard);
+        answer
+    }
+
+    /// The same, beside the promise of a call by the queue's words, of whatever thread: what comes out has no deadline
+    /// before the promised one, and wasn't cancelled by the call.
+    ///
+    /// # Errors
+    /// `TickTooLarge` beyond the last tick, which is not noted then.
+    pub fn poll_beside<R: Wait>(
+        &self,
+        rt: &R,
+        me: &mut Caller<T, J, A>,
+        promise: &mut Promise<J, A>,
+        tick: u64,
+        most: u32,
+    ) -> Result<Piece<T>, CoreError>
+        ensures once { MadeOnce me.old
+            (λ s t. StorePollsBeside promise.old tick most result s t) me.new }
+        ensures same { promise.new ≡ promise.old }
+    {
+        let mut shard = self.locked_for(rt, me);
+        let answer = shard.poll_beside(me, &self.words, promise, tick, most);
         drop(shard);
         answer
     }

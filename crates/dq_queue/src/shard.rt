@@ -1,17 +1,24 @@
 //! What lies behind a shard's lock, and the calls that callers make of it there: each is entered once in the shard's history.
-ghost use Rattle.std.specs.Prelude.{◌≡◌, ◌<◌, ◌+◌, [], IfOk, IfErr, IfSome, IfNone, OnErr};
+ghost use Rattle.std.specs.Prelude.{◌≡◌, ◌<◌, ◌+◌, true, [], IfOk, IfErr, IfSome, IfNone, OnOk, OnErr};
 ghost use Rattle.dq_journal.specs.Once.{IsTold};
 ghost use Rattle.dq_journal.specs.Views.{first_witness, new_witness};
+ghost use Rattle.dq_growing.specs.Polls.{IfPieceOut};
 ghost use Rattle.dq_growing.specs.Store.{IsStore};
+ghost use Rattle.dq_directory.specs.Claims.{IsOf};
 ghost use Rattle.dq_queue.specs.Calls.{StoreInserts, StoreRemoves, StoreResets, StoreTells, StorePollsSome};
+ghost use Rattle.dq_queue.specs.Calls.{KeepsPromise, StorePollsBeside};
 ghost use Rattle.dq_queue.specs.Calls.{StoreTakesIn, StoreGives, StoreRelocates, StoreReaps};
+ghost use Rattle.dq_queue.specs.Claims.{AreClaimed, AreClaimsOf, ClaimsWords, IsOfItsWords, KeepsClaims};
 ghost use Rattle.dq_queue.specs.Shards.{MadeOnce, OneMore, IsStoreHistory, unnamed};
 
+use crate::endings;
+use crate::words::{Promise, QueueWords};
 use dq_core::{CoreError, DelayCore, Piece, ReapError, Removed};
+use dq_directory::Claim;
 use dq_growing::{Moved, NextDeadline, Store, TakeError};
 use dq_journal::Witness;
 use dq_ticks::{EntryId, Key};
-use dq_words::Keeper;
+use dq_words::{Keeper, OpenWords};
 use std::alloc::{AllocError, Allocator, Global};
 use std::marker::{Brand, Model, PhantomData};
 
@@ -66,6 +73,7 @@ impl<T, A: Allocator + Clone> Held<T, A> {
     fn insert(&mut self, value: T, when: u64) -> (Result<Key, (CoreError, T)>, Option<T>)
         ensures number { self.new.number ≡ self.old.number }
         ensures stores { IsStore self.old.store × IsStore self.new.store }
+        ensures claims { KeepsClaims self.old.store self.new.store }
         ensures inserts { StoreInserts value when result self.old.store self.new.store }
     {
         self.store.law();
@@ -77,6 +85,7 @@ impl<T, A: Allocator + Clone> Held<T, A> {
     fn remove(&mut self, entry: &EntryId) -> Result<Removed<T>, CoreError>
         ensures number { self.new.number ≡ self.old.number }
         ensures stores { IsStore self.old.store × IsStore self.new.store }
+        ensures claims { KeepsClaims self.old.store self.new.store }
         ensures removes { StoreRemoves entry.now result self.old.store self.new.store }
     {
         self.store.law();
@@ -88,6 +97,7 @@ impl<T, A: Allocator + Clone> Held<T, A> {
     fn reset(&mut self, entry: &EntryId, when: u64) -> (Result<Key, CoreError>, Option<T>)
         ensures number { self.new.number ≡ self.old.number }
         ensures stores { IsStore self.old.store × IsStore self.new.store }
+        ensures claims { KeepsClaims self.old.store self.new.store }
         ensures resets { StoreResets entry.now when result self.old.store self.new.store }
     {
         self.store.law();
@@ -99,6 +109,7 @@ impl<T, A: Allocator + Clone> Held<T, A> {
     fn deadline(&mut self, entry: &EntryId) -> Result<u64, CoreError>
         ensures number { self.new.number ≡ self.old.number }
         ensures stores { IsStore self.old.store × IsStore self.new.store }
+        ensures claims { KeepsClaims self.old.store self.new.store }
         ensures tells { StoreTells entry.now result self.old.store self.new.store }
     {
         self.store.law();
@@ -110,6 +121,7 @@ impl<T, A: Allocator + Clone> Held<T, A> {
     fn poll_some(&mut self, tick: u64, most: u32) -> Result<Piece<T>, CoreError>
         ensures number { self.new.number ≡ self.old.number }
         ensures stores { IsStore self.old.store × IsStore self.new.store }
+        ensures claims { KeepsClaims self.old.store self.new.store }
         ensures polls { StorePollsSome tick most result self.old.store self.new.store }
     {
         self.store.law();
@@ -118,15 +130,45 @@ impl<T, A: Allocator + Clone> Held<T, A> {
         answer
     }
 
+    // The same, and what the promise tells holds of what comes out.
+    fn poll_beside<J: Rooms>(
+        &mut self,
+        promise: &mut Promise<J, A>,
+        tick: u64,
+        most: u32,
+    ) -> Result<Piece<T>, CoreError>
+        requires { IsOfItsWords self.old.store promise.old }
+        ensures number { self.new.number ≡ self.old.number }
+        ensures stores { IsStore self.old.store × IsStore self.new.store }
+        ensures claims { KeepsClaims self.old.store self.new.store }
+        ensures polls { StorePollsSome tick most result self.old.store self.new.store }
+        ensures kept { IfPieceOut result (KeepsPromise self.old.store.notes promise.old) }
+        ensures same { promise.new ≡ promise.old }
+    {
+        self.store.law();
+        let answer = self.store.poll_some(tick, most);
+        let number = promise.claim.number();
+        self.store.beside(number, &mut promise.receipt);
+        self.store.law();
+        endings::outs_are_in_force::<T>();
+        answer
+    }
+
+    // It comes back where there is no room for its claim.
     fn take_in(
         &mut self,
         core: DelayCore<T, Keeper<A>, A>,
+        has_room: bool,
     ) -> Result<(), (TakeError, DelayCore<T, Keeper<A>, A>)>
         ensures number { self.new.number ≡ self.old.number }
         ensures stores { IsStore self.old.store × IsStore self.new.store }
+        ensures room { OnOk result (has_room ≡ true) }
         ensures takes { StoreTakesIn core result self.old.store self.new.store }
     {
         self.store.law();
+        if !has_room {
+            return Err((TakeError::NoMemory, core));
+        }
         let answer = self.store.take_in(core);
         self.store.law();
         answer
@@ -135,6 +177,7 @@ impl<T, A: Allocator + Clone> Held<T, A> {
     fn take_drained(&mut self) -> Option<DelayCore<T, Keeper<A>, A>>
         ensures number { self.new.number ≡ self.old.number }
         ensures stores { IsStore self.old.store × IsStore self.new.store }
+        ensures claims { KeepsClaims self.old.store self.new.store }
         ensures gives { StoreGives result self.old.store self.new.store }
     {
         self.store.law();
@@ -150,6 +193,7 @@ impl<T, A: Allocator + Clone> Held<T, A> {
     ) -> (Result<Moved<T>, CoreError>, Option<T>)
         ensures number { self.new.number ≡ self.old.number }
         ensures stores { IsStore self.old.store × IsStore self.new.store }
+        ensures claims { KeepsClaims self.old.store self.new.store }
         ensures relocates { StoreRelocates entry.now next result self.old.store self.new.store }
     {
         self.store.law();
@@ -161,6 +205,7 @@ impl<T, A: Allocator + Clone> Held<T, A> {
     fn reap(&mut self, entry: &EntryId) -> Result<(), ReapError>
         ensures number { self.new.number ≡ self.old.number }
         ensures stores { IsStore self.old.store × IsStore self.new.store }
+        ensures claims { KeepsClaims self.old.store self.new.store }
         ensures reaps { StoreReaps entry.now result self.old.store self.new.store }
     {
         self.store.law();
@@ -170,10 +215,11 @@ impl<T, A: Allocator + Clone> Held<T, A> {
     }
 }
 
-/// A shard, whose history is that which its number names.
+/// A shard, whose history is that which its number names, and the words of whose cores stand in the queue's directory.
 #[derive(Drop)]
 pub struct Shard<T, J: Rooms, A: Allocator = Global> {
     held: Held<T, A>,
+    claims: Vec<Claim<OpenWords<A>, A>, A>,
     history: Witness<Held<T, A>, A>,
     rooms: PhantomData<J>,
 }
@@ -181,6 +227,7 @@ pub struct Shard<T, J: Rooms, A: Allocator = Global> {
 impl<T, J: Rooms, A: Allocator> Model for Shard<T, J, A> {
     ghost use Rattle.std.specs.Prelude.{◌≡◌, ◌<◌};
     ghost use Rattle.dq_journal.specs.Once.{IsUnderLock};
+    ghost use Rattle.dq_queue.specs.Claims.{AreClaimed, AreClaimsOf};
     ghost use Rattle.dq_queue.specs.Shards.{HeldShard, IsAsLeft, IsStoreHistory};
 
     ghost Value = { HeldShard T };
@@ -189,7 +236,9 @@ impl<T, J: Rooms, A: Allocator> Model for Shard<T, J, A> {
 
     ghost invariant = { λ s. (s.held.number < J.shards)
         × (s.history.table ≡ J.history s.held.number) × IsUnderLock s.history.view
-        × IsAsLeft s.history.view.log s.held × IsStoreHistory s.history.view.log };
+        × IsAsLeft s.history.view.log s.held × IsStoreHistory s.history.view.log
+        × AreClaimsOf J.rows s.claims.items
+        × AreClaimed s.held.store.cores.cores s.claims.items };
 }
 
 /// A caller of one shard, in any thread.
@@ -224,9 +273,16 @@ impl<T, J: Rooms, A: Allocator> Caller<T, J, A> {
 }
 
 impl<T, J: Rooms, A: Allocator> Shard<T, J, A> {
-    /// A shard with a history in which nothing is yet, under the names of its number.
-    pub fn of(held: Held<T, A>, history: Witness<Held<T, A>, A>) -> Shard<T, J, A>
+    /// A shard with a history in which nothing is yet, under the names of its number. It has these claims of the words
+    /// of its cores.
+    pub fn of(
+        held: Held<T, A>,
+        claims: Vec<Claim<OpenWords<A>, A>, A>,
+        history: Witness<Held<T, A>, A>,
+    ) -> Shard<T, J, A>
         requires number { held.number < J.shards }
+        requires claims { AreClaimsOf J.rows claims.items }
+        requires claimed { AreClaimed held.store.cores.cores claims.items }
         requires history { (history.table ≡ J.history held.number)
             × (history.view ≡ first_witness) }
         ensures held { result.held ≡ held }
@@ -234,6 +290,7 @@ impl<T, J: Rooms, A: Allocator> Shard<T, J, A> {
     {
         Shard {
             held,
+            claims,
             history,
             rooms: PhantomData,
         }
@@ -400,11 +457,39 @@ impl<T, J: Rooms, A: Allocator + Clone> Shard<T, J, A> {
         answer
     }
 
-    /// Takes a core in, which is open from then on. The one that was open drains. It takes memory for the list of cores
-    /// alone.
+    /// The same, beside the promise of a call by the queue's words, of whatever thread: what comes out keeps it.
+    ///
+    /// # Errors
+    /// `TickTooLarge` beyond the last tick, which is not noted then.
+    pub fn poll_beside(
+        &mut self,
+        me: &mut Caller<T, J, A>,
+        words: &QueueWords<J, A>,
+        promise: &mut Promise<J, A>,
+        tick: u64,
+        most: u32,
+    ) -> Result<Piece<T>, CoreError>
+        requires { me.old.shard ≡ self.old.held.number }
+        ensures once { MadeOnce me.old
+            (λ s t. StorePollsBeside promise.old tick most result s t) me.new }
+        ensures one_more { OneMore self.old me.old self.new }
+        ensures polls { StorePollsBeside promise.old tick most result
+            self.old.held.store self.new.held.store }
+        ensures number { self.new.held.number ≡ self.old.held.number }
+        ensures same { promise.new ≡ promise.old }
+    {
+        let _ = words.knows(self.claims.as_slice(), &promise.claim);
+        let answer = self.held.poll_beside(promise, tick, most);
+        self.history.enter_for(&mut me.history, &self.held);
+        answer
+    }
+
+    /// Takes a core in whose words are claimed, and which is open from then on. The one that was open drains. It takes
+    /// memory for the lists of cores and of claims alone.
     ///
     /// # Errors
     /// The core comes back, and nothing changes. In this order:
+    /// - `NoMemory` if memory for the claim is refused.
     /// - `UsedNumber` if an entry is known by an id of that number that was moved away from there, or to there.
     /// - `StillLinked` if an entry is linked in the core.
     /// - `UsedNumber` if a core of the shard has its number, or it is the last one of all.
@@ -412,15 +497,19 @@ impl<T, J: Rooms, A: Allocator + Clone> Shard<T, J, A> {
     pub fn take_in(
         &mut self,
         me: &mut Caller<T, J, A>,
+        words: &QueueWords<J, A>,
         core: DelayCore<T, Keeper<A>, A>,
+        claim: &Claim<OpenWords<A>, A>,
     ) -> Result<(), (TakeError, DelayCore<T, Keeper<A>, A>)>
-        requires { me.old.shard ≡ self.old.held.number }
+        requires number { me.old.shard ≡ self.old.held.number }
+        requires claim { IsOf J.rows claim.now × ClaimsWords claim.now core }
         ensures once { MadeOnce me.old (λ s t. StoreTakesIn core result s t) me.new }
         ensures one_more { OneMore self.old me.old self.new }
         ensures takes { StoreTakesIn core result self.old.held.store self.new.held.store }
         ensures number { self.new.held.number ≡ self.old.held.number }
     {
-        let answer = self.held.take_in(core);
+        let has_room = words.keep(&mut self.claims, claim);
+        let answer = self.held.take_in(core, has_room);
         self.history.enter_for(&mut me.history, &self.held);
         answer
     }

@@ -1,8 +1,10 @@
 //! The words of each core by the core's number, on which any thread steps by `&self` and without a lock.
-ghost use Rattle.std.specs.Prelude.{◌≡◌, ◌≤◌, IfErr, IfOk};
+ghost use Rattle.std.specs.Prelude.{◌≡◌, ◌≢◌, ◌≤◌, ℕ, true, false, IfErr, IfOk};
+ghost use Rattle.dq_directory.specs.Claims.{Claimed, IsOf};
 ghost use Rattle.dq_ticks.specs.declared.TheConstants.{LAST_TICK};
-ghost use Rattle.dq_words.specs.OpenCalls.{ShowsCancel, ShowsExtend, ShowsLook};
+ghost use Rattle.dq_words.specs.OpenCalls.{Open, ShowsCancel, ShowsExtend, ShowsLook};
 ghost use Rattle.dq_words.specs.Together.{CancelsCover};
+ghost use Rattle.dq_queue.specs.Claims.{AgreeWith, AreClaimsOf, HasClaim, IsClaimAt};
 ghost use Rattle.dq_queue.specs.Words.{IsPromise, QueueExtendRefused, QueueCancelRefused, QueueLookRefused};
 
 use crate::shard::Rooms;
@@ -34,8 +36,8 @@ impl<J: Rooms, A: Allocator> Model for QueueWords<J, A> {
 /// What shows a call by a queue's words: the receipt of the call, and that the words are those of the number.
 #[derive(Drop)]
 pub struct Promise<J: Rooms, A: Allocator = Global> {
-    receipt: Receipt,
-    claim: Claim<OpenWords<A>, A>,
+    pub(crate) receipt: Receipt,
+    pub(crate) claim: Claim<OpenWords<A>, A>,
     rooms: PhantomData<J>,
 }
 
@@ -246,5 +248,63 @@ impl<J: Rooms, A: Allocator> QueueWords<J, A> {
             rooms: _,
         } = other;
         words.compare(&mut one.receipt, receipt);
+    }
+
+    // Whether two claims have one number. They are of the same words then.
+    fn is_of(&self, one: &Claim<OpenWords<A>, A>, other: &Claim<OpenWords<A>, A>) -> bool
+        requires one { IsOf J.rows one.now }
+        requires other { IsOf J.rows other.now }
+        ensures same { result ≡ true → (one.now.number ≡ other.now.number)
+            × (one.now.thing ≡ other.now.thing) }
+        ensures apart { result ≡ false → one.now.number ≢ other.now.number }
+    {
+        if one.number() != other.number() {
+            return false;
+        }
+        self.directory.agree(one, other);
+        true
+    }
+
+    // Whether one of these claims has the number of another. Each that has it is of the same words.
+    pub(crate) fn knows(
+        &self,
+        claims: &[Claim<OpenWords<A>, A>],
+        claim: &Claim<OpenWords<A>, A>,
+    ) -> bool
+        requires all { AreClaimsOf J.rows claims.now }
+        requires one { IsOf J.rows claim.now }
+        ensures agree { AgreeWith claims.now claim.now }
+        ensures has { result ≡ true → HasClaim claims.now claim.now.number }
+    {
+        let mut has = false;
+        for at in 0..claims.len() {
+            let is = self.is_of(&claims[at], claim);
+            has = has | is;
+        }
+        has
+    }
+
+    // Takes a claim to others, unless one of them has its number. It returns whether there is one then.
+    pub(crate) fn keep(
+        &self,
+        claims: &mut Vec<Claim<OpenWords<A>, A>, A>,
+        claim: &Claim<OpenWords<A>, A>,
+    ) -> bool
+        requires all { AreClaimsOf J.rows claims.old.items }
+        requires one { IsOf J.rows claim.now }
+        ensures all { AreClaimsOf J.rows claims.new.items }
+        ensures others { (j : ℕ) (k : Claimed Open) → IsClaimAt claims.old.items j k
+            → IsClaimAt claims.new.items j k }
+        ensures has { result ≡ true → HasClaim claims.new.items claim.now.number }
+        ensures agree { AgreeWith claims.new.items claim.now }
+    {
+        if self.knows(claims.as_slice(), claim) {
+            return true;
+        }
+        if claims.reserve(1).is_err() {
+            return false;
+        }
+        claims.push_reserved(claim.again());
+        true
     }
 }

@@ -2,7 +2,6 @@ mod cases;
 mod keys;
 mod makings;
 mod memory;
-mod named;
 mod play;
 mod rows;
 mod shards;

@@ -1,8 +1,6 @@
 pub mod Auditing
-pub mod ForCallers
 pub mod Headline
 pub mod Locked
-pub mod Named
 pub mod Numbering
 pub mod Parking
 pub mod Refusing

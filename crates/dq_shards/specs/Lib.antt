@@ -2,11 +2,9 @@ pub mod Answers
 pub mod Audits
 pub mod Changes
 pub mod Endings
-pub mod ForCallers
 pub mod Handles
 pub mod Issuing
 pub mod Many
-pub mod Named
 pub mod Refusals
 pub mod Shard
 pub mod Sums

@@ -2,7 +2,6 @@
 #![tactic(auto)]
 
 mod audit;
-pub mod by;
 mod calls;
 mod drops;
 pub mod endings;

@@ -123,7 +123,6 @@ mod with_std {
     use crate::directory::{Clerk, Directory};
     use crate::growing::{Cores, Folds, Store};
     use crate::parking::{MillisecondTicks, Parked, ShardStream, Shards};
-    use crate::shards::by::{NamedCaller, NamedQueue, NamedShard, Rooms};
     use crate::shards::{Handle, ShardState, SharedDelayQueue};
     use std::hash::{BuildHasher, Hash};
 
@@ -207,28 +206,6 @@ mod with_std {
         fn fmt(&self, f: &mut Formatter<'_>) -> Result {
             f.debug_struct("Handle")
                 .field("cancels", &self.cancels())
-                .finish_non_exhaustive()
-        }
-    }
-
-    impl<T, J: Rooms> Debug for NamedQueue<T, J> {
-        fn fmt(&self, f: &mut Formatter<'_>) -> Result {
-            f.debug_struct("NamedQueue")
-                .field("shards", &self.shards())
-                .finish_non_exhaustive()
-        }
-    }
-
-    impl<T, J: Rooms> Debug for NamedShard<T, J> {
-        fn fmt(&self, f: &mut Formatter<'_>) -> Result {
-            f.debug_struct("NamedShard").finish_non_exhaustive()
-        }
-    }
-
-    impl<T, J: Rooms> Debug for NamedCaller<T, J> {
-        fn fmt(&self, f: &mut Formatter<'_>) -> Result {
-            f.debug_struct("NamedCaller")
-                .field("shard", &self.shard())
                 .finish_non_exhaustive()
         }
     }

@@ -57,8 +57,6 @@ pub mod owner {
 pub mod shards {
     //! Delay queues behind locks, one a shard, whose entries are extended and cancelled without them.
 
-    #[doc(hidden)]
-    pub use crate::shards::by;
     pub use crate::shards::{
         BadQueueNumber, Handle, HandlesOut, Parked, QueueConfig, QueueError, ShardState, SharedDelayQueue, Totals,
         SHARD_LIMIT,

@@ -1,8 +1,6 @@
 //! Delay queues behind locks, one a shard, whose entries are extended and cancelled without them.
 
 mod audit;
-#[doc(hidden)]
-pub mod by;
 mod calls;
 mod drops;
 mod errors;

@@ -21,8 +21,6 @@ mod first_callers;
 mod folds;
 #[path = "hostile/forged.rs"]
 mod forged;
-#[path = "hostile/named.rs"]
-mod named;
 #[path = "hostile/numbers.rs"]
 mod numbers;
 #[path = "hostile/owners.rs"]

@@ -4,7 +4,6 @@
 #![allow(clippy::incompatible_msrv, clippy::ok_expect)]
 
 use hontkhale::parts::owner::{CallError, CoreError, Key, Look, Piece, ReapError, Turn, HANDLE_LIMIT, LAST_TICK};
-use hontkhale::parts::shards::by::{NamedQueue, Rooms};
 use hontkhale::parts::shards::{Handle, HandlesOut, QueueConfig, QueueError, ShardState, SharedDelayQueue};
 use hontkhale::parts::streams::{ExpiredStream, MillisecondTicks};
 use std::panic::{catch_unwind, AssertUnwindSafe};
@@ -307,30 +306,6 @@ fn an_audit_is_refused_for_each_shard_with_a_caller_out() {
         assert_eq!(queue.audit(), Err(HandlesOut { out: 1 }));
         caller.give_back();
         assert!(queue.audit().is_ok());
-    }
-}
-
-struct Named;
-
-impl Rooms for Named {}
-
-#[test]
-fn a_queue_of_named_shards_has_the_numbers_of_its_config() {
-    let config = QueueConfig {
-        shards: 2,
-        capacity: 1,
-        last_stamp: 1,
-    };
-    let queue: NamedQueue<u64, Named> = NamedQueue::new(config).unwrap();
-    let unknown = (2..4).map(|shard| queue.enter(shard).err());
-    assert!(unknown.eq([Some(QueueError::Unknown); 2]));
-    for shard in 0..2 {
-        let mut caller = queue.enter(shard).unwrap().issue().unwrap();
-        let key = queue.insert_by(&mut caller, 7, 5).0.unwrap();
-        assert_eq!(key.entry().shard() as usize, shard);
-        assert_eq!(queue.remove_by(&mut caller, &key.entry()).unwrap().value, 7);
-        let worn = CoreError::Full { linked: 0, worn: 1 };
-        assert_eq!(queue.insert_by(&mut caller, 8, 5).0, Err((worn, 8)));
     }
 }
 

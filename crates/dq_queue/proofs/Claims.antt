@@ -1,0 +1,201 @@
+-- The words of a shard's cores stay claimed.
+use Rattle.std.proofs.Common.{true, ◌≡◌, ◌⊎◌, ℕ, ◌<◌, ◌≤◌, ◌+◌, Bool, List, [], ◌∷◌, ◌++◌, length, get_or, sym, refl, ap, ◌∙◌, subst, inl, inr, ⊎_elim, length-set, arith, Option, Some, None, Result, Ok, Err, OnOk, IfSome, IfNone, remove}
+use Rattle.std.proofs.lemmas.List.{get_or_default}
+use mathlib.Core.Logic.{dite}
+use native.Mathlib.Decide.{ℕ_discrete}
+use Rattle.atomic_table.specs.Seated.{TableId}
+use Rattle.boxcar.specs.Slot.{Named}
+use Rattle.dq_ticks.specs.declared.keys.Key.{Key}
+use Rattle.dq_ticks.specs.declared.keys.EntryId.{EntryId}
+use Rattle.dq_core.specs.declared.errors.CoreError.{CoreError}
+use Rattle.dq_core.specs.declared.errors.CoreError.TheVariants.{TooFar, Full, Missing, WasCancelled, Worn, TickTooLarge, BadConfig, NoMemory}
+use Rattle.dq_core.specs.declared.errors.ReapError.{ReapError}
+use Rattle.dq_core.specs.declared.outcomes.Removed.{Removed}
+use Rattle.dq_core.specs.declared.outcomes.Piece.{Piece}
+use Rattle.dq_core.specs.Core.{Core}
+use Rattle.dq_directory.specs.Claims.{Claimed, IsOf}
+use Rattle.dq_growing.specs.declared.cores.TakeError.{TakeError}
+use Rattle.dq_growing.specs.declared.moving.Moved.{Moved}
+use Rattle.dq_growing.specs.declared.moving.Moved.TheVariants.{To, Out}
+use Rattle.dq_growing.specs.declared.moving.NextDeadline.{NextDeadline}
+use Rattle.dq_growing.specs.declared.moving.NextDeadline.TheVariants.{At}
+use Rattle.dq_growing.specs.Cores.{CoreRow, IsCoreAt, HasAt, EachOf, OnCore, OnCoreAt, OnCoreOr, InsertsIn, TakesIn, GivesDrained}
+use Rattle.dq_growing.specs.Moving.{GoesTo, Relocates}
+use Rattle.dq_growing.specs.Polls.{PollsRow, DoesPiece}
+use Rattle.dq_growing.specs.Stands.{KeepsWords}
+use Rattle.dq_growing.specs.Store.{StoreState, AfterReset, RelocatesFor, RelocatesAt, RemovesAt}
+use Rattle.dq_growing.proofs.Rows.{one_at, at_snoc, removed_at, snoc_long, snoc_before, snoc_last}
+use Rattle.dq_words.specs.KeeperCalls.{HasBegun}
+use Rattle.dq_words.specs.OpenCalls.{Open}
+use Rattle.dq_words.specs.Seats.{Sat}
+use Rattle.dq_queue.specs.Calls.{StoreInserts, StoreRemoves, StoreResets, StoreTells, StorePollsSome, StoreTakesIn, StoreGives, StoreRelocates, StoreReaps}
+use Rattle.dq_queue.specs.Claims.{IsClaimAt, AreClaimsOf, HasClaim, AgreeWith, ClaimsWords, AreClaimed, KeepsClaims, IsOfItsWords}
+use Rattle.dq_queue.specs.Words.{PromiseView, IsPromiseOf}
+
+-- the table of a keeper
+abbrev pub table_by : Sat → TableId
+table_by k = k.table
+
+-- a claim more, behind the others
+claim_at_snoc : (claims : List (Claimed Open)) (a d : Claimed Open) (j : ℕ) → IsClaimAt (claims ++ a ∷ []) j d
+    → IsClaimAt claims j d ⊎ ((j ≡ length claims) × (a ≡ d))
+claim_at_snoc claims a d j at =
+    dite (ℕ_discrete j (length claims))
+    (λ e. let P : ℕ → Type 0 = λ k. get_or (claims ++ a ∷ []) k d ≡ d in
+    inr (e, sym (snoc_last claims a d) ∙ subst P e at.1))
+    (λ n. let long = snoc_long claims a in let inside = at.0 in
+    let before : j < length claims = omega arith in
+    inl (before, sym (snoc_before claims a d j before) ∙ at.1))
+
+pub claim_more : (rows : List Named) (claims : List (Claimed Open)) (a : Claimed Open) → AreClaimsOf rows claims → IsOf rows a → AreClaimsOf rows (claims ++ a ∷ [])
+claim_more rows claims a all one j d at = ⊎_elim
+    (λ (y : IsClaimAt claims j d). all j d y)
+    (λ (y : (j ≡ length claims) × (a ≡ d)). let P : Claimed Open → Type 0 = λ k. IsOf rows k in subst P y.1 one)
+    (claim_at_snoc claims a d j at)
+
+pub ok_then : {X E : Type 0} (P Q : Type 0) (r : Result X E) → OnOk r P → (P → Q) → OnOk r Q
+ok_then P Q (Ok x) p f = f p
+ok_then P Q (Err e) p f = tt {0}
+
+module _ {T : Type 0} where
+  -- no core comes or goes
+
+  abbrev SameLength : CoreRow T Sat → CoreRow T Sat → Type 0
+  SameLength s t = length t.cores ≡ length s.cores
+
+  same_row : (s t : CoreRow T Sat) → t ≡ s → SameLength s t
+  same_row s t e = ap (λ (r : CoreRow T Sat). length r.cores) e
+
+  at_long : (s t : CoreRow T Sat) (i : ℕ) (P : Core T Sat → Core T Sat → Type 0) → OnCoreAt i P s t → SameLength s t
+  at_long s t i P on = ap (λ (r : CoreRow T Sat). length r.cores) on.rest ∙ length-set s.cores i on.after
+
+  on_long : (s t : CoreRow T Sat) (n : ℕ) (P : Core T Sat → Core T Sat → Type 0) → OnCore n P s t → SameLength s t
+  on_long s t n P on = ap (λ (r : CoreRow T Sat). length r.cores) on.rest ∙ length-set s.cores on.place on.after
+
+  or_long : (s t : CoreRow T Sat) (n : ℕ) (P : Core T Sat → Core T Sat → Type 0) (R : Type 0) → OnCoreOr n P R s t → SameLength s t
+  or_long s t n P R (inl on) = on_long s t n P on
+  or_long s t n P R (inr y) = same_row s t y.2
+
+  same_store : (s t : StoreState T Sat) → t ≡ s → SameLength s.cores t.cores
+  same_store s t e = ap (λ (r : StoreState T Sat). length r.cores.cores) e
+
+  pub inserts_long : (s t : StoreState T Sat) (v : T) (when : ℕ) (r : Result Key (CoreError × T) × Option T) → StoreInserts v when r s t → SameLength s.cores t.cores
+  inserts_long s t v when r (inl on, notes) = at_long s.cores t.cores s.cores.opened _ on
+  inserts_long s t v when r (inr y, notes) = same_row s.cores t.cores y.2
+
+  removes_at : (s t : StoreState T Sat) (u p : EntryId) (r : Result (Removed T) CoreError) → RemovesAt true s u r t p → SameLength s.cores t.cores
+  removes_at s t u p (Ok x) did = on_long s.cores t.cores p.shard _ did.1
+  removes_at s t u p (Err e) did = or_long s.cores t.cores p.shard _ _ did.0
+
+  pub removes_long : (s t : StoreState T Sat) (u : EntryId) (r : Result (Removed T) CoreError) → StoreRemoves u r s t → SameLength s.cores t.cores
+  removes_long s t u r (inl y) = removes_at s t u y.0 r y.2
+  removes_long s t u r (inr y) = same_store s t y.1.1
+
+  pub tells_long : (s t : StoreState T Sat) (u : EntryId) (r : Result ℕ CoreError) → StoreTells u r s t → SameLength s.cores t.cores
+  tells_long s t u r (inl y) = or_long s.cores t.cores _ _ _ y.2.0
+  tells_long s t u r (inr y) = same_store s t y.1.1
+
+  pub reaps_long : (s t : StoreState T Sat) (u : EntryId) (r : Result (Unit {0}) ReapError) → StoreReaps u r s t → SameLength s.cores t.cores
+  reaps_long s t u r (inl y) = or_long s.cores t.cores _ _ _ y.2.0
+  reaps_long s t u r (inr y) = same_store s t y.1.1
+
+  polls_row : (s t : CoreRow T Sat) (tick most : ℕ) (r : Result (Piece T) CoreError) → PollsRow (DoesPiece true most) s tick r t → SameLength s t
+  polls_row s t tick most (Ok p) (small, inl y) = same_row _ t y.1
+  polls_row s t tick most (Ok p) (small, inr core) = at_long _ t core.place _ core.did
+  polls_row s t tick most (Err e) y = same_row s t y.2
+
+  pub polls_long : (s t : StoreState T Sat) (tick most : ℕ) (r : Result (Piece T) CoreError) → StorePollsSome tick most r s t → SameLength s.cores t.cores
+  polls_long s t tick most r y = polls_row s.cores t.cores tick most y.0 y.1
+
+  goes_long : (m t : CoreRow T Sat) (x : Removed T) (next : NextDeadline) (moved : Moved T) (beside : Option T) → GoesTo m x next moved beside t → SameLength m t
+  goes_long m t x next (To k d) beside y = at_long m t m.opened _ y.1
+  goes_long m t x next (Out z) beside y = same_row m t y.3
+
+  moves_long : (s t : CoreRow T Sat) (p : EntryId) (next : NextDeadline) (r : Result (Moved T) CoreError) (beside : Option T) → Relocates true p next (r, beside) s t → SameLength s t
+  moves_long s t p next (Ok moved) beside y =
+      let way = y.2 in
+      goes_long way.1 t way.0 next moved beside way.3 ∙ on_long s way.1 p.shard _ way.2
+  moves_long s t p next (Err (TooFar limit)) beside y = same_row s t y.3
+  moves_long s t p next (Err (Full linked worn)) beside y = same_row s t y.3
+  moves_long s t p next (Err Missing) beside y = or_long s t p.shard _ _ y.3
+  moves_long s t p next (Err WasCancelled) beside y = or_long s t p.shard _ _ y.3
+  moves_long s t p next (Err Worn) beside y = or_long s t p.shard _ _ y.3
+  moves_long s t p next (Err (TickTooLarge limit)) beside y = or_long s t p.shard _ _ y.3
+  moves_long s t p next (Err BadConfig) beside y = or_long s t p.shard _ _ y.3
+  moves_long s t p next (Err NoMemory) beside y = or_long s t p.shard _ _ y.3
+
+  pub relocates_long : (s t : StoreState T Sat) (u : EntryId) (next : NextDeadline) (r : Result (Moved T) CoreError × Option T) → StoreRelocates u next r s t → SameLength s.cores t.cores
+  relocates_long s t u next r (inl (p, meant, inl y)) = same_row s.cores t.cores y.1
+  relocates_long s t u next r (inl (p, meant, inr y)) = moves_long s.cores t.cores p next y.0 r.1 y.1
+  relocates_long s t u next r (inr y) = same_store s t y.1.1
+
+  after_long : (m t : StoreState T Sat) (u : EntryId) (when : ℕ) (made r : Result Key CoreError) (beside : Option T) → AfterReset true m u when made (r, beside) t → SameLength m.cores t.cores
+  after_long m t u when (Ok k) r beside y = same_store m t y.2
+  after_long m t u when (Err e) r beside (inl y) = relocates_long m t u (At when) (y.1.0, beside) y.1.1
+  after_long m t u when (Err e) r beside (inr y) = same_store m t y.3
+
+  pub resets_long : (s t : StoreState T Sat) (u : EntryId) (when : ℕ) (r : Result Key CoreError) (beside : Option T) → StoreResets u when (r, beside) s t → SameLength s.cores t.cores
+  resets_long s t u when r beside (inl (p, meant, (made, m, on, after))) = after_long _ t u when made r beside after ∙ or_long s.cores m p.shard _ _ on
+  resets_long s t u when r beside (inr y) = same_store s t y.1.1
+
+  -- each core after a call has the number and the words of the one that stood there before
+  pub came_from : (s t : CoreRow T Sat) → KeepsWords table_by HasBegun s t → SameLength s t → (i : ℕ) (c : Core T Sat) → IsCoreAt t.cores i c
+      → (b : Core T Sat) × IsCoreAt s.cores i b × (c.shard ≡ b.shard) × (c.words.table ≡ b.words.table)
+  came_from s t keeps long i c at =
+      let inside = at.0 in
+      let b = get_or s.cores i c in
+      let was : IsCoreAt s.cores i b = (omega (arith, inside, long), get_or_default s.cores i b c (omega (arith, inside, long))) in
+      let k = keeps i b was in
+      let same = one_at t.cores i k.0 c k.1 at in
+      (b, was, ap (λ (x : Core T Sat). x.shard) (sym same) ∙ k.2, ap (λ (x : Core T Sat). x.words.table) (sym same) ∙ k.3)
+
+  pub stay_claimed : (s t : StoreState T Sat) → KeepsWords table_by HasBegun s.cores t.cores → SameLength s.cores t.cores → KeepsClaims s t
+  stay_claimed s t keeps long claims claimed i c at =
+      let b = came_from s.cores t.cores keeps long i c at in
+      let k = claimed i b.0 b.1 in
+      (k.0, k.1, k.2, (k.3.0 ∙ sym b.2, k.3.1 ∙ sym b.3))
+
+  pub still_its_words : (s t : StoreState T Sat) (p : PromiseView) → KeepsWords table_by HasBegun s.cores t.cores → SameLength s.cores t.cores → IsOfItsWords s p → IsOfItsWords t p
+  still_its_words s t p keeps long its i c at =
+      let b = came_from s.cores t.cores keeps long i c at.0 in
+      b.3 ∙ its i b.0 (b.1, sym b.2 ∙ at.1)
+
+  -- a promise is of the words of the core of its number
+  pub its_words : (rows : List Named) (s : StoreState T Sat) (claims : List (Claimed Open)) (p : PromiseView) → AreClaimed s.cores.cores claims → AgreeWith claims p.claim → IsPromiseOf rows p → IsOfItsWords s p
+  its_words rows s claims p claimed agree of i c at =
+      let k = claimed i c at.0 in
+      sym k.3.1 ∙ (ap (λ (o : Open). o.table) (agree k.0 k.1 k.2 (k.3.0 ∙ at.1)) ∙ sym of.1)
+
+  -- a core that drained is gone
+  gone : (s t : StoreState T Sat) (c : Core T Sat) → GivesDrained s.cores c t.cores → KeepsClaims s t
+  gone s t c gives claims claimed i d at =
+      let P : CoreRow T Sat → Type 0 = λ r. IsCoreAt r.cores i d in
+      ⊎_elim
+      (λ (y : (i < gives.place) × IsCoreAt s.cores.cores i d). claimed i d y.1)
+      (λ (y : (gives.place ≤ i) × IsCoreAt s.cores.cores (i + 1) d). claimed (i + 1) d y.1)
+      (removed_at s.cores.cores gives.place i d gives.drained.0.0 (subst P gives.rest at))
+
+  same_cores : (s t : StoreState T Sat) → t.cores ≡ s.cores → KeepsClaims s t
+  same_cores s t e claims claimed = let P : CoreRow T Sat → Type 0 = λ r. AreClaimed r.cores claims in subst P (sym e) claimed
+
+  pub gives_claimed : (s t : StoreState T Sat) (r : Option (Core T Sat)) → StoreGives r s t → KeepsClaims s t
+  gives_claimed s t (Some c) y = gone s t c y.0
+  gives_claimed s t None y = same_cores s t y.1.1
+
+  -- a core comes in, whose words are claimed
+  pub takes_claimed : (s t : StoreState T Sat) (c : Core T Sat) (r : Result (Unit {0}) (TakeError × Core T Sat)) (claims : List (Claimed Open)) (k : Claimed Open) → StoreTakesIn c r s t
+      → AreClaimed s.cores.cores claims → OnOk r (HasClaim claims k.number) → AgreeWith claims k → ClaimsWords k c → AreClaimed t.cores.cores claims
+  takes_claimed s t c (Ok done) claims k takes claimed has agree own = λ i d at.
+      let P : List (Core T Sat) → Type 0 = λ l. IsCoreAt l i d in
+      let here = subst P takes.0.cores at in
+      ⊎_elim
+      (λ (y : IsCoreAt s.cores.cores i d). claimed i d y)
+      (λ (y : (i ≡ length s.cores.cores) × (c ≡ d)).
+      let thing = agree has.0 has.1 has.2 has.3 in
+      let Q : Core T Sat → Type 0 = λ x. ClaimsWords has.1 x in
+      (has.0, has.1, has.2, subst Q y.1 (has.3 ∙ own.0, ap (λ (o : Open). o.table) thing ∙ own.1)))
+      (at_snoc s.cores.cores c d i here)
+  takes_claimed s t c (Err e) claims k takes claimed has agree own = same_cores s t takes.1.1 claims claimed
+
+  pub more_claimed : (cores : List (Core T Sat)) (was is : List (Claimed Open)) → ((j : ℕ) (k : Claimed Open) → IsClaimAt was j k → IsClaimAt is j k) → AreClaimed cores was → AreClaimed cores is
+  more_claimed cores was is more claimed i c at = let k = claimed i c at in (k.0, k.1, more k.0 k.1 k.2, k.3)
