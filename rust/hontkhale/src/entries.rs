@@ -47,7 +47,8 @@ impl<T, W: Words> DelayCore<T, W> {
 /// What the queue that threads share asks of the store of one owner, beside its calls.
 #[cfg(feature = "std")]
 impl<T, W: Words> Store<T, W> {
-    pub(crate) fn place(&self, entry: &EntryId) -> Option<EntryId> {
+    /// Where an entry is.
+    pub fn place(&self, entry: &EntryId) -> Option<EntryId> {
         self.notes.place(entry)
     }
 
