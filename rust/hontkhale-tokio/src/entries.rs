@@ -39,6 +39,8 @@ pub(crate) struct Entries<T> {
     promised: usize,
     /// What is put in comes out no earlier: the deadline of what came out last, or the tick up to which nothing was left.
     tick: u64,
+    /// Nothing comes out before this tick.
+    hint: u64,
     last_stamp: u32,
     /// Whether there was ever a handle, and whether handles find an entry by a name that isn't its first one.
     has_handles: bool,
@@ -80,6 +82,7 @@ impl<T> Entries<T> {
             left: 0,
             promised: 0,
             tick: 0,
+            hint: NEVER,
             last_stamp,
             has_handles: false,
             has_names: false,
@@ -124,7 +127,7 @@ impl<T> Entries<T> {
     #[inline(always)]
     pub fn insert(&mut self, value: T, when: u64) -> Key {
         let when = when.max(self.tick);
-        self.look_out_for(when);
+        self.note_deadline(when);
         if !self.has_room() {
             self.make_room();
         }
@@ -153,7 +156,7 @@ impl<T> Entries<T> {
                 Err(error) => return Err(error),
             }
         }
-        self.look_out_for(when);
+        self.note_deadline(when);
         Ok(())
     }
 

@@ -41,7 +41,7 @@ impl<T> Entries<T> {
     /// Notes what came out of the store.
     #[inline]
     pub fn note_expired(&mut self, out: &owner::Expired<T>) {
-        self.tick = out.deadline;
+        (self.tick, self.hint) = (out.deadline, out.deadline);
         self.note_out(&self.key(&out.key.entry()));
     }
 
@@ -52,17 +52,22 @@ impl<T> Entries<T> {
         Expired { key, data: out.value, tick, clock }
     }
 
-    /// Notes that the store rests, and gives the tick at which there is something to do, none where no entry is left. Where there
-    /// are several cores the store may name a tick though what was to come then has left.
+    /// Notes that the store rests, and gives the tick at which there is something to do, none where no entry is left. The store
+    /// names the start of a slot where the hint is exact; and of several cores it may name a tick though what was to come then has
+    /// left.
     #[inline]
     pub fn wake(&mut self, rest: &Turn<T>, reached: u64) -> Option<u64> {
         self.tick = self.tick.max(reached);
-        let Turn::Waiting { next } = rest else { return None };
-        if self.store.cores().count() == 1 {
-            return Some(*next);
-        }
-        let wake = self.store.cores().next_wake()?;
-        Some(if wake > reached { wake } else { *next })
+        let wake = match rest {
+            Turn::Waiting { next } if self.store.cores().count() == 1 => Some(*next),
+            Turn::Waiting { next } => {
+                let wake = self.store.cores().next_wake();
+                wake.map(|wake| if wake > reached { wake } else { *next })
+            }
+            _ => None,
+        };
+        self.hint = wake.map_or(NEVER, |wake| self.hint.max(wake));
+        wake.map(|_| self.hint)
     }
 
     /// Whether the entry is due that a peek named.
@@ -86,7 +91,7 @@ impl<T> Entries<T> {
             out = self.remove(&key);
         }
         if out.is_some() {
-            self.tick = self.tick.max(deadline);
+            (self.tick, self.hint) = (self.tick.max(deadline), deadline);
         }
         out
     }
@@ -182,7 +187,8 @@ impl<T> Entries<T> {
 
     /// Notes that an entry has a deadline, which may come before the one that the last peek named.
     #[inline]
-    pub(super) fn look_out_for(&mut self, when: u64) {
+    pub(super) fn note_deadline(&mut self, when: u64) {
+        self.hint = self.hint.min(when);
         let peeked = self.peeked.get_mut().unwrap_or_else(PoisonError::into_inner);
         if peeked.is_some_and(|(_, deadline)| when < deadline) {
             *peeked = None;
