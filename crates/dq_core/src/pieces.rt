@@ -31,6 +31,7 @@ impl<T, W: Words, A: Allocator> DelayCore<T, W, A> {
     ///
     /// # Errors
     /// TickTooLarge beyond the last tick, which is not noted then.
+    #[inline(always)]
     pub fn poll_some_deferring(&mut self, tick: u64, most: u32) -> Result<Piece<T>, CoreError>
         // The greater of the two ticks is noted. A tick is refused, and nothing changes, exactly
         // beyond the last one.

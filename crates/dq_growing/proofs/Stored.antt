@@ -22,7 +22,7 @@ use Rattle.dq_growing.specs.declared.moving.Moved.{Moved}
 use Rattle.dq_growing.specs.declared.moving.Moved.TheVariants.{To, Out}
 use Rattle.dq_growing.specs.Polls.{TakesAsideIn}
 use Rattle.dq_growing.specs.Notes.{Book, AreNotes, SameNotes, Forgets, IsNoted, with_id, or_own, user_at, place_by, meant_place}
-use Rattle.dq_growing.specs.Store.{entry_told, TellsPlaceFor, TakeRefusedFor, TellsFirstIn, TellsFrom, HasFor, NoneStandsFor, NotesAfter, answer_as, NotesAnswered, AfterReset, ResetsFor, GoesOnFor, StoreState, IsStore, StandsFor, KeysAreApart, RemovesFor, ComesFor, removed_as}
+use Rattle.dq_growing.specs.Store.{entry_told, TellsPlaceFor, TakeRefusedFor, TellsFirstIn, TellsFrom, HasFor, NoneStandsFor, NotesAfter, answer_as, NotesAnswered, AfterReset, ResetsFor, GoesOnFor, StoreState, IsStore, StandsFor, KeysAreApart, RemovesFor, ComesFor, removed_as, ResetsThere, reset_as}
 use Rattle.dq_growing.specs.declared.cores.TakeError.{TakeError}
 use Rattle.dq_growing.specs.Notes.{ArePastIn, AllArePast}
 use Rattle.dq_core.specs.AtTheCall.{linked_in}
@@ -409,6 +409,11 @@ module _ {T W : Type 0} where
   law_resets shared s cores p when made R law has did = law_same_notes s cores law (resets_age shared s.cores cores p when made R has did)
 
   -- a reset at a place, and what followed
+  pub resets_there : (shared : Bool) (s : StoreState T W) (u p : EntryId) (when : ℕ) (made : Result Key CoreError) (m : CoreRow T W)
+      → meant_place s.notes u ≡ Some p → OnCoreOr p.shard (λ b c. Resets shared b p when made c) (made ≡ Err (missing_error when)) s.cores m
+      → ResetsThere shared s u when (reset_as u made) (stored m s.notes)
+  resets_there shared s u p when made m at did = inl (p, at, (made, did, refl, refl))
+
   pub resets_for : (shared : Bool) (s : StoreState T W) (u p : EntryId) (when : ℕ) (made : Result Key CoreError) (m : CoreRow T W) (r : Result Key CoreError × Option T) (t : StoreState T W)
       → meant_place s.notes u ≡ Some p → OnCoreOr p.shard (λ b c. Resets shared b p when made c) (made ≡ Err (missing_error when)) s.cores m
       → AfterReset shared (stored m s.notes) u when made r t → ResetsFor shared s u when r t
@@ -487,6 +492,9 @@ module _ {T W : Type 0} where
 
   pub law_same_cores : (s : StoreState T W) (cores : CoreRow T W) → IsStore s → cores ≡ s.cores → IsStore (stored cores s.notes)
   law_same_cores s cores law same = let P : CoreRow T W → Type 0 = λ t. IsStore (stored t s.notes) in subst P (sym same) law
+
+  pub law_closes : (s : StoreState T W) (cores : CoreRow T W) (place : ℕ) → IsStore s → cores ≡ record s.cores { opened = place } → IsStore (stored cores s.notes)
+  law_closes s cores place law closes = law_same_notes s cores law (opened_ages s.cores cores place closes)
 
   pub law_opens : (s : StoreState T W) (cores : CoreRow T W) (o : Bool) (place : ℕ) → IsStore s
       → (o ≡ true → (place < length s.cores.cores) × (cores ≡ record s.cores { opened = place }))

@@ -57,6 +57,11 @@ abbrev pub answer_as : {T : Type 0} → EntryId → Result (Moved T) CoreError �
 answer_as u (Ok moved) = Ok (moved_as u moved)
 answer_as u (Err e) = Err e
 
+-- the key of a reset, as its user has it
+abbrev pub reset_as : EntryId → Result Key CoreError → Result Key CoreError
+reset_as u (Ok k) = Ok (key_as u k)
+reset_as u (Err e) = Err e
+
 -- the notes after a move of a user's entry from a place: its new place is noted, or it came out
 abbrev pub NotesMoved : {T : Type 0} → Book → EntryId → EntryId → Moved T → Book → Type 0
 NotesMoved n u p (To k d) m = IsNoted n u k.entry m
@@ -215,6 +220,17 @@ module _ {T W : Type 0} where
       (λ b c. Resets shared b p when made c) (made ≡ Err (missing_error when)) s.cores m
       × AfterReset shared (record s { cores = m }) u when made r t)
       ((r ≡ (Err (missing_error when), None)) × (t ≡ s))
+
+  -- a reset by a user's id, after which the entry is where it was
+  abbrev pub ResetsThere : Bool → StoreState T W → EntryId → ℕ → Result Key CoreError →
+      StoreState T W → Type 0
+  ResetsThere shared s u when r t =
+      AtPlace s u
+      (λ p. (made : Result Key CoreError)
+      × OnCoreOr p.shard
+      (λ b c. Resets shared b p when made c) (made ≡ Err (missing_error when)) s.cores t.cores
+      × (r ≡ reset_as u made) × (t.notes ≡ s.notes))
+      ((r ≡ Err (missing_error when)) × (t ≡ s))
 
   -- a poll, or a piece of one, as users know what came out
   abbrev pub PollsFor : (ℕ → Piece T → Core T W → Core T W → Type 0) → StoreState T W → ℕ →

@@ -193,6 +193,13 @@ impl<T, W: Words, A: Allocator> Cores<T, W, A> {
         true
     }
 
+    /// Closes the open core: inserts are refused until another one is opened or comes in.
+    pub fn close(&mut self)
+        ensures { self.new ≡ record self.old { opened = length self.old.cores } }
+    {
+        self.opened = self.cores.len();
+    }
+
     /// What a store keeps at all times: each core has a number of its own.
     pub fn law(&self)
         ensures { AreCores self.now }

@@ -5,7 +5,7 @@ ghost use Rattle.std.specs.Prelude.{◌≡◌, ◌↔◌, IsTrue, IfSome, IfNone
 ghost use Rattle.dq_growing.specs.Cores.{InsertsIn, TakesIn, GivesDrained, NoneDrained};
 ghost use Rattle.dq_ticks.specs.Keys.{EntryName};
 ghost use Rattle.dq_growing.specs.Stands.{OneLeaves, SameStand, KeepsWords};
-ghost use Rattle.dq_growing.specs.Store.{key_as, key_told, removed_as, expired_as, moved_as, answer_as, NotesMoved, NotesAnswered, IsStore, KeysAreApart, StandsFor, ComesFor, GoesOnFor, RemovesFor, TellsFor, RelocatesFor, PollsFor, PeeksFor, piece_as, NotesAfter, ReapsFor, ResetsFor, TakeRefusedFor, TellsPlaceFor};
+ghost use Rattle.dq_growing.specs.Store.{key_as, key_told, removed_as, expired_as, moved_as, answer_as, NotesMoved, NotesAnswered, IsStore, KeysAreApart, StandsFor, ComesFor, GoesOnFor, RemovesFor, TellsFor, RelocatesFor, PollsFor, PeeksFor, piece_as, NotesAfter, ReapsFor, ResetsFor, TakeRefusedFor, TellsPlaceFor, ResetsThere};
 ghost use Rattle.dq_growing.specs.Moving.{IfTo, IfCameOut};
 ghost use Rattle.dq_growing.specs.Polls.{DoesPoll, DoesPiece};
 ghost use Rattle.dq_growing.specs.Notes.{HasNoteRoom, AllArePast, user_at, with_id};
@@ -198,6 +198,7 @@ impl<T, W: Words, A: Allocator + Clone> Store<T, W, A> {
     /// `value` comes back. In this order:
     /// - `TooFar` if `when` is beyond the last tick.
     /// - `Full` if no core is open, or the open one has no slot free.
+    #[inline(always)]
     pub fn insert(&mut self, value: T, when: u64) -> (Result<Key, (CoreError, T)>, Option<T>)
         // The entry is in under its key, which none had, and no other changes.
         ensures comes { IfOk result.0 (λ k. ComesFor self.old k value when self.new) }
@@ -328,6 +329,7 @@ impl<T, W: Words, A: Allocator + Clone> Store<T, W, A> {
     ///
     /// # Errors
     /// `TickTooLarge` beyond the last tick, which is not noted then.
+    #[inline(always)]
     pub fn poll_some(&mut self, tick: u64, most: u32) -> Result<Piece<T>, CoreError>
         // Exactly: a piece of a poll of the cores. What comes out has its user's key, and leaves no note.
         ensures polls { PollsFor (DoesPiece W.shared most) self.old tick result self.new }
@@ -382,6 +384,30 @@ impl<T, W: Words, A: Allocator + Clone> Store<T, W, A> {
         }
         let (moved, beside) = self.relocate(entry, NextDeadline::At(when));
         (key_told(moved), beside)
+    }
+
+    /// Gives a live entry the deadline `when`, a tick of one millisecond, sooner or later than the one that it has, and
+    /// returns its new key. It stays where it is. Constant time, and no memory is taken.
+    ///
+    /// # Errors
+    /// In this order:
+    /// - `TooFar` if `when` is beyond the last tick.
+    /// - `Missing` if the entry isn't in the store any more, or never was.
+    /// - `WasCancelled` if the entry was cancelled.
+    /// - `Worn` if the entry's slot has no stamp left for another key.
+    pub fn reset_in_place(&mut self, entry: &EntryId, when: u64) -> Result<Key, CoreError>
+        // Exactly: a reset at the place that the notes tell.
+        ensures resets { ResetsThere W.shared self.old entry.now when result self.new }
+    {
+        let Some(place) = self.notes.place(entry) else {
+            return Err(missing_at(when));
+        };
+        self.cores.law();
+        let key = match self.cores.reset(&place, when) {
+            Ok(key) => key,
+            Err(error) => return Err(error),
+        };
+        Ok(key_as(entry, key))
     }
 
     /// Reaps the entry of that id where it is found cancelled. Its value isn't dropped: it waits until it is taken out.

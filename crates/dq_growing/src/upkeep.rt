@@ -93,6 +93,14 @@ impl<T, W: Words, A: Allocator + Clone> Store<T, W, A> {
         opens
     }
 
+    /// Closes the open core: inserts are refused until another one is opened or comes in.
+    pub fn close(&mut self)
+        ensures closes { self.new.cores ≡ record self.old.cores { opened = length self.old.cores.cores } }
+        ensures notes { self.new.notes ≡ self.old.notes }
+    {
+        self.cores.close();
+    }
+
     /// Takes memory for `cores` more in the list of cores, and for one note.
     ///
     /// # Errors

@@ -170,6 +170,19 @@ macro_rules! rows {
                 }
             }
 
+            /// Polls of a task that waits where nothing is due and nothing was changed, as in each turn of a `select!`.
+            pub fn poll_waiting(entries: usize, _clock: &Clock, dice: &mut Dice, watch: &mut Stopwatch) {
+                let (mut queue, _) = filled(entries, dice);
+                let waker = Waker::from(Task::new());
+                let mut cx = Context::from_waker(&waker);
+                assert!(queue.poll_expired(&mut cx).is_pending());
+                watch.time(CALLS, || {
+                    for _ in 0..CALLS {
+                        assert!(black_box(queue.poll_expired(&mut cx)).is_pending());
+                    }
+                });
+            }
+
             /// Connections with 30 s of idle time: each second a part of them is heard of, and the queue is polled.
             pub fn idle(entries: usize, clock: &Clock, dice: &mut Dice, watch: &mut Stopwatch) {
                 let (mut queue, keys) = filled(entries, dice);
@@ -451,12 +464,13 @@ fn timed(row: Row, entries: usize, round: usize) -> Stopwatch {
 
 fn main() {
     let asked = Asked::read();
-    let rows: [(&str, Row, Row); 13] = [
+    let rows: [(&str, Row, Row); 14] = [
         ("insert_at", peers::insert, ours::insert),
         ("reset_at", peers::reset, ours::reset),
         ("remove", peers::remove, ours::remove),
         ("poll_expired", peers::poll, ours::poll),
         ("poll_expired, no limit", peers::poll, poll_whole),
+        ("poll_expired, nothing due", peers::poll_waiting, ours::poll_waiting),
         ("reset_at / handle.extend_at", peers::reset, extend),
         ("idle timeouts by reset", peers::idle, ours::idle),
         ("idle timeouts by handle", idle_by_mutex::<1, false>, idle_by_handle::<1, false>),

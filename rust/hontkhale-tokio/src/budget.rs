@@ -9,67 +9,47 @@ pub(crate) const DEFAULT_BUDGET: u32 = 128;
 /// The most steps that a call of the library is given at first. It doesn't tell how many it made, so all of them are counted.
 const PIECE: u32 = 8;
 
-/// How many steps there may be.
-#[derive(Clone, Copy)]
-pub(crate) enum Limit {
-    Steps(u32),
-    /// As many as there are: a call makes its whole poll.
-    None,
-}
-
-impl Limit {
-    /// The most steps of a call that counts them.
-    #[inline]
-    pub fn steps(self) -> u32 {
-        match self {
-            Limit::Steps(steps) => steps,
-            Limit::None => u32::MAX,
-        }
-    }
-}
-
 /// The steps that are left of a task's poll.
 #[derive(Clone, Copy)]
 pub(crate) struct Budget {
-    left: Limit,
+    /// The greatest number is no limit.
+    left: u32,
     /// The most steps of the next call.
     piece: u32,
 }
 
 impl Budget {
-    /// So many steps, at least one: with none a task would come again for ever.
+    /// So many steps, at least one: with none a task would come again for ever. The greatest number is no limit.
     #[inline]
     pub fn of(steps: u32) -> Budget {
-        Budget { left: Limit::Steps(steps.max(1)), piece: PIECE }
-    }
-
-    /// The same, but that the greatest number is no limit.
-    #[inline]
-    pub fn of_or_whole(steps: u32) -> Budget {
-        match steps {
-            u32::MAX => Budget { left: Limit::None, piece: PIECE },
-            _ => Budget::of(steps),
-        }
+        Budget { left: steps.max(1), piece: PIECE }
     }
 
     /// The steps of the next call, nothing where all are given.
     #[inline]
-    pub fn piece(&mut self) -> Option<Limit> {
-        match &mut self.left {
-            Limit::None => Some(Limit::None),
-            Limit::Steps(left) => {
-                let piece = self.piece.min(*left);
-                *left -= piece;
-                (piece > 0).then_some(Limit::Steps(piece))
-            }
+    pub fn piece(&mut self) -> Option<u32> {
+        let piece = self.piece.min(self.left);
+        self.take(piece);
+        (piece > 0).then_some(piece)
+    }
+
+    /// Takes one step, and tells whether there was one.
+    pub fn takes_step(&mut self) -> bool {
+        let is_left = self.left > 0;
+        self.take(u32::from(is_left));
+        is_left
+    }
+
+    #[inline]
+    fn take(&mut self, steps: u32) {
+        if self.left < u32::MAX {
+            self.left -= steps;
         }
     }
 
-    /// Takes steps back that a call wasn't given after all, or didn't make.
-    pub fn give_back(&mut self, steps: u32) {
-        if let Limit::Steps(left) = &mut self.left {
-            *left += steps;
-        }
+    /// Takes a step back that wasn't made.
+    pub fn give_back(&mut self) {
+        self.left = self.left.saturating_add(1);
     }
 
     /// Notes that a call made all of its steps: the next one is given twice as many, so that there are few calls.
@@ -95,13 +75,25 @@ impl Streak {
         self.entries >= DEFAULT_BUDGET
     }
 
+    /// Notes that the task is given an entry.
+    #[inline]
+    pub fn count(&mut self) {
+        self.entries += 1;
+    }
+
+    /// Notes that a poll is pending.
+    #[inline]
+    pub fn end(&mut self) {
+        self.entries = 0;
+    }
+
     /// Notes what a poll answers.
     #[inline]
     pub fn note<E>(&mut self, answer: &Poll<Option<E>>) {
         match answer {
-            Poll::Ready(Some(_)) => self.entries += 1,
+            Poll::Ready(Some(_)) => self.count(),
             Poll::Ready(None) => {}
-            Poll::Pending => self.entries = 0,
+            Poll::Pending => self.end(),
         }
     }
 }

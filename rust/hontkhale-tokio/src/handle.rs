@@ -1,6 +1,5 @@
 use crate::key::Key;
-use crate::shared::Shared;
-use crate::shared_state::{Refusal, Step};
+use crate::shared::{Shared, Step};
 use hontkhale::parts::owner::LAST_TICK;
 use std::error::Error;
 use std::fmt;
@@ -11,15 +10,12 @@ use tokio::time::Instant;
 /// Extends and cancels the entries of one [`DelayQueue`](crate::DelayQueue) from any thread, while its owner inserts,
 /// polls, or waits. It serves entries that came after it, too, and may outlive its queue, whose entries have ended then.
 ///
-/// A call is one atomic step beside a few loads, by a caller that the thread keeps for each segment of the queue. A lock is
-/// taken in three cases: at the first call of a thread at each segment; for an entry that was moved; and where more threads
-/// come than there are callers, until the owner's next poll issues more. There are 16 at first, and 1,000 at most.
-/// [`compact`](crate::DelayQueue::compact) and a worn slot move entries. So does a poll, if a handle extends the entry that
-/// [`peek`](crate::DelayQueue::peek) named just as the poll is about to give it. The owner holds that lock while it adds, moves
-/// or drops a segment, and in the poll after a `peek` or [`numbers`](crate::DelayQueue::numbers) for a moment.
+/// A call is a load and one atomic step. A lock is taken for an entry that was reset before the queue's first handle was made, or to a
+/// sooner deadline since, or that was moved. [`compact`](crate::DelayQueue::compact) and a worn slot move entries. So does a poll,
+/// if a handle extends the entry that [`peek`](crate::DelayQueue::peek) named just as the poll is about to give it. The owner holds
+/// that lock for the moment of such a call.
 ///
-/// A thread keeps callers of eight queues at most. It gives them back when it ends, when it calls a handle of a ninth, or of
-/// one that has gone; until then it holds on to 16 bytes for each slot of the segments that it called at.
+/// A handle that outlives its queue holds on to 8 bytes for each slot that the queue had.
 ///
 /// Nobody is woken: the owner comes upon an extended entry when it would have been due, and files it anew. No value is
 /// dropped by a handle's call.
@@ -90,7 +86,7 @@ impl Handle {
     }
 
     /// Cancels an entry, and returns the deadline that it gave up. It never comes out; the queue's next poll drops its value
-    /// and frees its place, and until then it counts in [`len`](crate::DelayQueue::len). It makes five atomic steps.
+    /// and frees its place, and until then it counts in [`len`](crate::DelayQueue::len).
     ///
     /// # Errors
     /// `Ended` if the entry came out, was removed or cancelled, or its queue has gone.
@@ -109,33 +105,13 @@ impl Handle {
     /// ```
     pub fn cancel(&self, key: &Key) -> Result<Instant, EntryError> {
         let deadline = self.step(key, Step::Cancel)?;
-        self.shared.tell_cancel();
+        self.shared.tell_cancel(key);
         Ok(self.shared.clock.moment(deadline))
     }
 
-    /// The step from this thread's caller at the entry's segment.
     #[inline(always)]
     fn step(&self, key: &Key, step: Step) -> Result<u64, EntryError> {
-        match self.shared.step(key, step) {
-            Ok(deadline) => Ok(deadline),
-            Err(refused) => self.step_again(key, step, refused),
-        }
-    }
-
-    /// The step anew, where it wasn't made at once: it is refused, or the thread has no caller, or the entry was moved.
-    #[cold]
-    fn step_again(&self, key: &Key, step: Step, refused: Refusal) -> Result<u64, EntryError> {
-        let refused = match refused {
-            Refusal::Moved | Refusal::NoCaller => match self.shared.step_by_states(key, step) {
-                Ok(deadline) => return Ok(deadline),
-                Err(refused) => refused,
-            },
-            refused => refused,
-        };
-        if refused == Refusal::Over {
-            self.shared.forget_callers();
-        }
-        Err(EntryError::Ended)
+        self.shared.step(key, step).ok_or(EntryError::Ended)
     }
 }
 

@@ -1,77 +1,94 @@
 use crate::clock::Clock;
-use hontkhale::parts::owner::EntryId;
+use hontkhale::parts::owner::{self, EntryId};
 use std::fmt;
 use tokio::time::Instant;
+
+/// The bits of a stamp and of a slot in a name, which leave 28 for a core's number.
+const STAMP_BITS: u32 = 20;
+const SLOT_BITS: u32 = 16;
+/// How many cores a queue may have made, so that a key names each.
+pub(crate) const MOST_CORES: u32 = 1 << (u64::BITS - STAMP_BITS - SLOT_BITS);
 
 /// The name of an entry, from its insert to its end: resets, growth and [`compact`](crate::DelayQueue::compact) leave it
 /// good, and no key is ever taken for another entry.
 #[derive(Clone, Copy, PartialEq, Eq, Hash)]
 pub struct Key {
-    /// The number of the segment, which no other segment of any queue of the program has.
-    segment: u64,
-    /// The stamp of the entry's birth in the high half, the segment's place in the row of its queue, and the slot. Two numbers in
-    /// all: a key that was just made is copied from two stores, and not from four, for which a wider load would wait.
-    name: u64,
+    /// The number of the queue, which no other queue of the program has.
+    queue: u64,
+    /// Two numbers in all: a key that was just made is copied from two stores, and not from four, for which a wider load would wait.
+    name: Name,
+}
+
+/// A core's number, a slot there, and a stamp. An entry's first name is where it was put, and the stamp of its birth.
+#[derive(Clone, Copy, PartialEq, Eq, Hash)]
+pub(crate) struct Name(u64);
+
+impl Name {
+    /// The name of what is at a place under a stamp.
+    #[inline]
+    pub fn of(place: &EntryId, stamp: u32) -> Name {
+        let slot = u64::from(place.shard()) << SLOT_BITS | u64::from(place.index());
+        Name(slot << STAMP_BITS | u64::from(stamp))
+    }
+
+    /// The core's number.
+    #[inline]
+    pub fn core(self) -> u32 {
+        (self.0 >> (STAMP_BITS + SLOT_BITS)) as u32
+    }
+
+    /// The id of an entry whose birth has that stamp.
+    #[inline]
+    pub fn entry(self) -> EntryId {
+        EntryId::new(self.core(), u32::from((self.0 >> STAMP_BITS) as u16), self.stamp())
+    }
+
+    #[inline]
+    fn stamp(self) -> u32 {
+        self.0 as u32 & ((1 << STAMP_BITS) - 1)
+    }
+
+    /// The key by which the words have it: they look at the slot and at the stamp alone.
+    #[inline]
+    pub fn key(self) -> owner::Key {
+        owner::Key::new(self.entry(), self.stamp())
+    }
 }
 
 impl Key {
-    /// The name of an entry of a segment. A segment has at most 65,536 slots.
+    /// The name of an entry of a queue.
     #[inline]
-    pub(crate) fn of(segment: u64, index: usize, slot: u32, born: u32) -> Key {
-        Key { segment, name: u64::from(born) << 32 | (index as u64) << 16 | u64::from(slot as u16) }
+    pub(crate) fn of(queue: u64, entry: &EntryId) -> Key {
+        Key { queue, name: Name::of(entry, entry.born()) }
     }
 
-    /// A key of its two numbers.
-    pub(crate) fn named(segment: u64, name: u64) -> Key {
-        Key { segment, name }
-    }
-
-    /// The two numbers of the key, neither of which is 0.
-    pub(crate) fn parts(&self) -> (u64, u64) {
-        (self.segment, self.name)
-    }
-
-    /// The segment's number.
+    /// The number of the queue.
     #[inline]
-    pub(crate) fn segment(&self) -> u64 {
-        self.segment
+    pub(crate) fn queue(&self) -> u64 {
+        self.queue
     }
 
+    /// The name that the entry had at first.
     #[inline]
-    pub(crate) fn born(&self) -> u32 {
-        (self.name >> 32) as u32
+    pub(crate) fn name(&self) -> Name {
+        self.name
     }
 
-    /// The segment's place in the row.
-    #[inline]
-    pub(crate) fn index(&self) -> usize {
-        usize::from((self.name >> 16) as u16)
-    }
-
-    #[inline]
-    pub(crate) fn slot(&self) -> usize {
-        usize::from(self.name as u16)
-    }
-
-    /// The name under which the segment's own queue has the entry.
+    /// The id under which the store has the entry.
     #[inline]
     pub(crate) fn entry(&self) -> EntryId {
-        EntryId::new(0, self.slot() as u32, self.born())
-    }
-
-    /// The key of a stamp under which callers of the segment's queue have the entry.
-    #[inline]
-    pub(crate) fn stamped(&self, stamp: u32) -> hontkhale::parts::owner::Key {
-        hontkhale::parts::owner::Key::new(self.entry(), stamp)
+        self.name.entry()
     }
 }
 
 impl fmt::Debug for Key {
     fn fmt(&self, f: &mut fmt::Formatter<'_>) -> fmt::Result {
+        let entry = self.entry();
         f.debug_struct("Key")
-            .field("segment", &self.segment)
-            .field("slot", &self.slot())
-            .field("born", &self.born())
+            .field("queue", &self.queue)
+            .field("core", &entry.shard())
+            .field("slot", &entry.index())
+            .field("born", &entry.born())
             .finish()
     }
 }

@@ -4,22 +4,18 @@
 
 mod budget;
 mod clock;
+mod entries;
 mod handle;
 mod idle;
 mod key;
 mod key_sleep;
 mod numbers;
 mod queue;
-mod relocations;
-mod segment;
-mod segments;
 mod shared;
 pub mod shared_queue;
-mod shared_state;
 mod stream;
 #[cfg(test)]
 mod tests;
-mod thread_callers;
 mod timer;
 mod unique_ids;
 

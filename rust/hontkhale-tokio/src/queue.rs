@@ -1,12 +1,11 @@
 use crate::budget::{Budget, Streak, DEFAULT_BUDGET};
+use crate::entries::{Entries, NEVER};
 use crate::handle::{EntryError, Handle};
 use crate::key::{Expired, Key};
 use crate::numbers::{Latest, Numbers};
-use crate::segments::{Found, Segments, TooFar, NEVER};
-use crate::shared::Shared;
 use crate::timer::Timer;
-use futures_core::{ready, Stream};
-use hontkhale::parts::owner::{CoreError, LAST_STAMP, LAST_TICK};
+use futures_core::Stream;
+use hontkhale::parts::owner::{CoreError, Piece, Turn, LAST_STAMP, LAST_TICK};
 use std::fmt;
 use std::pin::Pin;
 use std::sync::Arc;
@@ -40,7 +39,7 @@ use tokio::time::Instant;
 ///
 /// [peer]: https://docs.rs/tokio-util/latest/tokio_util/time/delay_queue/struct.DelayQueue.html
 pub struct DelayQueue<T> {
-    segments: Segments<T>,
+    entries: Entries<T>,
     /// The greatest tick that is known to be over.
     reached: u64,
     timer: Timer,
@@ -49,6 +48,8 @@ pub struct DelayQueue<T> {
     armed: u64,
     /// Whether an entry was reset since the task began to wait.
     has_resets: bool,
+    /// Whether one was reset or removed since then, so that there may be nothing at the tick `armed`.
+    has_changes: bool,
     /// Whether the clock was looked at since the task was woken. Where more came due meanwhile, the timer tells it.
     has_looked: bool,
     latest: Latest,
@@ -75,8 +76,8 @@ impl<T> DelayQueue<T> {
         DelayQueue::with_capacity(0)
     }
 
-    /// An empty queue with room for so many entries. It takes memory for 65,536 of them at most, and for as many more each
-    /// time that these are full.
+    /// An empty queue with room for at least so many entries. It takes memory for 65,536 of them at most, and for as many more
+    /// each time that these are full.
     ///
     /// # Panics
     /// If that is more than 2³² entries, before any memory is taken; if memory is refused.
@@ -94,18 +95,18 @@ impl<T> DelayQueue<T> {
 
     /// A queue whose slots wear out sooner than they have to.
     pub(crate) fn with_last_stamp(capacity: usize, last_stamp: u32) -> DelayQueue<T> {
-        let segments = Segments::new(capacity, last_stamp, Shared::new());
         DelayQueue {
-            segments,
+            entries: Entries::new(capacity, last_stamp),
             reached: 0,
             timer: Timer::default(),
             waker: None,
             armed: 0,
             has_resets: false,
+            has_changes: false,
             has_looked: false,
             latest: Latest::default(),
             budget: DEFAULT_BUDGET,
-            fresh: Budget::of_or_whole(DEFAULT_BUDGET),
+            fresh: Budget::of(DEFAULT_BUDGET),
             streak: Streak::default(),
         }
     }
@@ -141,7 +142,7 @@ impl<T> DelayQueue<T> {
     /// ```
     pub fn set_budget(&mut self, steps: u32) {
         self.budget = steps;
-        self.fresh = Budget::of_or_whole(steps);
+        self.fresh = Budget::of(steps);
     }
 
     /// Puts a value in that comes out at `when`, or at once where `when` is over. Constant time, but that the queue may grow.
@@ -161,14 +162,11 @@ impl<T> DelayQueue<T> {
     /// ```
     #[track_caller]
     pub fn insert_at(&mut self, value: T, when: Instant) -> Key {
-        let tick = self.segments.shared().clock.tick_at(when);
-        match self.segments.insert(&mut Some(value), tick) {
-            Ok(key) => {
-                self.wake_before(tick);
-                key
-            }
-            Err(TooFar) => panic!("invalid deadline: beyond the last tick, {LAST_TICK}"),
-        }
+        let tick = self.entries.shared().clock.tick_at(when);
+        assert!(tick <= LAST_TICK, "invalid deadline: beyond the last tick, {LAST_TICK}");
+        // A waker that panics takes no key along.
+        self.wake_before(tick);
+        self.entries.insert(value, tick)
     }
 
     /// Puts a value in that comes out after `timeout`, by the clock of the runtime. Constant time, but that the queue may grow.
@@ -186,9 +184,116 @@ impl<T> DelayQueue<T> {
     /// - The [budget](DelayQueue::set_budget) is spent. The task is woken at once.
     /// - It was given 128 entries in a row, with no pending poll between them. The task is woken at once.
     pub fn poll_expired(&mut self, cx: &mut Context<'_>) -> Poll<Option<Expired<T>>> {
-        let answer = if self.streak.is_over() { self.end_streak(cx) } else { self.poll_segments(cx) };
-        self.streak.note(&answer);
-        answer
+        if self.streak.is_over() {
+            return self.end_streak(cx);
+        }
+        if self.armed > 0 && self.armed < NEVER {
+            if self.waits_on(cx) {
+                return Poll::Pending;
+            }
+            // The task waited, so what is due came due since the clock was looked at.
+            self.look();
+        }
+        let mut budget = self.fresh;
+        if !self.entries.heed_news(&mut budget) {
+            return self.give_way(cx);
+        }
+        if self.budget == u32::MAX {
+            return self.poll_whole(budget, cx);
+        }
+        self.poll_entries::<false>(budget, cx)
+    }
+
+    /// A poll that makes all of its steps.
+    #[inline(never)]
+    fn poll_whole(&mut self, budget: Budget, cx: &mut Context<'_>) -> Poll<Option<Expired<T>>> {
+        self.poll_entries::<true>(budget, cx)
+    }
+
+    /// A large value takes a place on the stack for each function that it comes through, and for each call that may give one.
+    #[inline(always)]
+    fn poll_entries<const IS_WHOLE: bool>(
+        &mut self,
+        mut budget: Budget,
+        cx: &mut Context<'_>,
+    ) -> Poll<Option<Expired<T>>> {
+        loop {
+            if self.entries.has_peeked(self.reached) {
+                return self.poll_peeked(budget, cx);
+            }
+            let piece = if IS_WHOLE {
+                self.entries.poll_whole(self.reached)
+            } else {
+                let Some(most) = budget.piece() else {
+                    return self.give_way(cx);
+                };
+                self.entries.poll(self.reached, most)
+            };
+            if let Ok(Piece::Answer(Turn::Out(out))) = &piece {
+                // No call stands between the value's place there and its place in the answer.
+                self.note_out(out.deadline);
+                self.entries.note_expired(out);
+            }
+            match piece {
+                Ok(Piece::Answer(Turn::Out(out))) => return Poll::Ready(Some(self.entries.expired(out))),
+                Ok(Piece::Answer(rest)) => match self.entries.wake(&rest, self.reached) {
+                    Some(wake) => {
+                        if self.waits_for(wake, cx) {
+                            return Poll::Pending;
+                        }
+                    }
+                    None => {
+                        self.arm(NEVER, cx);
+                        return Poll::Ready(None);
+                    }
+                },
+                Ok(Piece::Working) => budget.grow(),
+                Err(_) => unreachable!("a tick that the clock showed"),
+            }
+        }
+    }
+
+    /// Whether the task has to wait until a tick, by the clock and by its timer.
+    #[inline]
+    fn waits_for(&mut self, wake: u64, cx: &mut Context<'_>) -> bool {
+        if !self.has_looked {
+            self.look();
+        }
+        self.reached < wake && self.poll_sleep(wake, cx).is_pending()
+    }
+
+    /// A poll where the entry is due that a peek named.
+    #[cold]
+    fn poll_peeked(&mut self, budget: Budget, cx: &mut Context<'_>) -> Poll<Option<Expired<T>>> {
+        match self.entries.take_peeked() {
+            Some(out) => {
+                self.note_out(out.tick);
+                Poll::Ready(Some(out))
+            }
+            // A handle extended or cancelled it.
+            None if self.budget == u32::MAX => self.poll_whole(budget, cx),
+            None => self.poll_entries::<false>(budget, cx),
+        }
+    }
+
+    /// Notes that the task is given an entry.
+    #[inline]
+    fn note_out(&mut self, deadline: u64) {
+        self.armed = 0;
+        self.timer.leave();
+        self.streak.count();
+        self.latest.note(deadline, self.reached, &self.entries.shared().clock);
+    }
+
+    /// Whether the task that waits goes on waiting: nothing was changed that it waits for, and its timer hasn't fired.
+    #[inline]
+    fn waits_on(&mut self, cx: &mut Context<'_>) -> bool {
+        let is_as_it_was = !self.has_changes && !self.entries.has_news() && self.waits_as(cx.waker());
+        let waits = is_as_it_was && self.timer.poll_again(cx).is_pending();
+        if waits {
+            self.streak.end();
+        }
+        waits
     }
 
     /// Drops what handles cancelled, as each poll does, and lets other tasks have their turn.
@@ -196,37 +301,8 @@ impl<T> DelayQueue<T> {
     fn end_streak(&mut self, cx: &mut Context<'_>) -> Poll<Option<Expired<T>>> {
         let mut budget = self.fresh;
         // Where the budget is spent before, the next poll goes on.
-        self.segments.heed_news(&mut budget);
+        self.entries.heed_news(&mut budget);
         self.give_way(cx)
-    }
-
-    #[inline(always)]
-    fn poll_segments(&mut self, cx: &mut Context<'_>) -> Poll<Option<Expired<T>>> {
-        if self.armed > 0 && self.armed < NEVER {
-            // The task waited, so what is due came due since the clock was looked at.
-            self.look();
-        }
-        let mut budget = self.fresh;
-        let mut out = None;
-        loop {
-            match self.segments.poll(self.reached, &mut budget, &mut out) {
-                Found::Out => {
-                    self.armed = 0;
-                    self.timer.leave();
-                    if let Some(out) = &out {
-                        self.latest.note(out.tick, self.reached, &out.clock);
-                    }
-                    return Poll::Ready(out);
-                }
-                Found::Idle => {
-                    self.arm(NEVER, cx);
-                    return Poll::Ready(None);
-                }
-                Found::Working => return self.give_way(cx),
-                Found::Waiting(wake) if self.has_looked => ready!(self.poll_sleep(wake, cx)),
-                Found::Waiting(_) => self.look(),
-            }
-        }
     }
 
     /// Wakes the task at once: other tasks run before it comes again.
@@ -235,6 +311,7 @@ impl<T> DelayQueue<T> {
         // It is woken already, so nothing that comes sooner has to.
         self.armed = 0;
         self.has_looked = false;
+        self.streak.end();
         cx.waker().wake_by_ref();
         Poll::Pending
     }
@@ -247,13 +324,13 @@ impl<T> DelayQueue<T> {
 
     /// The tick that the clock shows is left to the timer, which rounds a moment within it up.
     fn note_clock(&mut self) {
-        let over = self.segments.shared().clock.tick_over();
+        let over = self.entries.shared().clock.tick_over();
         self.reached = self.reached.max(over.saturating_sub(1).min(LAST_TICK));
     }
 
     /// Sleeps until a tick. Ready where it is reached.
     fn poll_sleep(&mut self, wake: u64, cx: &mut Context<'_>) -> Poll<()> {
-        let moment = self.segments.shared().clock.moment(wake);
+        let moment = self.entries.shared().clock.moment(wake);
         if !self.waits_as(cx.waker()) {
             self.timer.leave();
         }
@@ -261,6 +338,7 @@ impl<T> DelayQueue<T> {
             self.reached = wake;
             return Poll::Ready(());
         }
+        self.streak.end();
         self.arm(wake, cx);
         Poll::Pending
     }
@@ -269,6 +347,7 @@ impl<T> DelayQueue<T> {
     fn arm(&mut self, wake: u64, cx: &mut Context<'_>) {
         self.armed = wake;
         self.has_resets = false;
+        self.has_changes = false;
         self.has_looked = false;
         if !self.waits_as(cx.waker()) {
             self.waker = Some(cx.waker().clone());
@@ -295,9 +374,9 @@ impl<T> DelayQueue<T> {
     fn wake_to_step(&mut self) {
         if self.armed > 0 && !self.has_resets {
             self.has_resets = true;
-            if self.segments.has_step_before(self.armed) {
+            if self.entries.has_step_before(self.armed) {
                 self.note_clock();
-                if self.segments.has_step_before(self.armed.min(self.reached + 1)) {
+                if self.entries.has_step_before(self.armed.min(self.reached + 1)) {
                     self.wake();
                 }
             }
@@ -337,9 +416,12 @@ impl<T> DelayQueue<T> {
     /// # }
     /// ```
     pub fn try_remove(&mut self, key: &Key) -> Option<Expired<T>> {
-        let mut out = None;
-        if self.segments.remove(key, &mut out) && self.armed > 0 && self.segments.holds_none_live() {
-            self.wake();
+        let out = self.entries.remove(key);
+        if out.is_some() {
+            self.has_changes = true;
+            if self.armed > 0 && self.entries.holds_none_live() {
+                self.wake();
+            }
         }
         out
     }
@@ -379,9 +461,10 @@ impl<T> DelayQueue<T> {
     /// - `Ended` if no entry is in the queue under that key: it came out, was removed or cancelled.
     #[inline]
     pub fn try_reset_at(&mut self, key: &Key, when: Instant) -> Result<(), EntryError> {
-        let tick = self.segments.shared().clock.tick_at(when);
-        match self.segments.reset(key, tick) {
+        let tick = self.entries.shared().clock.tick_at(when);
+        match self.entries.reset(key, tick) {
             Ok(()) => {
+                self.has_changes = true;
                 self.wake_before(tick);
                 self.wake_to_step();
                 Ok(())
@@ -417,8 +500,8 @@ impl<T> DelayQueue<T> {
     /// The deadline of an entry, to which a handle may have extended it; none if no entry is in the queue under that key.
     /// Constant time.
     pub fn try_deadline(&self, key: &Key) -> Option<Instant> {
-        let tick = self.segments.deadline(key)?;
-        Some(self.segments.shared().clock.moment(tick))
+        let tick = self.entries.deadline(key)?;
+        Some(self.entries.shared().clock.moment(tick))
     }
 
     /// The key of the entry that the next poll gives, unless one that comes sooner is put in before, or a [`Handle`] extends
@@ -439,14 +522,14 @@ impl<T> DelayQueue<T> {
     /// # }
     /// ```
     pub fn peek(&self) -> Option<Key> {
-        self.segments.peek()
+        self.entries.peek()
     }
 
     /// Takes every entry out and drops its value. The room stays. A task that waits for an entry is woken for the end.
     ///
     /// Where a value's drop panics, the entries behind it stay in the queue, under their keys: none is lost.
     pub fn clear(&mut self) {
-        self.segments.clear();
+        self.entries.clear();
         if self.armed > 0 && self.armed < NEVER {
             self.wake();
         }
@@ -454,21 +537,21 @@ impl<T> DelayQueue<T> {
 
     /// How many entries fit in without growth.
     pub fn capacity(&self) -> usize {
-        self.segments.capacity()
+        self.entries.capacity()
     }
 
     /// The number of entries; one that a [`Handle`] cancelled counts until the queue comes upon its place.
     pub fn len(&self) -> usize {
-        self.segments.len()
+        self.entries.len()
     }
 
     /// Whether there is no entry.
     pub fn is_empty(&self) -> bool {
-        self.segments.is_empty()
+        self.entries.is_empty()
     }
 
-    /// Makes room for at least so many more entries, in one segment of the queue or several. It takes memory for 65,536 of them at
-    /// most, and for as many more each time that these are full. No entry is moved.
+    /// Makes room for at least so many more entries. It takes memory for 65,536 of them at most, and for as many more each time
+    /// that these are full. No entry is moved.
     ///
     /// # Panics
     /// If the queue would have room for more than 2³² entries, before any memory is taken; if memory is refused.
@@ -483,12 +566,13 @@ impl<T> DelayQueue<T> {
     /// # }
     /// ```
     pub fn reserve(&mut self, additional: usize) {
-        self.segments.reserve(additional);
+        self.entries.reserve(additional);
     }
 
-    /// Moves the entries of segments of the queue that are less than half full together, under the keys that they have, and lets
-    /// those segments go: so there is room for at most twice as many entries as there are. It goes over every slot. While moved
-    /// entries are there, 8 bytes are taken for each slot that the segments had, and 16 for each slot of the new ones.
+    /// Moves the entries of those wheels of the queue of which less than a quarter is used together, under the keys that they have, and
+    /// lets these wheels go: so there is room for at most four times as many entries as there are. It goes over every slot. While
+    /// moved entries are there, some 50 bytes are taken for each, and half as many again where handles are. Of a wheel that is let
+    /// go the queue keeps 8 bytes for each slot.
     ///
     /// ```
     /// # #[tokio::main(flavor = "current_thread")]
@@ -504,12 +588,12 @@ impl<T> DelayQueue<T> {
     /// # }
     /// ```
     pub fn compact(&mut self) {
-        self.segments.compact();
+        self.entries.compact();
     }
 
-    /// Lets room go that is in empty segments of the queue. No entry is moved; see [`compact`](DelayQueue::compact).
+    /// Lets room go that is in empty wheels of the queue. No entry is moved; see [`compact`](DelayQueue::compact).
     pub fn shrink_to_fit(&mut self) {
-        self.segments.shrink_to_fit();
+        self.entries.shrink_to_fit();
     }
 
     /// What a server watches, by one call: how much waits, how late it is, and what is held. From the first call on each poll that
@@ -533,15 +617,15 @@ impl<T> DelayQueue<T> {
     /// # }
     /// ```
     pub fn numbers(&self) -> Numbers {
-        let clock = &self.segments.shared().clock;
-        let cancelled = self.segments.cancelled();
-        let late = self.segments.least().map_or(0, |deadline| clock.tick_over().saturating_sub(deadline));
+        let clock = &self.entries.shared().clock;
+        let cancelled = self.entries.cancelled();
+        let late = self.entries.least().map_or(0, |deadline| clock.tick_over().saturating_sub(deadline));
         self.latest.note_late(late);
         Numbers {
             waiting: self.len() - cancelled,
             cancelled,
-            worn: self.segments.worn(),
-            handles: Arc::strong_count(self.segments.shared()) - 1,
+            worn: self.entries.worn(),
+            handles: Arc::strong_count(self.entries.shared()) - 1,
             late: Duration::from_millis(late),
             latest: self.latest.ask(),
         }
@@ -562,8 +646,8 @@ impl<T> DelayQueue<T> {
     /// # }
     /// ```
     pub fn handle(&mut self) -> Handle {
-        self.segments.share();
-        Handle::of(self.segments.shared().clone())
+        self.entries.share();
+        Handle::of(self.entries.shared().clone())
     }
 }
 

@@ -1,12 +1,11 @@
-//! The segments beside a plain model, with slots that wear out after a few stamps, so that entries move all the time.
+//! The entries beside a plain model, with slots that wear out after a few stamps, so that entries move all the time.
 
 use crate::budget::Budget;
+use crate::entries::{Entries, AFTER_LOOK};
 use crate::handle::{EntryError, Handle};
 use crate::key::{Expired, Key};
 use crate::queue::DelayQueue;
-use crate::segments::{Found, Segments, AFTER_LOOK};
-use crate::shared::Shared;
-use hontkhale::parts::owner::LAST_STAMP;
+use hontkhale::parts::owner::{Piece, Turn, LAST_STAMP};
 use std::cell::Cell;
 use std::collections::HashMap;
 use std::rc::Rc;
@@ -27,16 +26,43 @@ impl Dice {
     }
 }
 
-fn removed<T>(segments: &mut Segments<T>, key: &Key) -> Option<Expired<T>> {
-    let mut out = None;
-    assert_eq!(segments.remove(key, &mut out), out.is_some());
-    out
+/// What a poll comes to.
+enum Found<T> {
+    Out(Expired<T>),
+    Waiting(u64),
+    Idle,
+    Working,
+}
+
+/// A poll at a tick by at most so many steps.
+fn polled<T>(entries: &mut Entries<T>, now: u64, steps: u32) -> Found<T> {
+    let mut budget = Budget::of(steps);
+    if !entries.heed_news(&mut budget) {
+        return Found::Working;
+    }
+    if entries.has_peeked(now) {
+        if let Some(out) = entries.take_peeked() {
+            return Found::Out(out);
+        }
+    }
+    while let Some(most) = budget.piece() {
+        let piece = if steps == u32::MAX { entries.poll_whole(now) } else { entries.poll(now, most) };
+        match piece.expect("a tick that isn't beyond the last") {
+            Piece::Answer(Turn::Out(out)) => {
+                entries.note_expired(&out);
+                return Found::Out(entries.expired(out));
+            }
+            Piece::Answer(rest) => return entries.wake(&rest, now).map_or(Found::Idle, Found::Waiting),
+            Piece::Working => budget.grow(),
+        }
+    }
+    Found::Working
 }
 
 /// What is in, by its key: the deadline in force and the value, which is also `held` until it is dropped.
 struct Twin {
     dice: Dice,
-    segments: Segments<Rc<u64>>,
+    queue: Entries<Rc<u64>>,
     handle: Handle,
     has_handle: bool,
     entries: HashMap<Key, (u64, Rc<u64>)>,
@@ -54,14 +80,14 @@ struct Twin {
 impl Twin {
     fn new(seed: u64, last_stamp: u32, has_handle: bool, most: usize) -> Twin {
         let mut dice = Dice(seed);
-        let mut segments = Segments::new(dice.below(3) as usize, last_stamp, Shared::new());
+        let mut queue = Entries::new(dice.below(3) as usize, last_stamp);
         if has_handle {
-            segments.share();
+            queue.share();
         }
         Twin {
             dice,
-            handle: Handle::of(segments.shared().clone()),
-            segments,
+            handle: Handle::of(queue.shared().clone()),
+            queue,
             has_handle,
             entries: HashMap::new(),
             row: Vec::new(),
@@ -97,7 +123,7 @@ impl Twin {
         let when = self.tick_ahead();
         let value = Rc::new(self.next);
         self.next += 1;
-        let key = self.segments.insert(&mut Some(value.clone()), when).unwrap();
+        let key = self.queue.insert(value.clone(), when);
         assert!(self.entries.insert(key, (when.max(self.tick), value)).is_none(), "a key is given twice");
         assert!(!self.ended.contains(&key), "a key is given again");
         self.row.push(key);
@@ -105,32 +131,32 @@ impl Twin {
 
     fn reset(&mut self, key: Key) {
         let when = self.tick_ahead();
-        self.segments.reset(&key, when).unwrap();
+        self.queue.reset(&key, when).unwrap();
         self.entries.get_mut(&key).unwrap().0 = when.max(self.tick);
     }
 
     fn remove(&mut self, key: Key) {
-        let out = removed(&mut self.segments, &key).unwrap();
+        let out = self.queue.remove(&key).unwrap();
         let (deadline, value) = self.end(key);
         assert_eq!((out.key, out.tick, &out.data), (key, deadline, &value));
     }
 
     fn extend(&mut self, key: Key) {
         let when = self.tick_ahead();
-        let moment = self.segments.shared().clock.moment(when);
+        let moment = self.queue.shared().clock.moment(when);
         let deadline = self.handle.extend_at(&key, moment).unwrap();
         let entry = self.entries.get_mut(&key).unwrap();
         entry.0 = entry.0.max(when);
-        assert_eq!(deadline, self.segments.shared().clock.moment(entry.0));
+        assert_eq!(deadline, self.queue.shared().clock.moment(entry.0));
     }
 
     /// After the next look a handle extends an entry, that which comes first or any. What it extended, and to when.
     fn extend_after_look(&mut self) -> Rc<Cell<Option<(Key, u64)>>> {
         let extended = Rc::<Cell<Option<(Key, u64)>>>::default();
-        let key = if self.dice.below(2) == 0 { self.segments.peek() } else { self.draw() };
+        let key = if self.dice.below(2) == 0 { self.queue.peek() } else { self.draw() };
         if let Some(key) = key.filter(|_| self.has_handle) {
             let (handle, when, told) = (self.handle.clone(), self.tick_ahead(), extended.clone());
-            let moment = self.segments.shared().clock.moment(when);
+            let moment = self.queue.shared().clock.moment(when);
             let call = move || told.set(handle.extend_at(&key, moment).ok().map(|_| (key, when)));
             AFTER_LOOK.with(|it| it.set(Some(Box::new(call))));
         }
@@ -140,17 +166,17 @@ impl Twin {
     fn cancel(&mut self, key: Key) {
         let given_up = self.handle.cancel(&key).unwrap();
         let (deadline, value) = self.end(key);
-        assert_eq!(given_up, self.segments.shared().clock.moment(deadline));
+        assert_eq!(given_up, self.queue.shared().clock.moment(deadline));
         self.cancelled.push(value);
     }
 
     fn refuse(&mut self) {
         if let Some(&key) = self.ended.get(self.dice.below(1 + self.ended.len() as u64) as usize) {
-            assert!(self.segments.reset(&key, self.now).is_err());
-            assert!(removed(&mut self.segments, &key).is_none());
-            assert!(self.segments.deadline(&key).is_none());
+            assert!(self.queue.reset(&key, self.now).is_err());
+            assert!(self.queue.remove(&key).is_none());
+            assert!(self.queue.deadline(&key).is_none());
             let ended = Err(EntryError::Ended);
-            assert_eq!(self.handle.extend_at(&key, self.segments.shared().clock.moment(self.now)), ended);
+            assert_eq!(self.handle.extend_at(&key, self.queue.shared().clock.moment(self.now)), ended);
             assert_eq!(self.handle.cancel(&key), ended);
         }
     }
@@ -159,13 +185,12 @@ impl Twin {
         self.now += [0, 1, 5, 64, 1_000, 40_000][self.dice.below(6) as usize];
         loop {
             let least = self.entries.values().map(|entry| entry.0).min();
-            let mut budget = Budget::of_or_whole(match self.dice.below(40) as u32 {
+            let steps = match self.dice.below(40) as u32 {
                 0 => u32::MAX,
                 steps => steps,
-            });
-            let mut out = None;
+            };
             let extended = self.extend_after_look();
-            let found = self.segments.poll(self.now, &mut budget, &mut out);
+            let found = polled(&mut self.queue, self.now, steps);
             AFTER_LOOK.with(Cell::take);
             let least = match extended.take() {
                 Some((key, when)) => {
@@ -176,8 +201,7 @@ impl Twin {
                 None => least,
             };
             match found {
-                Found::Out => {
-                    let out = out.expect("what came out");
+                Found::Out(out) => {
                     let (deadline, value) = self.end(out.key);
                     assert_eq!((Some(out.tick), out.tick, &out.data), (least, deadline, &value));
                     assert!(deadline <= self.now);
@@ -198,7 +222,7 @@ impl Twin {
         for value in self.cancelled.drain(..) {
             assert_eq!(Rc::strong_count(&value), 1, "a cancelled value stays");
         }
-        assert_eq!(self.segments.len(), self.row.len(), "a poll frees the places of cancelled entries");
+        assert_eq!(self.queue.len(), self.row.len(), "a poll frees the places of cancelled entries");
     }
 
     fn call(&mut self) {
@@ -212,32 +236,32 @@ impl Twin {
             (74..=79, _) => self.refuse(),
             (80..=94, _) => self.poll(),
             (95, _) => {
-                self.segments.compact();
-                assert!(self.segments.capacity() <= 4 * self.row.len());
+                self.queue.compact();
+                assert!(self.queue.capacity() <= 4 * self.row.len());
             }
-            (96, _) => self.segments.shrink_to_fit(),
-            (97, _) => self.segments.reserve(self.next as usize % 100),
+            (96, _) => self.queue.shrink_to_fit(),
+            (97, _) => self.queue.reserve(self.next as usize % 100),
             (98, _) if self.dice.below(20) == 0 => {
-                self.segments.clear();
+                self.queue.clear();
                 self.ended.append(&mut self.row);
                 self.entries.clear();
                 self.poll();
             }
             _ => {}
         }
-        let len = self.segments.len();
-        assert_eq!(len - self.segments.cancelled(), self.row.len(), "what handles cancelled is counted as it is there");
+        let len = self.queue.len();
+        assert_eq!(len - self.queue.cancelled(), self.row.len(), "what handles cancelled is counted as it is there");
         assert!(self.has_handle || len == self.row.len());
         for key in self.row.iter().take(3) {
-            assert_eq!(self.segments.deadline(key), Some(self.entries[key].0));
+            assert_eq!(self.queue.deadline(key), Some(self.entries[key].0));
         }
-        let first = self.segments.peek().map(|key| self.entries[&key].0);
+        let first = self.queue.peek().map(|key| self.entries[&key].0);
         assert_eq!(first, self.entries.values().map(|entry| entry.0).min());
     }
 }
 
 #[test]
-fn segments_with_slots_that_wear_out_agree_with_a_model() {
+fn entries_whose_slots_wear_out_agree_with_a_model() {
     for seed in 1..=60 {
         let last_stamp = [1, 2, 3, 7, 1_000_000][seed as usize % 5];
         let most = [1, 3, 70, 300][seed as usize / 5 % 4];
@@ -249,16 +273,16 @@ fn segments_with_slots_that_wear_out_agree_with_a_model() {
 }
 
 #[test]
-fn worn_segments_go() {
-    let mut segments = Segments::new(0, 2, Shared::new());
-    segments.share();
-    let stays = segments.insert(&mut Some(0), 1_000_000).unwrap();
+fn worn_cores_go() {
+    let mut queue = Entries::new(0, 2);
+    queue.share();
+    let stays = queue.insert(0, 1_000_000);
     for value in 1..100_000 {
-        let key = segments.insert(&mut Some(value), 10).unwrap();
-        assert!(removed(&mut segments, &key).is_some());
+        let key = queue.insert(value, 10);
+        assert!(queue.remove(&key).is_some());
     }
-    assert!(segments.capacity() < 1_000, "{}", segments.capacity());
-    assert_eq!(removed(&mut segments, &stays).map(|out| out.data), Some(0));
+    assert!(queue.capacity() < 1_000, "{}", queue.capacity());
+    assert_eq!(queue.remove(&stays).map(|out| out.data), Some(0));
 }
 
 /// A value that counts the drops within a call that isn't to drop any.
@@ -275,25 +299,25 @@ impl Drop for Watched {
 
 /// A panic of a value's drop would take along the key that an insert is about to give.
 #[test]
-fn a_worn_segment_goes_in_no_insert_or_reset_with_the_values_that_were_cancelled_in_it() {
+fn a_worn_core_goes_in_no_insert_or_reset_with_the_values_that_were_cancelled_in_it() {
     for by_reset in [false, true] {
         let (is_in_call, drops_in_calls) = (Rc::<Cell<bool>>::default(), Rc::<Cell<usize>>::default());
         let value = || Watched { is_in_call: is_in_call.clone(), drops_in_calls: drops_in_calls.clone() };
-        let mut segments = Segments::new(0, 2, Shared::new());
-        segments.share();
-        let handle = Handle::of(segments.shared().clone());
+        let mut queue = Entries::new(0, 2);
+        queue.share();
+        let handle = Handle::of(queue.shared().clone());
         for _ in 0..20 {
-            let keys: Vec<Key> = (0..100).map(|_| segments.insert(&mut Some(value()), 1_000).unwrap()).collect();
+            let keys: Vec<Key> = (0..100).map(|_| queue.insert(value(), 1_000)).collect();
             keys[..50].iter().for_each(|key| assert!(handle.cancel(key).is_ok()));
             is_in_call.set(true);
             if by_reset {
-                keys[50..].iter().cycle().take(500).for_each(|key| segments.reset(key, 2_000).unwrap());
+                keys[50..].iter().cycle().take(500).for_each(|key| queue.reset(key, 2_000).unwrap());
             }
-            let more: Vec<Key> = (0..100).map(|_| segments.insert(&mut Some(value()), 1_000).unwrap()).collect();
+            let more: Vec<Key> = (0..100).map(|_| queue.insert(value(), 1_000)).collect();
             is_in_call.set(false);
-            keys[50..].iter().chain(&more).for_each(|key| assert!(removed(&mut segments, key).is_some()));
-            assert!(matches!(segments.poll(0, &mut Budget::of_or_whole(u32::MAX), &mut None), Found::Idle));
-            assert_eq!((drops_in_calls.get(), Rc::strong_count(&is_in_call), segments.len()), (0, 1, 0), "{by_reset}");
+            keys[50..].iter().chain(&more).for_each(|key| assert!(queue.remove(key).is_some()));
+            assert!(matches!(polled(&mut queue, 0, u32::MAX), Found::Idle));
+            assert_eq!((drops_in_calls.get(), Rc::strong_count(&is_in_call), queue.len()), (0, 1, 0), "{by_reset}");
         }
     }
 }

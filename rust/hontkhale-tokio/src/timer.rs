@@ -22,6 +22,15 @@ impl Timer {
         self.is_left = true;
     }
 
+    /// Sleeps on where a poll was pending: ready where that moment is reached, or the next wait may be in another runtime.
+    #[inline]
+    pub fn poll_again(&mut self, cx: &mut Context<'_>) -> Poll<()> {
+        match &mut self.sleep {
+            Some(sleep) if !self.is_left && !sleep.is_elapsed() => sleep.as_mut().poll(cx),
+            _ => Poll::Ready(()),
+        }
+    }
+
     /// Sleeps until a moment: ready where it is reached.
     #[inline]
     pub fn poll_until(&mut self, moment: Instant, cx: &mut Context<'_>) -> Poll<()> {

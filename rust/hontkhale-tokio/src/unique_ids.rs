@@ -1,5 +1,5 @@
 //! Numbers that are drawn, each once while the program runs. They are never given by hand, so none is met twice: a key names
-//! the queue or the segment that made it by such a number.
+//! the queue that made it by such a number.
 
 use std::sync::atomic::{AtomicU64, Ordering::SeqCst};
 

@@ -83,7 +83,7 @@ fn a_queues_poll_makes_so_many_steps() {
 }
 
 #[test]
-fn a_queues_order_stays_over_all_segments() {
+fn a_queues_order_stays_over_all_wheels() {
     ends(|| {
         paused().block_on(async {
             for budget in [1, 2, 9, 64, u32::MAX] {
@@ -124,7 +124,7 @@ fn a_poll_in_pieces_forgets_a_deadline_that_has_gone() {
                 for value in 1..64 {
                     queue.insert(value, ms(10_000));
                 }
-                // It is in a segment of its own.
+                // It is in a wheel of its own.
                 let gone = queue.insert(64, ms(100));
                 queue.reset(&gone, ms(20_000));
                 advance(ms(60)).await;

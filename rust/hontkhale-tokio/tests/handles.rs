@@ -112,7 +112,7 @@ fn handles_serve_while_another_thread_holds_the_queue() {
 }
 
 #[test]
-fn handles_serve_segments_that_came_later_and_moved_entries() {
+fn handles_serve_entries_of_later_wheels_and_moved_ones() {
     ends(|| {
         running().block_on(async {
             let mut queue = DelayQueue::new();
@@ -126,7 +126,7 @@ fn handles_serve_segments_that_came_later_and_moved_entries() {
                 queue.remove(key);
             }
             queue.compact();
-            assert_eq!(queue.len(), queue.capacity());
+            assert!(queue.capacity() <= queue.len() + queue.len() / 8);
             let farther = far + ms(1);
             let extended = keys.iter().filter(|key| handle.extend_at(key, farther).is_ok()).count();
             assert_eq!(extended, queue.len());
@@ -137,7 +137,7 @@ fn handles_serve_segments_that_came_later_and_moved_entries() {
 }
 
 #[test]
-fn more_threads_than_callers() {
+fn many_threads_at_once() {
     ends(|| {
         running().block_on(async {
             let mut queue = DelayQueue::new();

@@ -83,7 +83,8 @@ fn what_a_dropped_queue_held_goes_with_it() {
                 kept.push(handle);
             }
             let after = (held() - before) / 8_000;
-            assert!(after < 1_024, "a handle keeps {after} bytes of a queue that has gone");
+            // The words of its slots, and what finds them.
+            assert!(after < 4_096, "a handle keeps {after} bytes of a queue that has gone");
         });
     });
 }

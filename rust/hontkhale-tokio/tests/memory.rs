@@ -195,7 +195,7 @@ fn compact_takes_no_memory_where_little_is_to_be_had_and_gives_much_back() {
     }
 }
 
-/// Room for a million entries, of which three are put in: the pages of one segment are touched.
+/// Room for a million entries, of which three are put in: the pages of one wheel are touched.
 #[test]
 fn room_that_no_entry_needs_yet_is_not_resident() {
     alone("room_that_no_entry_needs_yet_is_not_resident", || {

@@ -282,3 +282,24 @@ fn a_tasks_waker_calls_the_queues_handle() {
         });
     });
 }
+
+#[test]
+fn a_waker_that_panics_within_an_insert_takes_no_key_along() {
+    ends(|| {
+        paused().block_on(async {
+            let mut queue = DelayQueue::new();
+            let waker = calling(Arc::new(|| ()));
+            queue.insert(1, ms(60_000));
+            assert!(queue.poll_expired(&mut Context::from_waker(&waker)).is_pending());
+            // It panics from here on.
+            let is_armed = Arc::new(AtomicUsize::new(0));
+            let armed = is_armed.clone();
+            let fragile = calling(Arc::new(move || assert_eq!(armed.load(SeqCst), 0, "a task's waker")));
+            assert!(queue.poll_expired(&mut Context::from_waker(&fragile)).is_pending());
+            is_armed.store(1, SeqCst);
+            assert!(catch_unwind(AssertUnwindSafe(|| queue.insert(2, ms(10)))).is_err());
+            is_armed.store(0, SeqCst);
+            assert_eq!(queue.len(), 1, "what has no key isn't in");
+        });
+    });
+}

@@ -20,6 +20,7 @@ impl<T, W: Words> DelayCore<T, W> {
     ///
     /// # Errors
     /// TickTooLarge beyond the last tick, which is not noted then.
+    #[inline(always)]
     pub fn poll_some_deferring(&mut self, tick: u64, most: u32) -> Result<Piece<T>, CoreError> {
         if tick > LAST_TICK {
             return Err(CoreError::TickTooLarge { limit: LAST_TICK });

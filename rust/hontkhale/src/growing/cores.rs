@@ -129,6 +129,11 @@ impl<T, W: Words> Cores<T, W> {
         true
     }
 
+    /// Closes the open core: inserts are refused until another one is opened or comes in.
+    pub fn close(&mut self) {
+        self.opened = self.cores.len();
+    }
+
     // The place of the core of that number.
     pub(crate) fn place_of(&self, number: u32) -> Option<usize> {
         for newer in 0..self.cores.len() {

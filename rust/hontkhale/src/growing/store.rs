@@ -129,6 +129,7 @@ impl<T, W: Words> Store<T, W> {
     /// `value` comes back. In this order:
     /// - `TooFar` if `when` is beyond the last tick.
     /// - `Full` if no core is open, or the open one has no slot free.
+    #[inline(always)]
     pub fn insert(&mut self, value: T, when: u64) -> (Result<Key, (CoreError, T)>, Option<T>) {
         self.cores.insert(value, when)
     }
@@ -205,6 +206,7 @@ impl<T, W: Words> Store<T, W> {
     ///
     /// # Errors
     /// `TickTooLarge` beyond the last tick, which is not noted then.
+    #[inline(always)]
     pub fn poll_some(&mut self, tick: u64, most: u32) -> Result<Piece<T>, CoreError> {
         let made = self.cores.poll_some(tick, most);
         note_out(&mut self.notes, made)
@@ -244,6 +246,26 @@ impl<T, W: Words> Store<T, W> {
         }
         let (moved, beside) = self.relocate(entry, NextDeadline::At(when));
         (key_told(moved), beside)
+    }
+
+    /// Gives a live entry the deadline `when`, a tick of one millisecond, sooner or later than the one that it has, and
+    /// returns its new key. It stays where it is. Constant time, and no memory is taken.
+    ///
+    /// # Errors
+    /// In this order:
+    /// - `TooFar` if `when` is beyond the last tick.
+    /// - `Missing` if the entry isn't in the store any more, or never was.
+    /// - `WasCancelled` if the entry was cancelled.
+    /// - `Worn` if the entry's slot has no stamp left for another key.
+    pub fn reset_in_place(&mut self, entry: &EntryId, when: u64) -> Result<Key, CoreError> {
+        let Some(place) = self.notes.place(entry) else {
+            return Err(missing_at(when));
+        };
+        let key = match self.cores.reset(&place, when) {
+            Ok(key) => key,
+            Err(error) => return Err(error),
+        };
+        Ok(key_as(entry, key))
     }
 
     /// Reaps the entry of that id where it is found cancelled. Its value isn't dropped: it waits until it is taken out.

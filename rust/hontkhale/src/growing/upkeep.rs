@@ -51,6 +51,11 @@ impl<T, W: Words> Store<T, W> {
         self.cores.open(place)
     }
 
+    /// Closes the open core: inserts are refused until another one is opened or comes in.
+    pub fn close(&mut self) {
+        self.cores.close();
+    }
+
     /// Takes memory for `cores` more in the list of cores, and for one note.
     ///
     /// # Errors

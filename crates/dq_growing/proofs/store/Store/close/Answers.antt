@@ -1,0 +1,8 @@
+use Rattle.std.proofs.Common.{length}
+use Rattle.dq_growing.proofs.Stored.{stored, law_closes}
+use Rattle.dq_growing.proofs.store.Store.close.Goals as goal
+
+pub invariant_of-self : goal.invariant_of-self
+invariant_of-self g c =
+    let i = c.self.inside in
+    law_closes (stored i.cores i.notes) c.close.new.self (length i.cores.cores) c.self.invariant c.close.ensures

@@ -1,0 +1,317 @@
+//! The queue without its clock: hontkhale's proved store of one owner, and what its handles need of it, in ticks of one
+//! millisecond.
+//!
+//! An entry stays at its place until it ends, but that `compact`, a worn slot, or an extend amid the poll after a peek moves it.
+//! No value is dropped while a lock is held, nor where a key is in hand that its panic would take along: the value of a cancelled
+//! entry stays in its slot until a poll drops it.
+
+use crate::key::{Expired, Key, Name, MOST_CORES};
+use crate::shared::{Names, Shared, Step};
+use hontkhale::parts::directory::Clerk;
+use hontkhale::parts::growing::{Cores, Folds, Moved, NextDeadline, Store};
+use hontkhale::parts::owner::{CallError, CoreError, DelayCore, EntryId, Keeper, Look, OpenWords, Removed, LAST_TICK};
+use std::ops::Deref;
+use std::sync::mpsc::{channel, Receiver};
+use std::sync::{Arc, Mutex};
+
+mod polls;
+mod room;
+
+#[cfg(test)]
+pub(crate) use polls::AFTER_LOOK;
+pub(crate) use polls::NEVER;
+
+type Core<T> = DelayCore<T, Keeper>;
+
+pub(crate) struct Entries<T> {
+    shared: Owner,
+    store: Store<T, Keeper>,
+    folds: Folds<Keeper>,
+    clerk: Clerk<OpenWords>,
+    /// What handles cancelled, and how many of their notes were heeded.
+    cancelled: Mutex<Receiver<Key>>,
+    heeded: usize,
+    /// Whether values of cancelled entries may wait for their drop.
+    has_freed: bool,
+    /// How many entries came in, less those that came out or were removed: the cancelled ones count.
+    left: usize,
+    /// The slots that are asked for and not yet in a core.
+    promised: usize,
+    /// What is put in comes out no earlier: the deadline of what came out last, or the tick up to which nothing was left.
+    tick: u64,
+    /// Nothing comes out before this tick.
+    hint: u64,
+    last_stamp: u32,
+    /// Whether there was ever a handle, and whether handles find an entry by a name that isn't its first one.
+    has_handles: bool,
+    has_names: bool,
+    /// The key of what comes out next, since it was asked for, and its deadline.
+    peeked: Mutex<Option<(Key, u64)>>,
+}
+
+/// The owner's hold of what it shares with handles, which end with it.
+struct Owner(Arc<Shared>);
+
+impl Deref for Owner {
+    type Target = Arc<Shared>;
+
+    fn deref(&self) -> &Arc<Shared> {
+        &self.0
+    }
+}
+
+impl Drop for Owner {
+    fn drop(&mut self) {
+        self.0.close();
+    }
+}
+
+impl<T> Entries<T> {
+    /// Room for so many entries, whose slots have so many stamps.
+    pub fn new(capacity: usize, last_stamp: u32) -> Entries<T> {
+        let clerk = Clerk::new(MOST_CORES).expect("memory for a queue");
+        let (tell, cancelled) = channel();
+        let mut entries = Entries {
+            shared: Owner(Arc::new(Shared::new(clerk.directory().clone(), tell))),
+            store: Store::new(Cores::new()).expect("a store of no cores"),
+            folds: Folds::new(),
+            clerk,
+            cancelled: Mutex::new(cancelled),
+            heeded: 0,
+            has_freed: false,
+            left: 0,
+            promised: 0,
+            tick: 0,
+            hint: NEVER,
+            last_stamp,
+            has_handles: false,
+            has_names: false,
+            peeked: Mutex::default(),
+        };
+        entries.add_slots(capacity);
+        entries
+    }
+
+    #[inline]
+    pub fn shared(&self) -> &Arc<Shared> {
+        &self.shared
+    }
+
+    /// From here on handles find each entry, also one that hasn't its first name any more.
+    pub fn share(&mut self) {
+        if self.has_handles {
+            return;
+        }
+        self.has_handles = true;
+        let entries = (0..self.store.cores().count()).flat_map(|place| self.linked(place));
+        let renamed = entries.filter_map(|(place, entry)| {
+            let (name, first) = (self.look(&place)?.0, Name::of(&entry, entry.born()));
+            (name != first).then_some((first, name))
+        });
+        self.shared.names().extend(renamed);
+        self.has_names = !self.shared.names().is_empty();
+    }
+
+    #[inline]
+    fn key(&self, entry: &EntryId) -> Key {
+        Key::of(self.shared.number, entry)
+    }
+
+    /// The id under which the store has the entry of a key, none where the key is another queue's.
+    #[inline]
+    fn entry(&self, key: &Key) -> Option<EntryId> {
+        (key.queue() == self.shared.number).then(|| key.entry())
+    }
+
+    /// Puts a value in, whose deadline isn't beyond the last tick.
+    #[inline(always)]
+    pub fn insert(&mut self, value: T, when: u64) -> Key {
+        let when = when.max(self.tick);
+        self.note_deadline(when);
+        if !self.has_room() {
+            self.make_room();
+        }
+        self.left += 1;
+        match self.store.insert(value, when) {
+            // A value may come out that has no drop.
+            (Ok(key), _) => self.key(&key.entry()),
+            _ => unreachable!("there is a free slot"),
+        }
+    }
+
+    /// Gives the entry of a key another deadline.
+    #[inline]
+    pub fn reset(&mut self, key: &Key, when: u64) -> Result<(), CoreError> {
+        let when = when.max(self.tick);
+        if when > LAST_TICK {
+            return Err(CoreError::TooFar { limit: LAST_TICK });
+        }
+        let entry = self.entry(key).ok_or(CoreError::Missing)?;
+        if self.has_handles {
+            self.reset_shared(key, when)?;
+        } else {
+            match self.store.reset_in_place(&entry, when) {
+                Ok(_) => {}
+                Err(CoreError::Worn) => self.carry_to(key, when)?,
+                Err(error) => return Err(error),
+            }
+        }
+        self.note_deadline(when);
+        Ok(())
+    }
+
+    /// The same where handles may be calling. A deadline that isn't sooner is an extend, after which the entry has the same name.
+    fn reset_shared(&mut self, key: &Key, when: u64) -> Result<(), CoreError> {
+        let entry = key.entry();
+        if self.store.deadline(&entry)? <= when {
+            return self.shared.step(key, Step::Extend(when)).map(drop).ok_or(CoreError::Missing);
+        }
+        let shared = Arc::clone(&self.shared);
+        let mut names = shared.names();
+        match self.store.reset_in_place(&entry, when) {
+            Ok(renamed) => {
+                self.note_name(&mut names, key, renamed.stamp());
+                Ok(())
+            }
+            Err(CoreError::Worn) => {
+                drop(names);
+                self.carry_to(key, when)
+            }
+            Err(error) => Err(error),
+        }
+    }
+
+    /// Gives an entry another deadline, whose slot has no stamp left.
+    #[cold]
+    #[inline(never)]
+    fn carry_to(&mut self, key: &Key, when: u64) -> Result<(), CoreError> {
+        self.carry(key, NextDeadline::At(when), &mut None)
+    }
+
+    /// Takes an entry out of its slot, and puts it into one of the open core under the same user's key; or where `next` lets it, it
+    /// is written to `out`.
+    #[cold]
+    fn carry(&mut self, key: &Key, next: NextDeadline, out: &mut Option<Expired<T>>) -> Result<(), CoreError> {
+        if !self.has_room() {
+            self.make_room();
+        }
+        self.carry_to_open(key, next, out)
+    }
+
+    /// The same where the open core has room. A handle that finds the entry moved waits until its new place is noted.
+    #[inline(never)]
+    fn carry_to_open(&mut self, key: &Key, next: NextDeadline, out: &mut Option<Expired<T>>) -> Result<(), CoreError> {
+        let shared = Arc::clone(&self.shared);
+        let mut names = shared.names();
+        match self.store.relocate(&key.entry(), next).0? {
+            Moved::Out(removed) => {
+                drop(names);
+                self.note_out(key);
+                *out = Some(self.removed(*key, removed));
+            }
+            Moved::To { key: renamed, .. } if self.has_handles => self.note_name(&mut names, key, renamed.stamp()),
+            Moved::To { .. } => {}
+        }
+        Ok(())
+    }
+
+    /// Notes where an entry is, and its stamp.
+    fn note_name(&mut self, names: &mut Names, key: &Key, stamp: u32) {
+        let name = self.store.place(&key.entry()).map(|place| Name::of(&place, stamp));
+        names.extend(name.map(|name| (key.name(), name)));
+        self.has_names = true;
+    }
+
+    #[inline(always)]
+    fn removed(&self, key: Key, removed: Removed<T>) -> Expired<T> {
+        Expired { key, data: removed.value, tick: removed.deadline, clock: self.shared.clock }
+    }
+
+    /// Takes the entry of a key out, none where there is none.
+    #[inline]
+    pub fn remove(&mut self, key: &Key) -> Option<Expired<T>> {
+        let removed = self.store.remove(&self.entry(key)?).ok()?;
+        self.note_out(key);
+        Some(self.removed(*key, removed))
+    }
+
+    /// Notes that an entry came out or was removed.
+    #[inline(always)]
+    fn note_out(&mut self, key: &Key) {
+        self.left -= 1;
+        if self.has_names {
+            self.forget_name(key);
+        }
+    }
+
+    #[cold]
+    fn forget_name(&mut self, key: &Key) {
+        let mut names = self.shared.names();
+        names.remove(&key.name());
+        self.has_names = !names.is_empty();
+    }
+
+    /// The deadline in force of the entry of a key.
+    pub fn deadline(&self, key: &Key) -> Option<u64> {
+        let entry = self.entry(key)?;
+        // The slot may have another entry by now.
+        self.store.get(&entry)?;
+        Some(self.look(&self.store.place(&entry)?)?.1)
+    }
+
+    /// The name of the live entry that is at a place, and its deadline in force.
+    fn look(&self, place: &EntryId) -> Option<(Name, u64)> {
+        let words = self.shared.words.get(place.shard())?;
+        let mut name = Name::of(place, place.born());
+        let mut look = words.look(&name.key());
+        if let Err(CallError::Stale { seen }) = look {
+            name = Name::of(place, seen);
+            look = words.look(&name.key());
+        }
+        match look {
+            Ok(Look::StillLive(deadline)) => Some((name, deadline)),
+            _ => None,
+        }
+    }
+
+    /// The entries of a core, those among them that were cancelled and not yet freed: where each is, and the id that its user has.
+    fn linked(&self, core: usize) -> impl Iterator<Item = (EntryId, EntryId)> + '_ {
+        let mut slot = 0;
+        std::iter::from_fn(move || {
+            let (place, entry) = self.linked_from(core, slot)?;
+            slot = place.index() as usize + 1;
+            Some((place, entry))
+        })
+    }
+
+    /// The first of them from a slot on.
+    fn linked_from(&self, core: usize, slot: usize) -> Option<(EntryId, EntryId)> {
+        let place = self.store.cores().get(core)?.entry_from(slot, usize::MAX)?;
+        Some((place, self.store.entry_from(core, place.index() as usize, 1)?))
+    }
+
+    /// All cores, by their places.
+    fn cores(&self) -> impl Iterator<Item = &Core<T>> {
+        (0..self.store.cores().count()).filter_map(|place| self.store.cores().get(place))
+    }
+
+    /// The entries, those among them that were cancelled and not yet freed.
+    pub fn len(&self) -> usize {
+        self.cores().map(DelayCore::len).sum()
+    }
+
+    pub fn is_empty(&self) -> bool {
+        self.cores().all(DelayCore::is_empty)
+    }
+
+    /// The entries that handles cancelled and that weren't freed yet.
+    pub fn cancelled(&self) -> usize {
+        let len = self.len();
+        (len + self.shared.cancels()).saturating_sub(self.left).min(len)
+    }
+
+    /// Whether nothing is left but what handles cancelled.
+    pub fn holds_none_live(&self) -> bool {
+        self.len() <= self.cancelled()
+    }
+}

@@ -1,0 +1,200 @@
+//! Room for entries: cores that are made, opened, emptied and folded.
+
+use super::{Core, Entries};
+use crate::budget::Budget;
+use hontkhale::parts::growing::NextDeadline;
+use hontkhale::parts::owner::{CoreConfig, DelayCore, Keeper, CAPACITY_LIMIT};
+
+/// The slots of the first core.
+const FIRST_SLOTS: usize = 64;
+/// As many cores as a queue may have at a time.
+const CORES: usize = 65_536;
+const MEMORY: &str = "memory for more entries";
+
+/// How many slots are free.
+#[inline(always)]
+fn free<T>(core: &Core<T>) -> usize {
+    core.capacity() - core.len() - core.worn()
+}
+
+/// How many slots a core has for so many entries: up to an eighth more, so that folded ones are of few sizes and are used again.
+fn rounded(slots: usize) -> usize {
+    let part = (slots.next_power_of_two() / 16).max(1);
+    part * slots.div_ceil(part)
+}
+
+/// Whether less than a quarter of the slots have an entry. To move the entries of a fuller core would take as much memory, for
+/// where they are now, as it gives back.
+fn is_sparse<T>(core: &Core<T>) -> bool {
+    4 * core.len() < core.capacity()
+}
+
+impl<T> Entries<T> {
+    /// Whether the open core has a free slot in which no value waits for its drop.
+    #[inline(always)]
+    pub(super) fn has_room(&self) -> bool {
+        let open = self.store.cores().get(self.store.cores().opened());
+        open.is_some_and(|open| free(open) > open.aside())
+    }
+
+    /// Opens the core that has the most room, or else a new one.
+    #[cold]
+    pub(super) fn make_room(&mut self) {
+        let rooms = self.cores().map(|core| free(core).saturating_sub(core.aside())).enumerate();
+        match rooms.max_by_key(|(_, room)| *room) {
+            Some((place, 1..)) => _ = self.store.open(place),
+            _ if self.promised == 0 => self.add_core(self.next_slots()),
+            _ => {
+                let slots = self.promised.min(CAPACITY_LIMIT);
+                self.add_core(slots);
+                self.promised -= slots;
+            }
+        }
+    }
+
+    /// How many slots the next core has, by the entries that there are: twice the last one's where no slot is worn.
+    fn next_slots(&self) -> usize {
+        (self.len() + 1).next_power_of_two().clamp(FIRST_SLOTS, CAPACITY_LIMIT)
+    }
+
+    /// Adds a core for the first of so many slots, and notes the others: their cores are added as they are needed.
+    ///
+    /// # Panics
+    /// Where there can't be so many, before any memory is taken; where memory is refused.
+    pub(super) fn add_slots(&mut self, slots: usize) {
+        let most = (CORES - self.store.cores().count()).saturating_mul(CAPACITY_LIMIT);
+        assert!(self.promised <= most && slots <= most - self.promised, "capacity overflow");
+        let first = slots.min(CAPACITY_LIMIT);
+        if first < slots {
+            // It is given back untouched: what the others will take can be had now.
+            Vec::<(Option<T>, [u64; 6])>::new().try_reserve_exact(slots).expect(MEMORY);
+        }
+        if first > 0 {
+            self.add_core(first);
+            self.promised += slots - first;
+        }
+    }
+
+    /// Adds a core of so many slots, which is open then. A core that has drained, and isn't the open one, is folded or goes.
+    fn add_core(&mut self, slots: usize) {
+        assert!(self.store.cores().count() < CORES, "max entries exceeded");
+        let slots = rounded(slots);
+        let mut core = match self.folds.take(slots) {
+            Some(folded) => folded.unfold().ok().expect(MEMORY),
+            None => self.fresh_core(slots),
+        };
+        // What is put in is scheduled from here on.
+        let _idle = core.poll_deferring(self.tick);
+        self.store.take_in(core).map_err(|(refused, _)| refused).expect(MEMORY);
+    }
+
+    fn fresh_core(&mut self, slots: usize) -> Core<T> {
+        let mut keeper = Keeper::new(slots).expect(MEMORY);
+        let words = keeper.open().expect(MEMORY);
+        let config = CoreConfig { shard: self.clerk.given(), capacity: slots, last_stamp: self.last_stamp };
+        let core = DelayCore::new(config, keeper).map_err(|(refused, _)| refused).expect(MEMORY);
+        self.clerk.add(words).map_err(|(refused, _)| refused).expect(MEMORY);
+        core
+    }
+
+    /// Folds the cores that have drained and aren't open. A worn one goes.
+    fn fold_drained(&mut self) {
+        while let Some(core) = self.store.take_drained() {
+            let Ok(folded) = core.fold() else { return };
+            if 2 * folded.worn() <= folded.capacity() {
+                // Where memory is refused it goes.
+                let _ = self.folds.keep(folded);
+            }
+        }
+    }
+
+    /// The slots that aren't worn, those among them whose cores are yet to be added.
+    pub fn capacity(&self) -> usize {
+        self.promised + self.cores().map(|core| core.capacity() - core.worn()).sum::<usize>()
+    }
+
+    /// The worn slots.
+    pub fn worn(&self) -> usize {
+        self.cores().map(DelayCore::worn).sum()
+    }
+
+    /// Makes room for so many more entries.
+    pub fn reserve(&mut self, additional: usize) {
+        let free = self.promised + self.cores().map(free).sum::<usize>();
+        if free < additional {
+            self.add_slots((additional - free).max(self.next_slots()));
+        }
+    }
+
+    /// Takes every entry out. Where a value's drop panics, the entries that are left stay as they are.
+    pub fn clear(&mut self) {
+        self.free_cancelled();
+        for core in 0..self.store.cores().count() {
+            while let Some((_, entry)) = self.linked_from(core, 0) {
+                if self.remove(&self.key(&entry)).is_none() {
+                    // A handle has cancelled it just now.
+                    let _ = self.store.reap(&entry);
+                }
+            }
+        }
+    }
+
+    /// Frees all that handles cancelled, and drops the values.
+    fn free_cancelled(&mut self) {
+        self.heed_news(&mut Budget::of(u32::MAX));
+    }
+
+    /// Lets the empty cores go.
+    pub fn shrink_to_fit(&mut self) {
+        self.promised = 0;
+        self.let_empty_go();
+    }
+
+    /// Folds each core that has drained, the open one too.
+    fn let_empty_go(&mut self) {
+        if self.cores().any(|core| !core.is_empty()) {
+            let filled = self.cores().position(|core| !core.is_empty());
+            if self.store.cores().get(self.store.cores().opened()).is_some_and(DelayCore::is_empty) {
+                filled.map(|place| self.store.open(place));
+            }
+        } else {
+            self.store.close();
+        }
+        self.fold_drained();
+        self.shared.names().shrink_to_fit();
+    }
+
+    /// Moves the entries of sparse cores to new ones of no more slots than they need.
+    pub fn compact(&mut self) {
+        self.free_cancelled();
+        self.promised = 0;
+        let mut sparse: Vec<&Core<T>> = self.cores().filter(|core| is_sparse(core) && !core.is_empty()).collect();
+        // What gives back the most for an entry that is moved goes first.
+        sparse.sort_by_key(|core| CAPACITY_LIMIT * core.len() / core.capacity());
+        let mut entries = sparse.iter().map(|core| core.len()).sum();
+        let numbers: Vec<u32> = sparse.into_iter().map(DelayCore::shard).collect();
+        if entries > 0 {
+            self.add_core(CAPACITY_LIMIT.min(entries));
+        }
+        for number in numbers {
+            self.leave_core(number, &mut entries);
+            self.fold_drained();
+        }
+        self.let_empty_go();
+    }
+
+    /// Moves the entries of a core to new ones: of so many entries, which are left to be moved.
+    fn leave_core(&mut self, number: u32, entries: &mut usize) {
+        let Some(core) = self.cores().position(|core| core.shard() == number) else { return };
+        let mut slot = 0;
+        while let Some((place, entry)) = self.linked_from(core, slot) {
+            slot = place.index() as usize + 1;
+            if !self.has_room() {
+                self.add_core(CAPACITY_LIMIT.min(*entries));
+            }
+            // A handle may have cancelled it meanwhile.
+            let _ = self.carry_to_open(&self.key(&entry), NextDeadline::Same, &mut None);
+            *entries = entries.saturating_sub(1).max(1);
+        }
+    }
+}
