@@ -22,7 +22,7 @@ use crate::sweeping::Sweep;
 use dq_core::{DelayCore, Words};
 use dq_ticks::{CAPACITY_LIMIT, EntryId};
 use std::alloc::Allocator;
-use std::mem::needs_drop;
+use std::mem;
 
 /// The most cores of a store. A call by an entry's id compares its number with that of each.
 pub const CORES: usize = 64;
@@ -52,7 +52,11 @@ fn free<T, W: Words, A: Allocator>(core: &DelayCore<T, W, A>) -> usize
     ensures { 0 < result → HasFreeSlot core.now }
 {
     core.law();
-    let waiting = if needs_drop::<T>() { core.aside() } else { 0 };
+    let waiting = if mem::needs_drop::<T>() {
+        core.aside()
+    } else {
+        0
+    };
     let taken = core.len() + core.worn();
     core.capacity()
         .saturating_sub(taken)

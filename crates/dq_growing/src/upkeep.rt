@@ -95,7 +95,8 @@ impl<T, W: Words, A: Allocator + Clone> Store<T, W, A> {
 
     /// Closes the open core: inserts are refused until another one is opened or comes in.
     pub fn close(&mut self)
-        ensures closes { self.new.cores ≡ record self.old.cores { opened = length self.old.cores.cores } }
+        ensures closes { self.new.cores
+            ≡ record self.old.cores { opened = length self.old.cores.cores } }
         ensures notes { self.new.notes ≡ self.old.notes }
     {
         self.cores.close();

@@ -14,7 +14,7 @@ use crate::growing::store::Store;
 use crate::growing::sweeping::Sweep;
 use crate::growing::NEVER;
 use crate::ticks::{EntryId, CAPACITY_LIMIT};
-use core::mem::needs_drop;
+use core::mem;
 
 /// The most cores of a store. A call by an entry's id compares its number with that of each.
 pub const CORES: usize = 64;
@@ -41,7 +41,7 @@ pub struct Sizing {
 // waited in free ones.
 #[inline(always)]
 fn free<T, W: Words>(core: &DelayCore<T, W>) -> usize {
-    let waiting = if needs_drop::<T>() { core.aside() } else { 0 };
+    let waiting = if mem::needs_drop::<T>() { core.aside() } else { 0 };
     let taken = core.len() + core.worn();
     core.capacity().saturating_sub(taken).saturating_sub(waiting)
 }
