@@ -80,7 +80,7 @@ impl<T> Entries<T> {
         assert!(self.store.cores().count() < CORES, "max entries exceeded");
         let slots = rounded(slots);
         let mut core = match self.folds.take(slots) {
-            Some(folded) => folded.unfold().ok().expect(MEMORY),
+            Some(folded) => folded.unfold().expect(MEMORY),
             None => self.fresh_core(slots),
         };
         // What is put in is scheduled from here on.
