@@ -2,7 +2,7 @@
 
 use super::same;
 use dq_core::{CoreConfig, CoreError, DelayCore, Piece, Turn, VecWords};
-use dq_growing::{Cores, Moved, NextDeadline, Store};
+use dq_growing::{Cores, Moved, NextDeadline, Store, TakeError};
 use dq_ticks::{EntryId, Key};
 use std::alloc::Allocator;
 use std::process::Abort;
@@ -98,6 +98,8 @@ fn keeps_ids<A: Allocator + Clone>(rt: &impl Abort, heap: &A) -> Result<(), Fail
         store.deadline(&there),
         Err(CoreError::Missing),
     );
+    same(rt, "place", store.place(&first), Some(there));
+    same(rt, "another's place", store.place(&there), None);
 
     // The slot of the second has no stamp left, so it goes on in the open core.
     let reset = store.reset(&second, 3).0.map(|key| key.entry());
@@ -114,13 +116,16 @@ fn keeps_ids<A: Allocator + Clone>(rt: &impl Abort, heap: &A) -> Result<(), Fail
     same(
         rt,
         "a noted number",
-        store.take_in(core_of(heap, 0, 1)?).is_err(),
-        true,
+        store
+            .take_in(core_of(heap, 0, 1)?)
+            .map_err(|refused| refused.0),
+        Err(TakeError::UsedNumber),
     );
     let removed = store
         .remove(&first)
         .map(|removed| (removed.key.entry(), removed.value));
     same(rt, "remove", removed, Ok((first, 'a')));
+    same(rt, "no place but its own", store.place(&first), Some(first));
     same(
         rt,
         "a free number",
