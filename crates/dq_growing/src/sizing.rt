@@ -449,7 +449,7 @@ impl Sizing {
     fn look_after<T, W: Words, A: Allocator + Clone>(&mut self, store: &Store<T, W, A>) {
         if self.is_too_large(store.cores()) || self.has_needless(store.cores()) {
             self.note_work();
-        } else if self.straggler(store).is_some() {
+        } else if self.quiet_since != NEVER && self.straggler(store).is_some() {
             // It is moved once there is time.
             self.quiet_since = NEVER;
         }
