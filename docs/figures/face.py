@@ -55,7 +55,7 @@ class Face:
                 names[name] = ((*module, name), is_public)
                 self.read(names[name][0], textwrap.dedent(body) or text_of(self.source.joinpath(*module, f"{name}.rs")))
         for is_public, path, group in USE.findall(MODULE.sub("", text)):
-            its = [path + it for it in re.findall(r"[\w:]+", group)] if group else [path]
+            its = [(path + it).removesuffix("::self") for it in re.findall(r"[\w:]+", group)] if group else [path]
             names.update((it.rpartition("::")[2], (it, is_public)) for it in its)
         names.update((it[5], (it, it[2])) for it in ITEM.finditer(MODULE.sub("", text)) if not is_test(it[1]))
         self.impls += [(module, it) for it in IMPL.finditer(MODULE.sub("", text)) if not is_test(it[1])]
