@@ -18,7 +18,7 @@ def text_of(name):
 def helpers(body):
     """What a text calls of helpers.c, and what that names, in the order in which it stands there."""
     blocks = text_of("helpers.c").strip().split("\n\n")[1:]
-    named = {re.search(r"typedef .* (\w+);|struct (\w+) \{|(\w+)\(", it): it for it in blocks}
+    named = {re.search(r"struct (\w+) \{|(\w+)\(", it): it for it in blocks}
     named = {next(filter(None, found.groups())): it for found, it in named.items()}
     wanted = {it for it in named if re.search(rf"\b{it}\b", body)}
     wanted |= {other for it in wanted for other in named if re.search(rf"\b{other}\b", named[it])}

@@ -1,7 +1,5 @@
 /* What the bodies call: c/generate takes what a body names, and what that names. */
 
-__extension__ typedef unsigned __int128 u128;
-
 struct of_64_64 { uint64_t f0; uint64_t f1; };
 
 struct of_64_1 { uint64_t f0; bool f1; };
@@ -30,12 +28,6 @@ static inline uint64_t load_64(const char *at) {
     return value;
 }
 
-static inline u128 load_128(const char *at) {
-    u128 value;
-    memcpy(&value, at, sizeof value);
-    return value;
-}
-
 static inline char *load_ptr(const char *at) {
     char *value;
     memcpy(&value, at, sizeof value);
@@ -55,10 +47,6 @@ static inline void store_32(char *at, uint32_t value) {
 }
 
 static inline void store_64(char *at, uint64_t value) {
-    memcpy(at, &value, sizeof value);
-}
-
-static inline void store_128(char *at, u128 value) {
     memcpy(at, &value, sizeof value);
 }
 

@@ -15,12 +15,11 @@ ORDERS, SIGNS = KNOWN["orders"], KNOWN["signs"]
 FORMS = {**KNOWN["forms"], **dict.fromkeys(SIGNS, ["o , v"])}
 CASTS = [it for it, forms in FORMS.items() if forms == ["o to t"]]
 HEAP = ("rattle_alloc", "rattle_realloc", "rattle_dealloc")
-WIDTHS = (8, 16, 32, 64, 128)
+WIDTHS = (8, 16, 32, 64)
 NAME = r'(?:"[^"]*"|[-\w.$]+)'
 TYPE = r"(?:ptr|void|i\d+|\{ [^{}]* \}|\[\d+ x [^\[\]]+\])"
 VALUE = rf"(?:[%@]{NAME}|-?\d+|[a-z]+|\{{ [^{{}}]* \}})"
 OPERAND = f"({TYPE}) ({VALUE})"
-ARRAY = re.compile(r"(?:(?:private|internal|unnamed_addr) )*constant \[(\d+) x i(\d+)\] \[(.*)\](?:, align \d+)?")
 # What narrows a meaning only, beside names in quotes; and the names of metadata, alignments and groups of attributes.
 FLAG = re.compile(r'("[^"]*")|(?<![%%@\w.-])(?:(?:%s|align \d+)(?![\w.-])|(?:%s)\((?:[^()]|\([^()]*\))*\)) ?' % tuple(
     "|".join(KNOWN[it].split()) for it in ("flags", "flag_calls")))
@@ -100,8 +99,8 @@ def box(kind):
 def c_type(kind):
     if kind in ("ptr", "void", 1):
         return {"ptr": "char *", "void": "void ", 1: "bool "}[kind]
-    if isinstance(kind, int):
-        return "u128 " if box(kind) == 128 else f"uint{box(kind)}_t "
+    if isinstance(kind, int) and kind <= 64:
+        return f"uint{box(kind)}_t "
     if is_pair(kind):
         return f"struct {'_'.join(['of', *map(str, kind)])} "
     raise Unknown(f"a value of the type {kind}")
@@ -115,10 +114,6 @@ def number(kind, value):
     value &= (1 << kind) - 1
     if kind == 1:
         return "true" if value else "false"
-    if value >> 64:
-        return f"((u128){value >> 64}ull << 64 | {value & (1 << 64) - 1}ull)"
-    if kind == 128:
-        return f"(u128){value}ull"
     # A constant is as wide as its type: a shift of a narrower one would lose bits.
     return f"{value}u" if kind <= 32 else f"{value}ull"
 
@@ -137,7 +132,7 @@ def wide(kind, text):
     return f"(uint32_t){text}" if kind < 32 else text
 
 
-def known(kind, what, widths=(8, 16, 32, 64)):
+def known(kind, what, widths=WIDTHS):
     """A width that C has for something."""
     if kind not in widths:
         raise Unknown(f"{what} of {kind} bits")
@@ -212,8 +207,6 @@ class Function:
             return number(kind, int(value))
         if value in self.names:
             return self.names[value]
-        if value.startswith("@") and kind == "ptr":
-            return f"(char *){self.module.constant(value)}"
         raise Unknown(f"the operand {value} of {self.name}")
 
     def declare(self, name, kind):
@@ -254,9 +247,8 @@ class Function:
                 to = self.names.get(step.name)
                 if to or not step.name or step.op in ("call", "load", "cmpxchg", "atomicrmw"):
                     self.write_step(step, to)
-        idle = [f"    (void){self.names[name]};" for _, name in self.parameters if name not in self.count]
         return [f"/* {re.sub('::<#[0-9a-f]+>', '', self.name.strip('@' + chr(34)))} */" if not self.is_export else "",
-                f"{self.prototype()} {{", *self.declared, *idle, *self.out, "}", ""]
+                f"{self.prototype()} {{", *self.declared, *self.out, "}", ""]
 
     def prototype(self):
         given = ", ".join(f"{c_type(kind)}a{i}" for i, (kind, _) in enumerate(self.parameters)) or "void"
@@ -285,7 +277,7 @@ class Function:
     def arithmetic(self, op, left, right):
         kind = left[0]
         if op in ("shl", "lshr"):
-            right = self.of((known(kind, "a shift", WIDTHS), right[1]))
+            right = self.of((known(kind, "a shift"), right[1]))
             right = right if right[0].isdigit() else f"({right} & {kind - 1}u)"
         else:
             right = wide(kind, self.of(right))
@@ -336,9 +328,7 @@ class Function:
         weak, (at, wanted, new, won, lost) = "true" if parts[0] == "weak" else "false", parts[-5:]
         kind = known(wanted[0], "an exchange")
         if not to:
-            name = f"unused {len(self.declared)}"
-            self.declare(name, (kind, 1))
-            to = self.names[name]
+            raise Unknown("an exchange whose answer nobody reads")
         # A variable of its own stays in a register, which a field whose address is taken doesn't.
         self.say(f"{{ uint{kind}_t seen = {self.of(wanted)};")
         self.say(f"{to}.f1 = __atomic_compare_exchange_n((uint{kind}_t *){self.of(at)}, &seen, {self.of(new)}, {weak}, "
@@ -395,40 +385,23 @@ class Module:
         target = re.search(r'^target datalayout = "([^"]*)"', text, re.M)
         if not target or not target[1].startswith("e-") or "p:" in target[1]:
             raise Unknown("the layout of another target")
-        self.names, self.used = {}, []
-        self.constants = dict(re.findall(r"^(@%s) = (.*)$" % NAME, text, re.M))
-        self.functions = []
+        self.names, self.functions = {}, []
         for found in re.finditer(r"^(define [^\n]*)\{\n(.*?)^\}\n", text, re.M | re.S):
             head = re.sub(r"\)[^()]*$", ")", found[1].rsplit("#", 1)[0].strip())
             self.functions.append(Function(self, head, found[2].rstrip("\n").split("\n")))
         self.known = {it.name for it in self.functions}
 
     def function(self, name):
-        """The name of a function in C, with a number where several would have the same."""
+        """The name of a function in C."""
         base = plain(name)
         if name not in self.known and base not in HEAP:
             raise Unknown(f"the function {name}, which the module doesn't have")
         if name not in self.names:
-            fresh, count = f"in_{base}" if name in self.known else base, 1
-            while fresh in self.names.values() and name in self.known:
-                count += 1
-                fresh = f"in_{base}_{count}"
+            fresh = f"in_{base}" if name in self.known else base
+            if fresh in self.names.values() and name in self.known:
+                raise Unknown(f"two functions that would be named {fresh}")
             self.names[name] = fresh
         return self.names[name]
-
-    def constant(self, name):
-        said = self.constants.get(name, "nothing")
-        if not ARRAY.fullmatch(said):
-            raise Unknown(f"the constant {name}: {said}")
-        if name not in self.used:
-            self.used.append(name)
-        return f"constant_{self.used.index(name)}"
-
-    def constant_lines(self):
-        for i, name in enumerate(self.used):
-            found = ARRAY.fullmatch(self.constants[name])
-            values = [number(int(found[2]), int(it.split()[1])) for it in found[3].split(", ")]
-            yield f"static const uint{found[2]}_t constant_{i}[{found[1]}] = {{{', '.join(values)}}};"
 
 
 def pair_line(name):
@@ -441,6 +414,6 @@ def bodies(text):
     """The functions of a module as C: the types they need, their prototypes and bodies, and the exported ones."""
     module = Module(text)
     written = [line for it in module.functions for line in it.write()]
-    lines = [*module.constant_lines(), *(f"{it.prototype()};" for it in module.functions), "", *written]
+    lines = [*(f"{it.prototype()};" for it in module.functions), "", *written]
     pairs = set(re.findall(r"struct (of(?:_\w+)+)", "\n".join(lines))) - {"of_64_64", "of_64_1"}
     return [*map(pair_line, sorted(pairs)), *lines], [it for it in module.functions if it.is_export], module
