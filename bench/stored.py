@@ -1,8 +1,8 @@
 """A run of the bench: its rows and peers, and its samples as they are stored.
 
 results/latest.tsv has what is said about the run, in lines that begin with `#`, and every sample, rounded once.
-results/latest.longest.tsv has how long the calls of the rows of the longest call took. The tables of the pages and the
-charts are made of these two.
+results/latest.longest.tsv has how long the calls of the rows of the longest call took. The tables of the pages are
+made of these two.
 """
 
 import pathlib
@@ -13,7 +13,7 @@ BENCH = pathlib.Path(__file__).resolve().parent
 RESULTS = BENCH / "results"
 STORED, LONGEST = RESULTS / "latest.tsv", RESULTS / "latest.longest.tsv"
 
-# The rows, the peers and their names, and what tables and charts show of them.
+# The rows, the peers and their names, and what tables show of them.
 PLAN = tomllib.loads((BENCH / "plan.toml").read_text(encoding="utf-8"))
 SINGLE_ROWS, WHOLE_ROWS, NAMED_ROWS = (PLAN["rows"][it] for it in ("single", "whole", "named"))
 SHARD_ROWS = [*NAMED_ROWS, *PLAN["rows"]["bursts"]]
@@ -89,14 +89,13 @@ def write_samples(all_cases, about):
 
 
 def read():
-    """The cases of the stored run, and what is said about it."""
-    lines = STORED.read_text().splitlines()
-    about, found = [line[2:] for line in lines if line.startswith("# ")], {}
-    for line in lines[len(about) + 1:]:
+    """The cases of the stored run."""
+    found = {}
+    for line in [it for it in STORED.read_text().splitlines() if not it.startswith("# ")][1:]:
         peer, row, entries, threads, samples = line.split("\t")
         case = found.setdefault((row, int(entries), int(threads)), Case(row, int(entries), int(threads)))
         case.samples[peer] = list(map(float, samples.split()))
     for line in LONGEST.read_text().splitlines()[1:]:
         peer, row, entries, call, calls, taken = line.split("\t")
         found[row, int(entries), 1].spreads[peer, call] = [int(calls), *map(int, taken.split())]
-    return list(found.values()), about
+    return list(found.values())

@@ -34,7 +34,7 @@ def noted(name):
 
 @functools.cache
 def cases():
-    return {case.key: case for case in stored.read()[0]}
+    return {case.key: case for case in stored.read()}
 
 
 @functools.cache
