@@ -18,7 +18,8 @@ PLAN, LIVES = stored.PLAN["tables"], stored.WHOLE_ROWS
 
 def grid(heads, rows, left=1):
     """A table, of whose columns so many are words and the others numbers."""
-    lines = ["| " + " | ".join(map(str, it)) + " |" for it in (heads, *rows)]
+    told = lambda it: f"{int(it):,}" if str(it).isdigit() else str(it)
+    lines = ["| " + " | ".join(map(told, it)) + " |" for it in (heads, *rows)]
     return "\n".join([lines[0], "|---" * left + "|--:" * (len(heads) - left) + "|", *lines[1:]])
 
 
@@ -151,31 +152,19 @@ def standing():
     return grid(["Peer", "Ahead of one owner's", "Ahead of shared words", "Its best row", "Its worst row"], rows)
 
 
-def ahead(ours, calls):
-    """In how many rows of shards each peer in a `Mutex` is ahead: those of each kind, by how the names of its rows begin."""
-    def counted(cell, begins):
-        """Whether a cell is of that kind; whole lives have a kind for each of theirs, and one for all of them."""
-        kind, _, shards = cell[1].removeprefix("own-").partition("/")
-        name = cell[1].removeprefix("own-") if calls is None else cell[1]
-        return shards and (kind in LIVES) == (calls is None) and name.startswith(begins)
-
-    kinds = calls or {"all": "", **{f"`{it}`": f"{it}/" for it in LIVES}}
-    its = {(peer, words): [it for it in run() if it[0] == peer and counted(it, begins)]
-           for peer in PLAN["locked"] for words, begins in kinds.items()}
-    peers = [it for it in PLAN["locked"] if its[it, "all"]]
-    counts = {words: {len(its[peer, words]) for peer in peers} for words in kinds}
-    if any(len(it) != 1 for it in counts.values()):
+def ahead(ours, which):
+    """In how many rows of shards each peer in a `Mutex` is ahead, of calls or of whole lives: of all, and of each kind."""
+    kinds = {"calls": stored.SHARD_ROWS, "lives": LIVES}[which]
+    kind_of = lambda cell: cell[1].removeprefix("own-").partition("/")[0]
+    counted = lambda cells: [len(cells), *([*map(kind_of, cells)].count(kind) for kind in kinds)]
+    its = {peer: [it for it in run() if it[0] == peer and "/" in it[1] and kind_of(it) in kinds] for peer in PLAN["locked"]}
+    its = {PLAN["locked"][peer]: cells for peer, cells in its.items() if cells}
+    counts = {tuple(counted(cells)) for cells in its.values()}
+    if len(counts) != 1:
         raise LookupError("the peers have not as many rows as one another")
-    return grid(["In a `Mutex`", *(f"{words}: of {min(it)}" for words, it in counts.items())],
-                ([PLAN["locked"][peer], *(sum(is_faster(it, ours) for it in its[peer, words]) for words in kinds)] for peer in peers))
-
-
-def shard_standing():
-    return ahead("ours-shards", PLAN["shard_calls"])
-
-
-def life_standing():
-    return ahead("rust-shards", None)
+    heads = (f"{kind}: of {many}" for kind, many in zip(["all", *(f"`{it}`" for it in kinds)], counts.pop()))
+    rows = ([peer, *counted([it for it in cells if is_faster(it, ours)])] for peer, cells in its.items())
+    return grid(["In a `Mutex`", *heads], rows)
 
 
 def longest_of(name, peer, entries):
@@ -185,7 +174,7 @@ def longest_of(name, peer, entries):
 
 def touched(peers, cell):
     """A table of the longest call, after sessions were touched in some way."""
-    rows = ([f"{call}s", f"{int(size):,}", *(cell(call, it, size) for it in peers)] for call in TOUCHES for size in SIZES)
+    rows = ([f"{call}s", size, *(cell(call, it, size) for it in peers)] for call in TOUCHES for size in SIZES)
     return grid(["Touched by", "Entries", *peers.values()], rows)
 
 
@@ -205,8 +194,8 @@ def beside():
     def median(way, size, at):
         return ns_text(statistics.median(float(it[at]) for it in rows_of("pieces") if it[:3] == [way, "beside", size]))
 
-    return grid(["Entries", *PIECE_WAYS], ([f"{int(size):,}", *(f"{median(way, size, 3)} / {median(way, size, 5)}" for way in PIECE_WAYS)]
-                                           for size in SIZES), 0)
+    rows = ([size, *(f"{median(way, size, 3)} / {median(way, size, 5)}" for way in PIECE_WAYS)] for size in SIZES)
+    return grid(["Entries", *PIECE_WAYS], rows, 0)
 
 
 def fair():
@@ -216,7 +205,7 @@ def fair():
     cells = [*itertools.product(("calm", "rushed"), (2, 3, 4)), ("absent", 4)]
     for size, queue, way in itertools.product(SIZES[1:], queues, ways):
         us = (float(found[way, f"fair-{queue}-{pace}", size][at]) / 1000 for pace, at in cells)
-        rows.append([f"{int(size):,}", queues[queue], ways[way], *(f"{it:,.1f}" for it in us)])
+        rows.append([size, queues[queue], ways[way], *(f"{it:,.1f}" for it in us)])
     calls = ["99.9%", "all", "its poll"]
     return grid(["Entries", "Queue", "Polled by", f"calm: {calls[0]}", *calls[1:], f"rushed: {calls[0]}", *calls[1:],
                  "beside nobody"], rows, 3)
@@ -252,58 +241,46 @@ def growing():
 
 def adapter():
     """The adapter for tokio beside its peer: the instructions of a call, a column for each number of entries."""
-    found = {(name, entries): (float(peer), float(ours)) for name, entries, peer, ours in rows_of("adapter")}
-    sizes = list(dict.fromkeys(entries for _, entries in found))
-    told = lambda peer, ours: (f"{peer:,.0f}", f"{ours:,.0f}", f"{peer / ours:.1f}")
+    found = {(name, entries): [peer, ours, f"{int(peer) / int(ours):.1f}"] for name, entries, peer, ours in rows_of("adapter")}
+    names, sizes = (dict.fromkeys(it[at] for it in found) for at in (0, 1))
     return grid(["Instructions of", *(it for size in sizes for it in (f"{int(size):,} entries: peer", "here", "ratio"))],
-                ([name, *(it for size in sizes for it in told(*found[name, size]))] for name in dict.fromkeys(name for name, _ in found)))
+                ([name, *(it for size in sizes for it in found[name, size])] for name in names))
 
 
 def adapter_stack():
     """What calls of the adapter and of its peer with large values want of the stack, worst first."""
-    found = [(f"`{call}`, {profile}", int(peer), int(here)) for kind, profile, call, peer, here, *_ in rows_of("adapter-room") if kind == "stack"]
+    found = [(int(here) / int(peer), peer, here, f"`{call}`, {profile}") for kind, profile, call, peer, here, *_ in rows_of("adapter-room") if kind == "stack"]
     return grid(["Call", "peer", "here", "ratio"],
-                ([name, f"{peer:,}", f"{here:,}", f"{here / peer:.1f}"] for name, peer, here in sorted(found, key=lambda it: (-it[2] / it[1], -it[2]))))
+                ([name, peer, here, f"{ratio:.1f}"] for ratio, peer, here, name in sorted(found, key=lambda it: (-it[0], -int(it[2])))))
 
 
 def adapter_soak():
     """What a soak of the adapter did."""
-    heads = ["Seconds", "Values made, each dropped once", "Entries that came out", "Calls of tasks and threads"]
-    return grid(heads, ([f"{int(it):,}" for it in figures] for figures in rows_of("adapter-soak")), 0)
+    return grid(["Seconds", "Values made, each dropped once", "Entries that came out", "Calls of tasks and threads"], rows_of("adapter-soak"), 0)
 
 
 def late():
     """By how much entries of the shared queue were late beside tasks and threads that sleep, worst first."""
-    found = sorted(([name, *map(int, figures)] for name, *figures in rows_of("late")), key=lambda it: -it[3])
-    return grid(["What waited", "How often", "late by, p50, µs", "p99, µs", "most, µs"],
-                ([name, *(f"{it:,}" for it in figures)] for name, *figures in found), 1)
+    return grid(["What waited", "How often", "late by, p50, µs", "p99, µs", "most, µs"], sorted(rows_of("late"), key=lambda it: -int(it[3])))
 
 
 def adapter_times():
     """What a touch of an idle timeout takes by the adapter's handle, and by its peer in a `Mutex`, worst first."""
-    found = [(threads, once, int(entries), float(peer), float(here)) for threads, once, entries, peer, here in rows_of("adapter-times")]
+    found = [(float(peer) / float(here), float(peer), float(here), its) for *its, peer, here in rows_of("adapter-times")]
     return grid(["Threads at once", "The clock is read", "Entries", "peer in a `Mutex`, ns", "here, ns", "ratio"],
-                ([threads, once, f"{entries:,}", f"{peer:,.0f}", f"{here:,.0f}", f"{peer / here:.1f}"]
-                 for threads, once, entries, peer, here in sorted(found, key=lambda it: it[3] / it[4])), 2)
+                ([*its, f"{peer:,.0f}", f"{here:,.0f}", f"{ratio:.1f}"] for ratio, peer, here, its in sorted(found)), 2)
 
 
 def idle_servers():
-    """What idle timeouts take in a server of 10,000 connections, by the adapter and by tokio's timeout; lines but the head's."""
+    """What idle timeouts take in a server of 10,000 connections, by the adapter and by tokio's timeout."""
     said = {"no_timeouts": "none", "idle_timeouts": "`IdleTimeout`", "by_timeout": "tokio's `timeout`"}
-    folder = TOP / "rust" / "examples" / "everyday" / "tokio" / "src" / "bin"
-    lines = lambda name: "" if name == "no_timeouts" else sum(1 for it in text_of(folder / f"{name}.rs").splitlines() if it and not it.startswith("//"))
-    return grid(["Timeouts", "lines of the program", "processor an echo, µs", "instructions an echo, outside of the kernel", "memory a connection, bytes"],
-                ([said[name], lines(name), echo, f"{int(instructions):,}", f"{int(memory):,}"]
-                 for name, echo, instructions, memory in rows_of("idle-servers")))
+    return grid(["Timeouts", "processor an echo, µs", "instructions an echo, outside of the kernel", "memory a connection, bytes"],
+                ([said[name], *figures] for name, *figures in rows_of("idle-servers")))
 
 
 def queue_instructions():
     """What a call of `DelayQueue` takes, and took before receivers ended by themselves and entries were counted by their lateness."""
-    said = {"insert": "insert", "extend": "extend", "reset": "reset", "remove": "remove", "poll-burst": "recv_many, of 64, each late"}
-    which = {"queue-at": "", "queue-reserved": ", with memory ahead"}
-    return grid(["", "before", "now", "%"],
-                ([said[row] + which[queue], before, now, f"{100 * (int(now) / int(before) - 1):+.1f}"]
-                 for row, queue, before, now in rows_of("queue-instructions")))
+    return grid(["Call", "Queue", "before", "now"], rows_of("queue-instructions"), 2)
 
 
 def adapter_memory():
@@ -350,24 +327,7 @@ def evidence():
     return grid(["What", "How many"], told.items(), 2)
 
 
-RATES = (1000, 10000, 100000, 1000000)
-# The units of a time, the greatest first: a time is told in the greatest of which it has two.
-UNITS = (("years", 365.25 * 24 * 3600), ("days", 24 * 3600), ("hours", 3600), ("minutes", 60))
-
-
-def lasts(*sizes):
-    """How long a queue lasts, until each of its slots is worn, by its inserts and resets a second: a row for each `CAPACITYxSHARDS`."""
-    def told(seconds):
-        unit, size = next((it for it in UNITS if seconds >= 2 * it[1]), UNITS[-1])
-        return f"{seconds / size:.1f} {unit}" if seconds / size < 100 else f"{seconds / size:.0f} {unit}"
-
-    stamps = int(re.search(r"const LAST_STAMP: \w+ = ([0-9_]+);", text_of(TOP / "crates/dq_ticks/src/lib.rt"))[1])
-    shapes = [tuple(map(int, it.split("x"))) for it in sizes]
-    return grid(["Entries a shard", "Shards", *(f"{it:,} a second" for it in RATES)],
-                ([f"{capacity:,}", shards, *(told(capacity * shards * stamps / it) for it in RATES)] for capacity, shards in shapes), 0)
-
-
-def made(name):
+def made(mark):
     """A table by the words of its mark."""
-    name, *arguments = name.split()
+    name, *arguments = mark.split()
     return globals()[name.replace("-", "_")](*arguments)
