@@ -113,12 +113,6 @@ def wrong_bodies():
     return names, rows
 
 
-def drawn(rows, commit):
-    """One wrong body for each row: the same for the same commit."""
-    number = lambda row: int(hashlib.sha256(f"{commit}{row}".encode()).hexdigest(), 16)
-    return {its[number(row) % len(its)] for row, its in rows.items()}
-
-
 def to_try(form):
     """The wrong bodies that this run tries, by their names, none for all; it says which."""
     edits, rows = wrong_bodies()
@@ -131,7 +125,10 @@ def to_try(form):
         say(f"-- wrong bodies: all {len(edits)}, since {' or '.join(SHARED)} changed, or this clone hasn't {last},"
             " the commit of the last whole run")
         return []
-    its, whole = drawn(rows, commit), {it for it in edits if it.partition("/")[0] in crates}
+    # one for each row, the same for the same commit
+    number = lambda row: int(hashlib.sha256(f"{commit}{row}".encode()).hexdigest(), 16)
+    its = {its[number(row) % len(its)] for row, its in rows.items()}
+    whole = {it for it in edits if it.partition("/")[0] in crates}
     say(f"-- wrong bodies: {len(its | whole)} of {len(edits)}: all {len(whole)} of the crates that changed since {last},"
         f" the commit of the last whole run ({' '.join(sorted(crates)) or 'none'}), and one for each of {len(rows)} rows of"
         f" docs/PROMISES.md, drawn by {commit}; beside those crates:")

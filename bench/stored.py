@@ -74,7 +74,6 @@ class Case:
 
 def write_samples(all_cases, about):
     """Stores what was timed."""
-    RESULTS.mkdir(exist_ok=True)
     head = "peer\trow\tentries\tthreads\tnanoseconds an operation, one number for each round"
     lines = [*(f"# {line}" for line in about), head]
     spreads = ["peer\trow\tentries\tcall\tcalls\tnanoseconds that " + ", ".join(SHARES) + " of the calls take at most"]

@@ -25,15 +25,11 @@ def tests():
     return [(path, name, named.get((path, name), [])) for path, name in sorted(wanted | named.keys())]
 
 
-def edits():
-    """Each edit: its file, its name, and the promises that it names."""
-    return [(it.home, it.name, it.promises) for crate in tree.crates() for it in crate.edits()]
-
-
 def filled(text):
     """The page with its last column made anew, and the faults: each file, and what it says of no promise."""
+    edits = [(it.home, it.name, it.promises) for crate in tree.crates() for it in crate.edits()]
     carriers, faults = {found[2]: ([], []) for found in ROW.finditer(text)}, []
-    for place, its in enumerate((tests(), edits())):
+    for place, its in enumerate((tests(), edits)):
         for path, name, promises in its:
             if not promises:
                 faults.append((path, f"{name} names no promise"))
