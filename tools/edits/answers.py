@@ -71,7 +71,7 @@ WORDS = {"proved": "NOT REFUSED", "bad": "BAD EDIT", "elsewhere": "REFUSED ELSEW
          "by no goal": "REFUSED BY NO GOAL OF THE RIGHT BODY"}
 # The crates of which it isn't settled yet that each edit is refused by such a goal: there an answer that names what is gone counts
 # too. Whoever settles one takes it out, runs --goals and --right, and mends the edits that these name.
-UNSETTLED = {"dq_apps", "dq_bell", "dq_c", "dq_growing", "dq_replay", "dq_shards", "dq_words"}
+UNSETTLED = {"dq_apps", "dq_bell", "dq_c", "dq_growing", "dq_shards", "dq_words"}
 
 
 def alone(text, goal):
