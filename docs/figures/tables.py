@@ -312,7 +312,7 @@ def evidence():
     calls = re.search(r"const CALLS: u64 = if cfg!.debug_assertions. \{ ([\d_]+) \}", text_of(TOP / "rust/hontkhale/tests/models/draw.rs"))[1]
     definitions = sum(not indent for it in tree.crates() for indent, _ in it.definitions())
     told = {
-        "Lines of erased Rust, each function of them proved safe, total and true to its contract":
+        "Lines of Rust erased from functions that are proved safe, total and true to their contracts":
             f"{code:,} in {len(functions):,} functions, {sum(it.is_public for it in functions):,} of them public",
         "Lines of proofs and definitions, beside the contracts": f"{proofs:,}",
         "Definitions, which a reader has to believe in": f"{definitions:,}",
