@@ -1,5 +1,6 @@
 """What a check said, and what became of the edits in it. All that is known of the prover's words stands here at the top."""
 
+import pathlib
 import re
 
 # What a check says of a function: behind a comma stands what else is known of it, as `may wait`.
@@ -69,9 +70,9 @@ OURS = "`not_searched`"
 # How a run tells what isn't refused.
 WORDS = {"proved": "NOT REFUSED", "bad": "BAD EDIT", "elsewhere": "REFUSED ELSEWHERE", "not judged": "NOT JUDGED",
          "by no goal": "REFUSED BY NO GOAL OF THE RIGHT BODY"}
-# The crates of which it isn't settled yet that each edit is refused by such a goal: there an answer that names what is gone counts
-# too. Whoever settles one takes it out, runs --goals and --right, and mends the edits that these name.
-UNSETTLED = {"dq_apps", "dq_bell", "dq_c", "dq_growing", "dq_shards", "dq_words"}
+# A crate has a file of this name beside its edits where it isn't settled yet that each is refused by such a goal: there an answer that
+# names what is gone counts too. Whoever settles one takes it out, runs --goals and --right, and mends the edits that these name.
+CRATES, UNSETTLED = pathlib.Path(__file__).resolve().parents[2] / "crates", "edits/unsettled"
 
 
 def alone(text, goal):
@@ -102,7 +103,7 @@ class Answer:
     """What a check of a round said."""
 
     def __init__(self, crate, status, text, searched=(), taken=(), asks_right=False):
-        self.asks_right, self.is_settled = asks_right, crate not in UNSETTLED
+        self.asks_right, self.is_settled = asks_right, not (CRATES / crate / UNSETTLED).exists()
         text = WRAPPED.sub(" ", text) if self.is_settled else text
         self.status, self.text, self.searched, self.taken = status, text, searched, taken
         self.lines = text.rstrip("\n").split("\n")

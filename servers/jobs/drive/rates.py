@@ -43,15 +43,20 @@ def used(it, workers):
     return sum(times(it.pid)[0] for it in workers), database_seconds(it)
 
 
+def stolen():
+    """The processor seconds so far that other machines took of this one's."""
+    return int(pathlib.Path("/proc/stat").read_text().split(maxsplit=9)[8]) / HERTZ
+
+
 def load(it, rate):
     it.sql("TRUNCATE jobs; TRUNCATE effects; CHECKPOINT")
     workers = [it.spawn("worker", "--name", f"w{number}", "--effect", EFFECT) for number in range(WORKERS)]
     it.wait_for_owners(WORKERS)
-    begun, before = time.monotonic(), used(it, workers)
+    begun, before = time.monotonic(), (*used(it, workers), stolen())
     it.enqueue(rate * SECONDS, delay=4, spread=SECONDS)
     time.sleep(SECONDS)
     it.wait_for_number("SELECT count(*) FROM jobs WHERE state = 'waiting'", 0)
-    took, after = time.monotonic() - begun, used(it, workers)
+    took, after = time.monotonic() - begun, (*used(it, workers), stolen())
     end(*workers)
     return [*map(float, lateness(it).split()), *[(now - then) / took for now, then in zip(after, before)]]
 
@@ -61,7 +66,7 @@ def measure(programs):
     model = re.search(r"^model name\s*: (.*)", pathlib.Path("/proc/cpuinfo").read_text(), re.M)[1]
     with contextlib.ExitStack() as stack, open(STORED, "w") as out:
         print(f"# {time.strftime('%Y-%m-%d')}, {model}, {os.cpu_count()} cores, {SECONDS} s a turn", file=out)
-        print("a second, program, ms late p50, p99, max, cores of workers, of database, load at the end", file=out)
+        print("a second, program, ms late p50, p99, max, cores of workers, of database, taken by other machines", file=out)
         databases = {}
         for name, cluster.JOBS in programs.items():
             databases[name] = stack.enter_context(cluster.cluster())
@@ -69,7 +74,7 @@ def measure(programs):
             for rate in RATES:
                 for name in list(programs)[:: 1 if turn % 2 else -1]:
                     cluster.JOBS = programs[name]
-                    row = [*(f"{it:.4g}" for it in load(databases[name], rate)), f"{os.getloadavg()[0]:.1f}"]
+                    row = [f"{it:.4g}" for it in load(databases[name], rate)]
                     print(rate, name, *row, sep="\t", file=out, flush=True)
 
 
@@ -79,13 +84,14 @@ def table():
     for line in lines:
         rate, name, *row = line.split("\t")
         turns.setdefault((int(rate), name), []).append([float(it) for it in row])
-    loads = [row[-1] for rows in turns.values() for row in rows]
+    taken = [row[-1] for rows in turns.values() for row in rows]
     rows = ["| A second | Program | p50 ms | p99 ms | max ms | cores of workers | of database |", "| --- | --- |" + " --: |" * 5]
     for (rate, name), its in sorted(turns.items()):
         cells = [f"{statistics.median(it):.3g}" for it in zip(*its)][:-1]
         cells[1] += f" ({min(it[1] for it in its):g} to {max(it[1] for it in its):g})"
         rows.append(f"| {rate:,} | {' | '.join([name, *cells])} |")
-    text = f"{note[2:]}. Medians of {len(its)} turns, and\nthe least and the most p99. The load was {min(loads)} to {max(loads)}.\n\n" + "\n".join(rows)
+    others = f"Other machines took {min(taken):.2f} to {max(taken):.2f} cores meanwhile."
+    text = f"{note[2:]}. Medians of {len(its)} turns, and\nthe least and the most p99. {others}\n\n" + "\n".join(rows)
     page = HERE / "README.md"
     mark = re.compile("(<!-- table jobs -->\n).*?(\n<!-- end -->)", re.S)
     page.write_text(mark.sub(lambda it: it[1] + text + it[2], page.read_text(), count=1))
