@@ -9,7 +9,6 @@ import contextlib
 import os
 import pathlib
 import re
-import statistics
 import sys
 import time
 
@@ -79,19 +78,15 @@ def measure(programs):
 
 
 def table():
+    """Each turn, those first in which other machines took the least: how late jobs are hangs on that more than on the program."""
     note, _, *lines = STORED.read_text().splitlines()
-    turns = {}
-    for line in lines:
-        rate, name, *row = line.split("\t")
-        turns.setdefault((int(rate), name), []).append([float(it) for it in row])
-    taken = [row[-1] for rows in turns.values() for row in rows]
-    rows = ["| A second | Program | p50 ms | p99 ms | max ms | cores of workers | of database |", "| --- | --- |" + " --: |" * 5]
-    for (rate, name), its in sorted(turns.items()):
-        cells = [f"{statistics.median(it):.3g}" for it in zip(*its)][:-1]
-        cells[1] += f" ({min(it[1] for it in its):g} to {max(it[1] for it in its):g})"
-        rows.append(f"| {rate:,} | {' | '.join([name, *cells])} |")
-    others = f"Other machines took {min(taken):.2f} to {max(taken):.2f} cores meanwhile."
-    text = f"{note[2:]}. Medians of {len(its)} turns, and\nthe least and the most p99. {others}\n\n" + "\n".join(rows)
+    turns = sorted((int(rate), float(row[-1]), name, *row[:-1]) for rate, name, *row in (line.split("\t") for line in lines))
+    rows = ["| A second | Others took, cores | Program | p50 ms | p99 ms | max ms | cores of workers | of database |"]
+    rows.append("| --: | --: | --- |" + " --: |" * 5)
+    for rate, taken, name, *late, of_workers, of_database in turns:
+        cells = [f"{taken:.3f}", name, *late, f"{float(of_workers):.2f}", f"{float(of_database):.2f}"]
+        rows.append(f"| {rate:,} | {' | '.join(cells)} |")
+    text = f"{note[2:]}.\n\n" + "\n".join(rows)
     page = HERE / "README.md"
     mark = re.compile("(<!-- table jobs -->\n).*?(\n<!-- end -->)", re.S)
     page.write_text(mark.sub(lambda it: it[1] + text + it[2], page.read_text(), count=1))
