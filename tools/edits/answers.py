@@ -187,16 +187,13 @@ class Answer:
         errors = "\n".join(it for it in self.errors_of(name) if not NAMES.search(it))
         return [*dict.fromkeys([*(goal for goal, _ in self.unproved(name)), *REFUSED_ANSWER.findall(errors)])]
 
-    def all_unread(self):
-        """The lines that say that a text couldn't be compiled or read, each with its file and its place there."""
+    def unread(self):
+        """The first line that says that a text couldn't be compiled or read, with its file and its place there; none where all was."""
         for line in self.lines:
             at = ERROR.match(line)
             if at and (at[3] or not self.refused or UNREAD.search(re.sub(r"`[^`]*`", "", at[4]))):
-                yield line, at[1], int(at[2])
-
-    def unread(self):
-        """The first of these lines; none where all was read."""
-        return next(self.all_unread(), None)
+                return line, at[1], int(at[2])
+        return None
 
 
 def judge_alone(edit, answer):
@@ -229,25 +226,10 @@ def judge_alone(edit, answer):
         edit.why = f"its check ended with status {answer.status}: {' | '.join(answer.lines[-3:])}"
 
 
-def judge_errors(crate, edits, answer):
-    """What became of edits that are to be refused by an error: each that has its own, in its own function. The others
-    come again, alone."""
-    for line, *at in answer.all_unread():
-        function = crate.function_at(edits, (line, *at))
-        for it in edits:
-            if function in it.bodies and f"error[{it.error}]" in line and not it.came_to:
-                it.came_to, it.why = "refused", line
-    for it in edits:
-        it.most = 1
-
-
 def judge(crate, edits, answer):
     """What became of the edits of a round; those that it doesn't tell come again, in fewer company."""
     if edits[0].is_alone():
         judge_alone(edits[0], answer)
-        return
-    if edits[0].error:
-        judge_errors(crate, edits, answer)
         return
     strays, bad = answer.strays(edits), answer.unread()
     # first a right body that is refused, which tells the most

@@ -54,7 +54,7 @@ class Edit:
 
     def is_searched(self):
         """Whether a check of it only has to tell which goals aren't proved, and offers no answers for them."""
-        return not self.error and not self.tries and not self.is_alone()
+        return not self.tries and not self.is_alone()
 
     def is_tried_alone(self, crate):
         """Whether a check tries one goal of its function alone, the one that its file names or one that isn't proved."""
@@ -201,7 +201,7 @@ class Crate:
             edit.reaches_further = bool(more or not edit.bodies)
         except Fault:
             edit.reaches_further = True
-        edit.most = 1 if edit.reaches_further else MOST
+        edit.most = 1 if edit.reaches_further or edit.error else MOST
 
     def place_of(self, function):
         """The file that a function stands in, and the function."""
@@ -213,7 +213,7 @@ class Crate:
 
     def copy_of(self, edit, number):
         """The name and the text of a copy of the one function that an edit changes, with its wrong body."""
-        if edit.error or edit.reaches_further or edit.asks or edit.added or len(edit.bodies) != 1:
+        if edit.is_alone() or edit.asks or edit.added or len(edit.bodies) != 1:
             return None
         (function,) = edit.bodies
         path, (of, plain) = self.place_of(function)[0], ["", *function.split("::")][-2:]
@@ -302,10 +302,8 @@ class Crate:
 
     def rounds(self, edits):
         """Packs edits into rounds in which no function is edited twice in its place, each into the first that takes it;
-        first those that the most others meet. What is refused before anything is proved stands with its like."""
+        first those that the most others meet."""
         def meet(one, other):
-            if one.error != other.error:
-                return True
             return one is not other and bool(one.bodies.keys() & other.bodies.keys()) and not (one.copy and other.copy)
 
         rounds = []
