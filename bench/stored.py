@@ -5,11 +5,16 @@ results/latest.longest.tsv has how long the calls of the rows of the longest cal
 made of these two.
 """
 
+import datetime
 import pathlib
+import re
 import statistics
+import subprocess
 import tomllib
 
 BENCH = pathlib.Path(__file__).resolve().parent
+# The peers' programs, ours among them with all bounds checks, and without those whose bounds are proved.
+PEERS, PEERS_PROVED = (BENCH / "target" / it / "release" / "peers" for it in ("", "proved-bounds"))
 RESULTS = BENCH / "results"
 STORED, LONGEST = RESULTS / "latest.tsv", RESULTS / "latest.longest.tsv"
 
@@ -70,6 +75,21 @@ class Case:
 
     def median(self, peer):
         return statistics.median(self.samples[peer])
+
+
+def rows_of(name):
+    """The rows of a file of results/."""
+    text = (RESULTS / f"{name}.tsv").read_text(encoding="utf-8")
+    return [it.split("\t") for it in text.splitlines() if it and not it.startswith("#")]
+
+
+def rewrite(name, rows):
+    """Writes a file of results/ anew: what it says of itself stays, but for the code, the day and what was counted later."""
+    path = RESULTS / f"{name}.tsv"
+    commit = subprocess.check_output(["git", "describe", "--always", "--dirty"], cwd=BENCH, text=True).strip()
+    head = "".join(re.findall(r"(?m)^#(?! Counted later).*\n", path.read_text()))
+    head = re.sub(r"Of the code at \S+\. Day", f"Of the code at {commit}. Day", head)
+    path.write_text(re.sub(r"Day: [-\d]+", f"Day: {datetime.date.today()}", head) + "".join(rows))
 
 
 def write_samples(all_cases, about):

@@ -121,15 +121,7 @@ def functions(tokens):
 def body_of(tokens, at):
     """The index of a function's body, or of the semicolon in its place, behind its answer and its clauses."""
     while tokens[at].text not in ("{", ";"):
-        if tokens[at].kind == "word" and tokens[at].text == "ghost":
-            while tokens[at].text != "{":
-                at += 1
-            at = close_of(tokens, at) + 1
-            continue
-        behind = clause(tokens, at)
-        if behind is None:
-            behind = close_of(tokens, at) + 1 if tokens[at].text in OPENS else at + 1
-        at = behind
+        at = clause(tokens, at) or (close_of(tokens, at) if tokens[at].text in OPENS else at) + 1
     return at
 
 
@@ -160,9 +152,7 @@ def homes(tokens):
         # as the word of an item, and not in a type
         if at and tokens[at - 1].kind != "doc" and tokens[at - 1].text not in ("}", ";", "{", "]", "pub", ")", "unsafe"):
             continue
-        body = at + 1
-        while tokens[body].text not in ("{", ";"):
-            body += 1
+        body = next(it for it in range(at + 1, len(tokens)) if tokens[it].text in ("{", ";"))
         if tokens[body].text == "{":
             yield at, body
 
@@ -183,19 +173,16 @@ class Function:
 
 
 class File:
-    """A file, given the name of its module: its text, its tokens, and its functions but those inside of others."""
+    """A file, given the name of its module: its text, its tokens, and its functions."""
 
     def __init__(self, text, module=""):
         self.text, self.tokens, self.module = text, tokens_of(text), module
         self.functions = list(self.read())
 
     def read(self):
-        inside, behind = list(self.homes()), 0
+        inside = list(self.homes())
         for start, at, name, _, body in functions(self.tokens):
-            if at < behind:
-                continue
             closes = close_of(self.tokens, body) if self.tokens[body].text == "{" else body
-            behind = closes + 1
             around = [home for home in inside if home[0] < at < home[1]]
             full = "::".join(filter(None, [self.module, *(it[2] for it in around), name]))
             head = start
@@ -234,16 +221,16 @@ class File:
         heads.append(header[at:angle_close_of(header, at)] if header[at].text == "<" else ())
         return any(it.kind == "word" for head in heads for it in head) or any(it.text == "impl" for it in header)
 
-    def copied(self, function, name):
-        """The text of a function under another name, with what stands above it; none where it can't stand beside it, or
-        where it calls itself."""
-        plain = function.name.rpartition("::")[2]
+    def copied(self, full_name, name):
+        """The name and the text of a function under another name, with what stands above it; none where it can't stand beside it,
+        or where it calls itself."""
+        function, plain = next(it for it in self.functions if it.name == full_name), full_name.rpartition("::")[2]
         inside = [it for it in range(len(self.tokens)) if function.body <= self.tokens[it].place < function.end]
         if not function.is_free or any(self.calls(at, plain) for at in inside):
-            return None
+            return ()
         line = self.text.rfind("\n", 0, function.above) + 1
         header = re.sub(rf"\bfn {plain}\b", f"fn {name}", self.text[function.begin:function.body], count=1)
-        return self.text[line:function.begin] + header + self.text[function.body:function.end]
+        return name, self.text[line:function.begin] + header + self.text[function.body:function.end]
 
     def calls(self, at, name):
         """Whether a token is the name of this very function, where it is called."""

@@ -8,6 +8,7 @@ import statistics
 
 import stored
 import tree
+from stored import rows_of
 from tree import TOP, text_of
 
 SIZES, TOUCHES = ("1000", "10000", "65536"), ("extend", "reset", "cancel")
@@ -21,11 +22,6 @@ def grid(heads, rows, left=1):
     told = lambda it: f"{int(it):,}" if str(it).isdigit() else str(it)
     lines = ["| " + " | ".join(map(told, it)) + " |" for it in (heads, *rows)]
     return "\n".join([lines[0], "|---" * left + "|--:" * (len(heads) - left) + "|", *lines[1:]])
-
-
-def rows_of(name):
-    """The rows of a file of results/."""
-    return [it.split("\t") for it in text_of(stored.RESULTS / f"{name}.tsv").splitlines() if it and not it.startswith("#")]
 
 
 def noted(name):

@@ -1,6 +1,7 @@
 """The product crates, erased file by file."""
 from pathlib import Path
 
+import closing
 import errors
 import ghosts
 import handed
@@ -53,8 +54,9 @@ def guard_names(tokens):
             yield name
 
 
-def erased(hand, closed):
+def erased(hand):
     """The erased text of each file, by its path in the crate."""
+    closed = closing.Closed(*(it.read_text(encoding="utf-8") for it in (TOP / "rust" / "closed", OUT / "parts.rs")))
     found, fields = sources(hand), {}
     for source in found:
         source.tokens = source.by(ghosts.erased, (ghosts.ghost, ghosts.model, ghosts.tactic))

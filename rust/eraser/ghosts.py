@@ -13,8 +13,6 @@ def ghost(tokens, at):
         behind = close_of(tokens, start + 3) + 1
         if tokens[behind].text == ",":
             return behind + 1
-        if tokens[behind].text == "}":
-            return behind
     return next_of(tokens, at, (";",)) + 1
 
 

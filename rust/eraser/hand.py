@@ -25,9 +25,9 @@ class Edit:
 class Hand:
     """The list `by_hand`: the files that are left out; for a file, its lines and those that stand in their place."""
 
-    def __init__(self, text, name="rust/eraser/by_hand"):
+    def __init__(self, name="rust/eraser/by_hand"):
         self.name, self.edits, self.left_out = name, [], {}
-        file = said = ""
+        text, file, said = (TOP / name).read_text(encoding="utf-8"), "", ""
         for found in LINES.finditer(text):
             line = text.count("\n", 0, found.start()) + 1
             file, said = (found["file"] or file).strip(), found["said"] or said

@@ -228,7 +228,7 @@ def judge_alone(edit, answer):
 
 def judge(crate, edits, answer):
     """What became of the edits of a round; those that it doesn't tell come again, in fewer company."""
-    if edits[0].is_alone():
+    if edits[0].most == 1:
         judge_alone(edits[0], answer)
         return
     strays, bad = answer.strays(edits), answer.unread()

@@ -39,22 +39,16 @@ class Edit:
     copy: tuple = ()
     bodies: dict = dataclasses.field(default_factory=dict)
     added: set = dataclasses.field(default_factory=set)
+    # how many edits stand in its check at most, and how often it was tried
     most: int = MOST
-    reaches_further: bool = False
     tries: int = 0
+    reaches_further: bool = False
     came_to: str = ""
     why: str = ""
 
-    def told(self):
-        return f"{self.crate}/{self.name}"
-
-    def is_alone(self):
-        """Whether it is tried alone."""
-        return self.most == 1
-
     def is_searched(self):
         """Whether a check of it only has to tell which goals aren't proved, and offers no answers for them."""
-        return not self.tries and not self.is_alone()
+        return self.most > 1 and not self.tries
 
     def is_tried_alone(self, crate):
         """Whether a check tries one goal of its function alone, the one that its file names or one that isn't proved."""
@@ -73,13 +67,12 @@ def edits_of(crate):
     """The edits of a crate, as its files say them: `pairs` are of a file, a function if one is named, an old text and a new one."""
     found = []
     for home in sorted((TOP / "crates" / crate / "edits").glob("*.edits")):
-        file = function = old = ""
+        said = {}
         for word, rest in re.findall(r"^(\w+): ?(.*)$", home.read_text(encoding="utf-8"), re.M):
+            said[word] = rest
             match word:
-                case "file":
-                    file = rest
                 case "edit":
-                    edit, function = Edit(crate, rest, home), ""
+                    edit, said["in"] = Edit(crate, rest, home), ""
                     found.append(edit)
                 case "promise":
                     edit.promises += rest.split()
@@ -89,13 +82,8 @@ def edits_of(crate):
                     edit.error = rest
                 case "asks":
                     edit.asks += rest.split()
-                case "in":
-                    function = rest
-                case "old":
-                    old = rest
                 case "new":
-                    edit.pairs.append((file, function, old, rest))
-                    old = ""
+                    edit.pairs.append((said["file"], said["in"], said.pop("old", ""), rest))
     return found
 
 
@@ -165,7 +153,7 @@ class Crate:
                 edit.came_to, edit.why = "bad", "another of the crate has its name"
             else:
                 self.look_at(edit)
-                edit.copy = self.copy_of(edit, number) or ()
+                edit.copy = self.copy_of(edit, number)
 
     def changed(self, texts):
         """What differs in these texts: the bodies by function, the new functions, and whether anything else does."""
@@ -212,27 +200,22 @@ class Crate:
         return pathlib.Path("proofs", *self.name_of(function).split("::"))
 
     def copy_of(self, edit, number):
-        """The name and the text of a copy of the one function that an edit changes, with its wrong body."""
-        if edit.is_alone() or edit.asks or edit.added or len(edit.bodies) != 1:
-            return None
+        """The name and the text of a copy of the one function that an edit changes, with its wrong body; none where there can be none."""
+        if edit.most == 1 or edit.asks or edit.added or len(edit.bodies) != 1:
+            return ()
         (function,) = edit.bodies
         path, (of, plain) = self.place_of(function)[0], ["", *function.split("::")][-2:]
         proof = self.folder / self.proof_of(function)
         # one whose proof stands where its name doesn't tell
         elsewhere = [it for it in (self.folder / "proofs").rglob(plain) if it.is_dir() and it.parent.name == of]
         if elsewhere and not proof.is_dir():
-            return None
-        return self.copied(file_of(path, applied(edit.pairs, self.texts)[path]), function, f"{plain}_wrong{number}")
-
-    @staticmethod
-    def copied(file, function, name):
-        """The name and the text of a copy of a function of a file; none where there can be none."""
-        text = file.copied(next(it for it in file.functions if it.name == function), name)
-        return text and (name, text)
+            return ()
+        return file_of(path, applied(edit.pairs, self.texts)[path]).copied(function, f"{plain}_wrong{number}")
 
     def tries_alone(self, edit):
-        """Whether one goal of an edit's function can be tried alone: of a copy, which nothing calls."""
-        return bool(edit.copy) and not self.has_tactics(next(iter(edit.bodies)))
+        """Whether one goal of an edit's function can be tried alone: of a copy, which nothing calls, of one without tactics of its own."""
+        path, it = self.place_of(next(iter(edit.bodies))) if edit.copy else ("", None)
+        return it is not None and "#[tactic(" not in self.texts[path][it.above:it.begin]
 
     def right(self, edits, more="", end="right"):
         """Of each of these edits that is a copy, a copy with the right body, as an edit that changes nothing; with a text more
@@ -243,7 +226,7 @@ class Crate:
             plain = f"{function.rpartition('::')[2]}_{end}{number}"
             path, it = self.place_of(function)
             text = self.texts[path]
-            copy = self.copied(file_of(path, f"{text[:it.body + 1]}{more}{text[it.body + 1:]}"), function, plain)
+            copy = file_of(path, f"{text[:it.body + 1]}{more}{text[it.body + 1:]}").copied(function, plain)
             found.append(Edit(self.name, edit.name, copy=copy, bodies={function: None}, goal=edit.goal))
         return found
 
@@ -251,11 +234,6 @@ class Crate:
         """Whether a function has type parameters, be it those of its impl."""
         path, it = self.place_of(function)
         return self.sources[path].has_types(it)
-
-    def has_tactics(self, function):
-        """Whether a function names tactics of its own."""
-        path, it = self.place_of(function)
-        return "#[tactic(" in self.texts[path][it.above:it.begin]
 
     def module_of_proof(self, name):
         """The module of the proof of a function, by the name that a check gives it."""
