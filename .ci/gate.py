@@ -142,8 +142,7 @@ def shown(name, words, heard=lambda line: None, **more):
     last, before = "", used()
     with subprocess.Popen(words, stdout=subprocess.PIPE, env={**os.environ, **more}, **SAID) as ran:
         for line in ran.stdout:
-            sys.stdout.write(line)
-            sys.stdout.flush()
+            print(line, end="", flush=True)
             heard(line)
             last = line if line.strip() else last
     tell_times(name, before)
@@ -189,8 +188,7 @@ class Beside:
 def proved(edits):
     """Runs `rt ci`, and waits for the wrong bodies of all that it proved."""
     def heard(line):
-        crate = re.fullmatch(r"rt: (\w+) proved\n", line)
-        if crate:
+        if crate := re.fullmatch(r"rt: (\w+) proved\n", line):
             edits.hear(crate[1])
 
     # two jobs of one proof take more of a processor than one: where there are two, other work takes the second

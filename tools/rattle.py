@@ -111,9 +111,7 @@ def functions(tokens):
     for at, token in enumerate(tokens):
         if token.text != "fn" or token.kind != "word" or tokens[at + 1].kind != "word":
             continue
-        index = at + 2
-        if tokens[index].text == "<":
-            index = angle_close_of(tokens, index) + 1
+        index = angle_close_of(tokens, at + 2) + 1 if tokens[at + 2].text == "<" else at + 2
         found.append((item_start(tokens, at), at, tokens[at + 1].text, index, body_of(tokens, close_of(tokens, index) + 1)))
     return found
 
@@ -212,14 +210,11 @@ class File:
 
     def has_types(self, function):
         """Whether a function has type parameters, be it those of its impl."""
-        tokens, heads = self.tokens, []
-        for at, body in homes(tokens):
-            if tokens[at].place < function.begin < tokens[close_of(tokens, body)].place:
-                heads.append(tokens[at + 1:angle_close_of(tokens, at + 1)] if tokens[at + 1].text == "<" else ())
-        header = [it for it in tokens if function.begin <= it.place < function.body]
-        at = next(it for it, token in enumerate(header) if token.text == "fn") + 2
-        heads.append(header[at:angle_close_of(header, at)] if header[at].text == "<" else ())
-        return any(it.kind == "word" for head in heads for it in head) or any(it.text == "impl" for it in header)
+        tokens, begin, body = self.tokens, function.begin, function.body
+        heads = [at + 1 for at, it in homes(tokens) if tokens[at].place < begin < tokens[close_of(tokens, it)].place]
+        heads.append(next(at + 2 for at, token in enumerate(tokens) if token.place >= begin and token.text == "fn"))
+        words = [it for at in heads if tokens[at].text == "<" for it in tokens[at:angle_close_of(tokens, at)]]
+        return any(it.kind == "word" for it in words) or any(it.text == "impl" for it in tokens if begin <= it.place < body)
 
     def copied(self, full_name, name):
         """The name and the text of a function under another name, with what stands above it; none where it can't stand beside it,

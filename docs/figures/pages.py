@@ -53,12 +53,6 @@ BLOCK = re.compile(r"(?ms)^```([^\n]*)\n(.*?)^```$")
 BUILT = {"src", "tests", "examples"}
 
 
-def is_documentation(page):
-    """Whether a crate has the page as its documentation, whose blocks are Rust then where nothing else is said."""
-    library = page.parent / "src" / "lib.rs"
-    return library.exists() and 'doc = include_str!("../README.md")' in text_of(library)
-
-
 def is_built(path):
     """Whether cargo builds a file of the tree, as one in a folder of a package that has such, or docs/figures/using does, by rt."""
     if path.endswith(".rattle"):
@@ -69,11 +63,13 @@ def is_built(path):
 
 def unbuilt_blocks(page):
     """The lines of the blocks of Rust of a page that nothing builds. What is quoted stands in that file, as the quotes tell."""
-    text = text_of(page)
+    text, library = text_of(page), page.parent / "src" / "lib.rs"
+    # where a crate has the page as its documentation, its blocks are Rust where nothing else is said
+    is_documentation = library.exists() and 'doc = include_str!("../README.md")' in text_of(library)
     quoted = {found.start(2): found[1] for found in QUOTE.finditer(text)}
     for found in BLOCK.finditer(text):
         kind = re.split(r"\W", found[1], maxsplit=1)[0]
-        is_rust = kind in {"rust", "ignore", "no_run", "should_panic", "compile_fail"} or not kind and is_documentation(page)
+        is_rust = kind in {"rust", "ignore", "no_run", "should_panic", "compile_fail"} or not kind and is_documentation
         if is_rust and not is_built(quoted.get(found.start(2), "")):
             yield text.count("\n", 0, found.start()) + 1
 
@@ -138,11 +134,6 @@ def parts(path):
             yield head[2], part[head.start():]
 
 
-def is_defined(path, name):
-    """Whether a file of specs/ defines a name."""
-    return (TOP / path).is_file() and name in dict(parts(path))
-
-
 def contract(path, name):
     """The head and the clauses of a function of a file, the first of its name, without its body."""
     for it in tree.file_of(TOP / path).functions:
@@ -179,7 +170,8 @@ def carries(path, function_name, statement):
 def unstated(page):
     """What is wrong with the rows that say which functions carry which statements."""
     for definitions, functions in stated(page):
-        yield from (f"{path} defines no {name}" for path, name in definitions if not is_defined(path, name))
+        lost = [it for it in definitions if not (TOP / it[0]).is_file() or it[1] not in dict(parts(it[0]))]
+        yield from (f"{path} defines no {name}" for path, name in lost)
         try:
             pairs = [(it, to) for it in functions for to in definitions if carries(*it, to[1])]
         except (LookupError, OSError) as error:

@@ -132,11 +132,6 @@ def beside_delay_queue():
     return grid(["", *calls.values()], rows)
 
 
-def is_faster(cell, ours):
-    """Whether a peer's cell takes less than that of ours."""
-    return run()[cell] < run()[(ours, *cell[1:])]
-
-
 def standing():
     """Where each peer stands in the rows that charge it for all that its calls leave behind."""
     rows = []
@@ -144,7 +139,7 @@ def standing():
         its = list(itertools.product([peer], ("cancel", "poll", *LIVES), SIZES, ["1"]))
         ratios = {cell: run()[cell] / run()[("ours-owned", *cell[1:])] for cell in its}
         ends = (f"`{at[1]}` at {int(at[2]):,}: {ratios[at]:.2f}x" for at in (min(ratios, key=ratios.get), max(ratios, key=ratios.get)))
-        rows.append([words, *(sum(is_faster(it, ours) for it in its) for ours in ("ours-owned", "ours")), *ends])
+        rows.append([words, *(sum(run()[it] < run()[ours, *it[1:]] for it in its) for ours in ("ours-owned", "ours")), *ends])
     return grid(["Peer", "Ahead of one owner's", "Ahead of shared words", "Its best row", "Its worst row"], rows)
 
 
@@ -159,7 +154,7 @@ def ahead(ours, which):
     if len(counts) != 1:
         raise LookupError("the peers have not as many rows as one another")
     heads = (f"{kind}: of {many}" for kind, many in zip(["all", *(f"`{it}`" for it in kinds)], counts.pop()))
-    rows = ([peer, *counted([it for it in cells if is_faster(it, ours)])] for peer, cells in its.items())
+    rows = ([peer, *counted([it for it in cells if run()[it] < run()[ours, *it[1:]]])] for peer, cells in its.items())
     return grid(["In a `Mutex`", *heads], rows)
 
 

@@ -26,47 +26,39 @@ def model(tokens, at):
 
 
 def tactic(tokens, at):
-    for opening in (("#", "["), ("#", "!", "[")):
-        if words_at(tokens, at, *opening) and tokens[at + len(opening)].text == "tactic":
-            return close_of(tokens, at + len(opening) - 1) + 1
-    return None
+    start = at + 1 + words_at(tokens, at + 1, "!")
+    return close_of(tokens, start) + 1 if words_at(tokens, at, "#") and words_at(tokens, start, "[", "tactic") else None
 
 
 RULES = (ghost, clause, model, tactic)
 
 
 def required(tokens, at, behind):
-    """What a clause requires, as a comment of one line; none for any other clause."""
+    """What a clause requires, as a comment of one line; nothing for any other clause."""
     if tokens[at].text != "requires":
-        return None
+        return ""
     opening = next(index for index in range(at, behind) if tokens[index].text == "{")
     said = "".join(token.before + token.text for token in tokens[opening + 1:behind - 1])
     return f"\n// requires {' '.join(said.split())}"
 
 
 def erased(tokens, rules=RULES):
-    kept = []
-    at = 0
-    # what a function requires, until its body begins
-    requires = []
+    # what a function requires is told where its body begins
+    kept, at, requires = [], 0, ""
     while at < len(tokens):
-        for rule in rules:
-            behind = rule(tokens, at)
-            if behind is not None:
-                if rule is ghost or rule is model:
-                    while kept and kept[-1].kind == "doc" and kept[-1].text.startswith("///"):
-                        kept.pop()
-                if rule is clause:
-                    requires.append(required(tokens, at, behind))
-                at = behind
-                break
-        else:
+        rule, behind = next(((it, end) for it in rules if (end := it(tokens, at)) is not None), (None, at + 1))
+        if rule is None:
             kept.append(tokens[at])
-            at += 1
-            if requires and kept[-1].text == "{":
-                told, before = "".join(filter(None, requires)), tokens[at].before
-                tokens[at].before = told + (before if before.startswith("\n") or not told else "\n" + before)
-            requires = [] if kept[-1].text in "{;" else requires
+            if requires and tokens[at].text == "{":
+                before = tokens[behind].before
+                tokens[behind].before = requires + ("" if before.startswith("\n") else "\n") + before
+            requires = "" if tokens[at].text in "{;" else requires
+        elif rule is clause:
+            requires += required(tokens, at, behind)
+        elif rule is not tactic:
+            while kept and kept[-1].kind == "doc" and kept[-1].text.startswith("///"):
+                kept.pop()
+        at = behind
     return kept
 
 

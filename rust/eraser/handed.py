@@ -17,25 +17,21 @@ HANDED = re.compile(r"(?:& |mut )*(\w+(?: \. \w+)*?)((?: \. (?:clone|alloc|alloc
 ENDS = {",", ")", "]", "}", ">", ";"}
 
 
-def element_end(tokens, at, are_values):
-    """The index of the comma or the bracket that ends an element; an angle compares values, and encloses types."""
-    while True:
+def elements(tokens, at, end, are_values=False):
+    """The elements of a list from an index to its end, each as its tokens; an angle compares values, and encloses types."""
+    begin = at
+    while at < end:
         token = tokens[at]
         if token.kind == "other" and token.text in OPENS:
             at = close_of(tokens, at)
         elif token.text == "<" and not are_values:
             at = angle_close_of(tokens, at)
         elif token.text in ENDS and not (are_values and token.text == ">"):
-            return at
+            yield tokens[begin:at]
+            begin = at + 1
         at += 1
-
-
-def elements(tokens, at, end, are_values=False):
-    """The elements of a list from an index to its end, each as its tokens."""
-    while at < end:
-        stop = min(element_end(tokens, at, are_values), end)
-        yield tokens[at:stop]
-        at = stop + 1
+    if begin < end:
+        yield tokens[begin:end]
 
 
 def joined(its):

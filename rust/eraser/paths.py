@@ -50,16 +50,6 @@ def moved(path, module):
     raise Refused(f"`{path}` is imported, which no rule knows")
 
 
-def is_gone(source, path, gone):
-    """Whether a path names an empty module or leads through one."""
-    crate, parts = source.crate, path.split("::")
-    if parts[0] in ("crate", *MODULES):
-        crate, parts = crate if parts[0] == "crate" else parts[0], parts[1:]
-    elif source.module:
-        return False
-    return any((crate, tuple(parts[:count])) in gone for count in range(1, len(parts) + 1))
-
-
 def named(text):
     """The words of a file outside of its uses; a text of a format names constants."""
     code = re.sub(r"//.*", "", USE.sub("", text))
@@ -86,8 +76,7 @@ def with_uses(text, source, gone, names):
     words, wanted, module = named(text), [], MODULES[source.crate]
 
     def kept(found):
-        its = (it for it in paths_of(found[2]) if last(it) not in names and not is_gone(source, it, gone))
-        its = list(filter(None, (moved(it, module) for it in its)))
+        its = list(filter(None, (moved(it, module) for it in paths_of(found[2]) if last(it) not in names)))
         if not found[1]:
             wanted.extend(it for it in its if last(it) in words | TRAITS)
         return "".join(lines_of(its, found[1])) if found[1] else ""

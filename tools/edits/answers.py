@@ -82,23 +82,6 @@ def alone(text, goal):
     return "".join(it for it in parts if re.match(r"(?:pub )?(\S*)", it)[1] not in others)
 
 
-def name_among(names, function):
-    """The name that a check gives a function, or none where that isn't plain: a method stands in the module of its
-    type, or where its impl is of some of the type's arguments alone, in its own, with those in its name."""
-    if function in names:
-        return function
-    module, _, of = function.rpartition("::")[0].rpartition("::")
-    method = re.compile(rf"(?:^|::){re.escape(of)}(?:\+[^:]*)?::{function.rpartition('::')[2]}$")
-    found = [it for it in names if of[:1].isupper() and method.search(it)]
-    here = [it for it in found if it.startswith(f"{module}::")]
-    return found[0] if len(found) == 1 else here[0] if len(here) == 1 else ""
-
-
-def cost_of(note):
-    """What the search for a goal cost that isn't proved, by what the note on it says: the place in FOUND."""
-    return next((at for at, it in enumerate(FOUND) if it and it in note), FOUND.index(""))
-
-
 class Answer:
     """What a check of a round said."""
 
@@ -127,7 +110,8 @@ class Answer:
 
     def unproved(self, name):
         """The goals of a function that the check didn't prove, each with the note on it; first what cost it least."""
-        found = [it for it in map(UNPROVED.match, self.notes.get(name, [])) if it]
+        cost_of = lambda note: next((at for at, it in enumerate(FOUND) if it and it in note), FOUND.index(""))
+        found = filter(None, map(UNPROVED.match, self.notes.get(name, [])))
         return sorted(((it[1], it[0]) for it in found), key=lambda it: cost_of(it[1]))
 
     def errors_of(self, name):
@@ -137,8 +121,15 @@ class Answer:
         return [it for it in found if OURS not in it and not UNSEARCHED.search(it)]
 
     def name_of(self, function):
-        """The name that the check gives a function."""
-        return name_among(self.functions, function)
+        """The name that the check gives a function, or none where that isn't plain: a method stands in the module of its
+        type, or where its impl is of some of the type's arguments alone, in its own, with those in its name."""
+        if function in self.functions:
+            return function
+        module, _, of = function.rpartition("::")[0].rpartition("::")
+        method = re.compile(rf"(?:^|::){re.escape(of)}(?:\+[^:]*)?::{function.rpartition('::')[2]}$")
+        found = [it for it in self.functions if of[:1].isupper() and method.search(it)]
+        here = [it for it in found if it.startswith(f"{module}::")]
+        return found[0] if len(found) == 1 else here[0] if len(here) == 1 else ""
 
     def reason_of(self, edit):
         """The first reason that the check gives of a function of an edit itself; of one that its file names only where
@@ -188,7 +179,7 @@ class Answer:
         return [*dict.fromkeys([*(goal for goal, _ in self.unproved(name)), *REFUSED_ANSWER.findall(errors)])]
 
     def unread(self):
-        """The first line that says that a text couldn't be compiled or read, with its file and its place there; none where all was."""
+        """The first line that says that a text couldn't be compiled or read, with its file and its place; none where all was."""
         for line in self.lines:
             at = ERROR.match(line)
             if at and (at[3] or not self.refused or UNREAD.search(re.sub(r"`[^`]*`", "", at[4]))):
@@ -214,8 +205,7 @@ def judge_alone(edit, answer):
         edit.came_to, edit.why = ("by no goal", stale) if stale else ("elsewhere", f"these aren't proved: {others or 'none is named'}")
     elif answer.refused:
         told = [it for it in answer.lines if PLACED.match(it)]
-        own = answer.reason_of(edit)
-        edit.came_to, edit.why = "refused", own or next((it for it in told if not NAMES.search(it)), "")
+        edit.came_to, edit.why = "refused", answer.reason_of(edit) or next((it for it in told if not NAMES.search(it)), "")
         if not edit.why:
             edit.came_to = "by no goal" if answer.is_settled else "refused"
             edit.why = f"a proof names what it took away: {next(iter(told), '')}"

@@ -129,7 +129,9 @@ class Bench:
                 if edit.is_tried_alone(crate):
                     try_alone(at, crate.module_of_proof(its), edit.goal, crate.has_types(function))
                 else:
-                    offer_nothing(at)
+                    # an answer that is refused, so that no other is offered
+                    with (at / "Answers.antt").open("a", encoding="utf-8") as file:
+                        file.write(f"\n{answers.OFFERS_NOTHING}")
         return found
 
 
@@ -160,7 +162,8 @@ def take_contracts(crate, folder, edits):
     """Gives the functions that these edits leave as they stand proofs that are refused at once: which they are. Where one
     has another name for rattle, that says so and goes on."""
     wrong = {crate.name_of(name) for it in edits for name in [*it.wrong(), *it.added]}
-    found = [it for it in crate.free() if it not in wrong]
+    free = [crate.name_of(it.name) for file in crate.sources.values() for it in file.functions if it.is_free]
+    found = [it for it in free if it not in wrong]
     for function in found:
         at = folder / "proofs" / function.replace("::", "/")
         at.mkdir(parents=True, exist_ok=True)
@@ -168,12 +171,6 @@ def take_contracts(crate, folder, edits):
             (at / name).unlink(missing_ok=True)
         (at / "Proof.antt").write_text(answers.TAKEN.format(function.rpartition("::")[2]), encoding="utf-8")
     return found
-
-
-def offer_nothing(folder):
-    """Adds an answer that is refused to a function's file, so that no other is offered."""
-    with (folder / "Answers.antt").open("a", encoding="utf-8") as file:
-        file.write(f"\n{answers.OFFERS_NOTHING}")
 
 
 def apart(goals):

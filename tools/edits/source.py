@@ -128,9 +128,7 @@ def parts_of(path, text):
     """The words of a file: of each function those of its header and of its body, and those of the rest."""
     file, parts, rest, at = file_of(path, text), {}, [], 0
     for it in file.functions:
-        # two of one name: no edit of either is one of a single function
-        twice = it.name in parts
-        parts[it.name] = None if twice else (text[it.begin:it.body].split(), text[it.body:it.end].split())
+        parts[it.name] = text[it.begin:it.body].split(), text[it.body:it.end].split()
         rest += text[at:it.begin].split()
         at = it.end
     return parts, rest + text[at:].split()
@@ -157,7 +155,7 @@ class Crate:
 
     def changed(self, texts):
         """What differs in these texts: the bodies by function, the new functions, and whether anything else does."""
-        bodies, added, more = {}, {}, False
+        bodies, added, more = {}, set(), False
         for path in (it for it in texts if texts[it] != self.texts[it]):
             if path not in self.sources:
                 # a definition that contracts share, or a lemma
@@ -165,14 +163,13 @@ class Crate:
                 continue
             (before, rest), (after, its_rest) = parts_of(path, self.texts[path]), parts_of(path, texts[path])
             more = more or rest != its_rest or not before.keys() <= after.keys()
-            for name, it in after.items():
-                was = before.get(name, "new")
-                if was == "new":
-                    added[name] = it
-                elif was is None or it is None or was[0] != it[0]:
-                    more = more or was != it or was is None
-                elif was[1] != it[1]:
-                    bodies[name] = it[1]
+            for name, (head, body) in after.items():
+                if name not in before:
+                    added.add(name)
+                elif before[name][0] != head:
+                    more = True
+                elif before[name][1] != body:
+                    bodies[name] = body
         return bodies, added, more
 
     def look_at(self, edit):
@@ -200,7 +197,7 @@ class Crate:
         return pathlib.Path("proofs", *self.name_of(function).split("::"))
 
     def copy_of(self, edit, number):
-        """The name and the text of a copy of the one function that an edit changes, with its wrong body; none where there can be none."""
+        """The name and the text of a copy of the one function that an edit changes, with its wrong body; none if there can't be one."""
         if edit.most == 1 or edit.asks or edit.added or len(edit.bodies) != 1:
             return ()
         (function,) = edit.bodies
@@ -213,9 +210,11 @@ class Crate:
         return file_of(path, applied(edit.pairs, self.texts)[path]).copied(function, f"{plain}_wrong{number}")
 
     def tries_alone(self, edit):
-        """Whether one goal of an edit's function can be tried alone: of a copy, which nothing calls, of one without tactics of its own."""
-        path, it = self.place_of(next(iter(edit.bodies))) if edit.copy else ("", None)
-        return it is not None and "#[tactic(" not in self.texts[path][it.above:it.begin]
+        """Whether one goal of an edit's function can be tried alone: of a copy, which nothing calls, if it names no tactics."""
+        if not edit.copy:
+            return False
+        path, it = self.place_of(next(iter(edit.bodies)))
+        return "#[tactic(" not in self.texts[path][it.above:it.begin]
 
     def right(self, edits, more="", end="right"):
         """Of each of these edits that is a copy, a copy with the right body, as an edit that changes nothing; with a text more
@@ -238,10 +237,6 @@ class Crate:
     def module_of_proof(self, name):
         """The module of the proof of a function, by the name that a check gives it."""
         return f"Rattle.{self.name}.proofs.{name.replace('::', '.')}"
-
-    def free(self):
-        """The functions beside which others may stand, as a check is likely to name them."""
-        return [self.name_of(it.name) for file in self.sources.values() for it in file.functions if it.is_free]
 
     def texts_with(self, edits, taken=()):
         """The texts with these edits in them: copies with wrong bodies beside the right ones, the others in their place. What
