@@ -38,15 +38,15 @@ class Pace:
         while time.monotonic() < until:
             self.are_fast(self.processors)
 
-    def is_fast(self, processor):
-        os.sched_setaffinity(0, {processor})
-        took = min(spin(), spin())
-        os.sched_setaffinity(0, self.processors)
-        self.least = min(self.least, took)
-        return took <= NEAR * self.least
-
     def are_fast(self, processors):
-        return all([self.is_fast(it) for it in processors])
+        slow = 0
+        for it in processors:
+            os.sched_setaffinity(0, {it})
+            took = min(spin(), spin())
+            self.least = min(self.least, took)
+            slow += took > NEAR * self.least
+        os.sched_setaffinity(0, self.processors)
+        return not slow
 
     def fast_processors(self):
         """Processors at full speed, or any where none are found in time."""

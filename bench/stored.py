@@ -53,11 +53,7 @@ class Case:
         return self.row, self.entries, self.threads
 
     def __str__(self):
-        if self.shards:
-            beside = f" a shard, {self.threads} threads" if self.threads > 1 else " a shard"
-        else:
-            beside = f", {self.threads} callers" if self.row == "callers" else ""
-        return f"{self.row} at {self.entries:,}{beside}"
+        return f"{self.row} at {self.entries:,}{' a shard' if self.shards else ''}, threads: {self.threads}"
 
     def take(self, line):
         """Takes a line that a program printed. Fails where its counts aren't those of the peers before it."""

@@ -34,7 +34,7 @@ def text_of(path):
 def files(folder, *endings):
     """The files below a folder that the repository keeps, in order: none of what a build makes."""
     made = {"out", "target", ".git", "__pycache__"}
-    found = (it for it in sorted(folder.rglob("*")) if it.is_file() and it.suffix in endings)
+    found = (it for it in sorted(folder.rglob("*")) if it.suffix in endings and it.is_file())
     return [it for it in found if not made & set(it.relative_to(TOP).parts)]
 
 
@@ -53,10 +53,6 @@ class Crate:
     def definitions(self):
         return [(indent, name) for path in files(self.folder / "specs", ".antt") for indent, name in DEFINITION.findall(text_of(path))]
 
-    def test_names(self):
-        """The names of its test functions."""
-        return [name for it in self.sources for name in TEST.findall(text_of(it))]
-
     def edits(self):
         """Its wrong bodies, which `tools/test-edits` tries."""
         return source.edits_of(self.name)
@@ -66,10 +62,6 @@ class Crate:
         paths = [*self.sources, *(it for part in ("specs", "proofs") for it in files(self.folder / part, ".antt"))]
         found = re.findall(r"\b(\w+)::|\bRattle\.(\w+)\.", "".join(map(text_of, paths)))
         return {word for pair in found for word in pair}
-
-    def stale_edits(self):
-        """The edits that can't be applied, which is told here in seconds, each with the reason."""
-        return [(it.name, it.why) for it in source.Crate(self.name).edits if it.came_to] if self.edits() else []
 
 
 @functools.cache

@@ -79,7 +79,8 @@ def erased(hand):
         if source.crate != "dq_replay":
             source.by(indexes.with_indexes)
     texts = {source: text_of(source.tokens) for source in found}
-    gone = {(source.crate, source.module) for source, text in texts.items() if not paths.has_items(text)}
+    # those that have no more than docs and uses
+    gone = {(it.crate, it.module) for it, text in texts.items() if not paths.DOC.sub("", paths.USE.sub("", text)).strip()}
     made = {}
     for source, text in texts.items():
         if (source.crate, source.module) not in gone:

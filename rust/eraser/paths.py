@@ -89,11 +89,6 @@ def with_uses(text, source, gone, names):
     return f"{told}\n{''.join(lines_of(wanted))}\n{text[len(told):]}"
 
 
-def has_items(text):
-    """Whether a file has more than docs and uses."""
-    return bool(DOC.sub("", USE.sub("", text)).strip())
-
-
 def with_links(text, module, given):
     """A file in whose docs each link leads to what the crate gives away, or is plain text."""
     known = {last(path) for _, found in USE.findall(text) for path in paths_of(found)}

@@ -192,8 +192,9 @@ def judge_alone(edit, answer):
     bad = answer.unread()
     if edit.error:
         files = {path for path, *_ in edit.pairs}
-        is_it = bad and bad[1] in files and f"error[{edit.error}]" in bad[0]
-        edit.came_to, edit.why = ("refused", bad[0]) if is_it else ("bad", f"no error[{edit.error}] in {' or '.join(files)}")
+        found = (it for it in map(ERROR.match, answer.lines) if it and it[1] in files and it[3] == f"[{edit.error}]")
+        told = next((it[0] for it in found), "")
+        edit.came_to, edit.why = ("refused", told) if told else ("bad", f"no error[{edit.error}] in {' or '.join(files)}")
     elif bad:
         edit.came_to, edit.why = "bad", bad[0]
     elif answer.proved:

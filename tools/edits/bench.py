@@ -11,7 +11,7 @@ import subprocess
 import threading
 
 import answers
-from source import TOP
+from source import TOP, packed
 
 
 class Bench:
@@ -173,24 +173,15 @@ def take_contracts(crate, folder, edits):
     return found
 
 
-def apart(goals):
-    """Goals in groups in which none is a part of another: rattle makes such a goal whole or in its parts, as the answers name it."""
-    groups = []
-    for goal in sorted(goals):
-        into = next((its for its in groups if not any(goal.startswith(f"{it}-") for it in its)), None)
-        if into is None:
-            groups.append(into := [])
-        into.append(goal)
-    return groups
-
-
 def ask_for_goals(crate, folder, edits):
     """Has a check tell which of the goals that are tried alone the right bodies haven't, in copies of these: the copies."""
     goals, groups = {}, []
     for edit in (it for it in edits if it.is_tried_alone(crate)):
         goals.setdefault(next(iter(edit.bodies)), (edit, set()))[1].add(edit.goal)
+    # no goal beside one that it is a part of: rattle makes such a goal whole or in its parts, as the answers name it
+    is_apart = lambda group, goal: not any(goal.startswith(f"{it}-") for it in group)
     for edit, its in goals.values():
-        groups += [(edit, group) for group in apart(its)]
+        groups += [(edit, group) for group in packed(sorted(its), is_apart)]
     copies = crate.right([edit for edit, _ in groups], end="asked")
     for it, (_, group) in zip(copies, groups):
         copy_proof(crate, folder, it)

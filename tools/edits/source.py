@@ -56,11 +56,13 @@ class Edit:
 
     def wrong(self):
         """The functions that have the wrong bodies."""
-        return [beside(it, self.copy[0]) for it in self.bodies] if self.copy else list(self.bodies)
+        return ["::".join([*it.split("::")[:-1], self.copy[0]]) for it in self.bodies] if self.copy else list(self.bodies)
 
     def functions(self):
-        """The functions that its check is asked for, none for the whole crate."""
-        return self.asks or ([] if self.reaches_further else [end_of(self.crate, it) for it in self.wrong()])
+        """The functions that its check is asked for, none for the whole crate: by the ends of their names, by which a check finds
+        them without the module of an impl that stands in another."""
+        ends = ["::".join([self.crate, *it.split("::")][-2:]) for it in self.wrong()]
+        return self.asks or ([] if self.reaches_further else ends)
 
 
 def edits_of(crate):
@@ -85,17 +87,6 @@ def edits_of(crate):
                 case "new":
                     edit.pairs.append((said["file"], said["in"], said.pop("old", ""), rest))
     return found
-
-
-def beside(function, name):
-    """The name of a copy that stands beside a function."""
-    return "::".join(filter(None, (function.rpartition("::")[0], name)))
-
-
-def end_of(crate, function):
-    """The end of a function's name by which a check finds it, without the module of an impl that stands in another."""
-    parts = function.split("::")
-    return "::".join(parts[-2:]) if parts[1:] else f"{crate}::{function}"
 
 
 @functools.lru_cache(maxsize=256)
@@ -178,14 +169,11 @@ class Crate:
             texts = applied(edit.pairs, self.texts)
             if texts == self.texts:
                 raise Fault("it changes nothing")
+            edit.bodies, edit.added, more = self.changed(texts)
         except Fault as fault:
             edit.came_to, edit.why = "bad", str(fault)
             return
-        try:
-            edit.bodies, edit.added, more = self.changed(texts)
-            edit.reaches_further = bool(more or not edit.bodies)
-        except Fault:
-            edit.reaches_further = True
+        edit.reaches_further = bool(more or not edit.bodies)
         edit.most = 1 if edit.reaches_further or edit.error else MOST
 
     def place_of(self, function):
@@ -251,12 +239,10 @@ class Crate:
 
     def emptied(self, path, text, taken):
         """The text of a file without the bodies of functions that are taken, if there are any."""
-        parts, at = [], 0
-        for it in file_of(path, text).functions if taken else ():
+        for it in reversed(file_of(path, text).functions if taken else ()):
             if it.is_free and self.name_of(it.name) in taken:
-                parts += [text[at:it.body], "{ loop {} }"]
-                at = it.end
-        return "".join([*parts, text[at:]])
+                text = text[:it.body] + "{ loop {} }" + text[it.end:]
+        return text
 
     def name_of(self, function):
         """The name that a check is likely to give a function: a method stands in the module of its type."""
@@ -279,14 +265,22 @@ class Crate:
         def meet(one, other):
             return one is not other and bool(one.bodies.keys() & other.bodies.keys()) and not (one.copy and other.copy)
 
-        rounds = []
-        for edit in sorted(edits, key=lambda one: -sum(meet(one, it) for it in edits)):
-            fitting = (its for its in rounds if len(its) < min(it.most for it in [*its, edit]))
-            into = next((its for its in fitting if not any(meet(edit, it) for it in its)), None)
-            if into is None:
-                rounds.append(into := [])
-            into.append(edit)
-        return sorted(rounds, key=len, reverse=True)
+        def fits(its, edit):
+            return len(its) < min(it.most for it in [*its, edit]) and not any(meet(edit, it) for it in its)
+
+        first = sorted(edits, key=lambda one: -sum(meet(one, it) for it in edits))
+        return sorted(packed(first, fits), key=len, reverse=True)
+
+
+def packed(found, fits):
+    """What was found in groups, each in the first that it fits into."""
+    groups = []
+    for it in found:
+        into = next((its for its in groups if fits(its, it)), None)
+        if into is None:
+            groups.append(into := [])
+        into.append(it)
+    return groups
 
 
 def lines_of_crates(text=None):
