@@ -104,7 +104,7 @@ def write_samples(all_cases, about):
 
 
 def read():
-    """The cases of the stored run."""
+    """The cases of the stored run, by their keys."""
     found = {}
     for line in [it for it in STORED.read_text().splitlines() if not it.startswith("# ")][1:]:
         peer, row, entries, threads, samples = line.split("\t")
@@ -113,4 +113,4 @@ def read():
     for line in LONGEST.read_text().splitlines()[1:]:
         peer, row, entries, call, calls, taken = line.split("\t")
         found[row, int(entries), 1].spreads[peer, call] = [int(calls), *map(int, taken.split())]
-    return list(found.values())
+    return found

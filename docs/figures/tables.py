@@ -15,6 +15,8 @@ SIZES, TOUCHES = ("1000", "10000", "65536"), ("extend", "reset", "cancel")
 PIECE_WAYS = ("whole", "pieces-16", "pieces-64", "pieces-256")
 # The rows and the peers of the tables, by the table.
 PLAN, LIVES = stored.PLAN["tables"], stored.WHOLE_ROWS
+# The cases of the bench, by their keys.
+cases = functools.cache(stored.read)
 
 
 def grid(heads, rows, left=1):
@@ -22,16 +24,6 @@ def grid(heads, rows, left=1):
     told = lambda it: f"{int(it):,}" if str(it).isdigit() else str(it)
     lines = ["| " + " | ".join(map(told, it)) + " |" for it in (heads, *rows)]
     return "\n".join([lines[0], "|---" * left + "|--:" * (len(heads) - left) + "|", *lines[1:]])
-
-
-def noted(name):
-    """What a file of results/ notes: by key and by what it is."""
-    return {(key, what): value for key, what, value in rows_of(name)}
-
-
-@functools.cache
-def cases():
-    return {case.key: case for case in stored.read()}
 
 
 @functools.cache
@@ -204,7 +196,7 @@ def fair():
 
 def instructions():
     """Instructions and cache misses an operation, of ours, of the heap and of the crate."""
-    its = noted("instructions")
+    its = {(row, what): number for row, what, number in rows_of("instructions")}
     ours, crate, words = ("ours-owned", "ours", "heap-note"), ("rust", "rust-checked"), ("rust-alone", "rust-open")
 
     def told(name, what, peers):
@@ -298,7 +290,7 @@ def evidence():
     """What stands behind the claims, in numbers."""
     code, proofs = tree.lines(tree.erased(), "//"), tree.lines(tree.files(tree.CRATES, ".antt"), "--")
     functions = [it for path in tree.erased() for it in tree.file_of(path).functions]
-    planted = [f"{sum(float(it) for (_, its), it in noted('plant').items() if its == what):,.0f}" for what in ("refused", "let through", "not judged")]
+    planted = [f"{sum(float(it) for _, its, it in rows_of('plant') if its == what):,.0f}" for what in ("refused", "let through", "not judged")]
     queues = re.search(r"let sizes: &\[\(usize, u32\)\] = &\[(.*?)\];", text_of(TOP / "rust/hontkhale/tests/slow/same_calls.rs"), re.S)[1].count("(")
     calls = re.search(r"const CALLS: u64 = if cfg!.debug_assertions. \{ ([\d_]+) \}", text_of(TOP / "rust/hontkhale/tests/models/draw.rs"))[1]
     definitions = sum(not indent for it in tree.crates() for indent, _ in it.definitions())

@@ -41,17 +41,9 @@ class Source:
 
 def sources(hand):
     found = [(crate, path) for crate in MODULES for path in sorted((TOP / "crates" / crate / "src").rglob("*.rt"))]
-    found = [(*it, it[1].read_text(encoding="utf-8")) for it in found if not hand.leaves_out(it[1])]
-    found = [Source(crate, path, errors.with_errors(hand.applied(path, text))) for crate, path, text in found]
+    found = [Source(*it, errors.with_errors(hand.applied(it[1]))) for it in found if not hand.leaves_out(it[1])]
     hand.all_used()
     return found
-
-
-def guard_names(tokens):
-    """The functions of a file that answer the guard of a lock."""
-    for _, _, name, head, body in functions(tokens):
-        if any(token.text == "MutexGuard" for token in tokens[close_of(tokens, head):body]):
-            yield name
 
 
 def erased(hand):
@@ -65,7 +57,10 @@ def erased(hand):
         source.tokens = source.by(ghosts.without_laws, names)
         fields.setdefault(source.crate, set()).update(source.by(handed.without_fields))
         source.by(closed.close)
-        GUARDS.update(guard_names(source.tokens))
+        # the functions that answer the guard of a lock
+        tokens = source.tokens
+        GUARDS.update(name for _, _, name, head, body in functions(tokens)
+                      if any(token.text == "MutexGuard" for token in tokens[close_of(tokens, head):body]))
     closed.all_found()
     for source in found:
         source.tokens = source.by(ghosts.erased)

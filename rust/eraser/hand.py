@@ -39,8 +39,9 @@ class Hand:
             elif found["bad"]:
                 raise Refused(f"{name}: line {line}: neither `@`, `-`, `+` nor `#`")
 
-    def applied(self, path, text):
-        name = str(path.relative_to(TOP / "crates"))
+    def applied(self, path):
+        """The text of a file with the edits of the list."""
+        name, text = str(path.relative_to(TOP / "crates")), path.read_text(encoding="utf-8")
         for edit in (it for it in self.edits if it.file == name):
             times = text.count(edit.old)
             if times != 1:

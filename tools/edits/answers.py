@@ -172,12 +172,6 @@ class Answer:
         mine = {self.name_of(name) for it in edits for name in [*it.wrong(), *it.added]}
         return [it for it in self.functions if it not in mine and it not in self.taken and self.fault_of(it)]
 
-    def goals_of(self, name):
-        """The goals of a function that the check didn't prove: first those that cost it least, last those whose written answers
-        it refused."""
-        errors = "\n".join(it for it in self.errors_of(name) if not NAMES.search(it))
-        return [*dict.fromkeys([*(goal for goal, _ in self.unproved(name)), *REFUSED_ANSWER.findall(errors)])]
-
     def unread(self):
         """The first line that says that a text couldn't be compiled or read, with its file and its place; none where all was."""
         for line in self.lines:
@@ -260,9 +254,11 @@ def judge_goal(crate, edit, answer):
 
 def judge_whole(crate, edit, answer):
     """What became of an edit of which all goals were tried: of a copy, each goal that isn't proved is then tried alone, if it is
-    to be one of the right body too."""
-    goals = answer.goals_of(answer.name_of(edit.wrong()[0])) if edit.copy and answer.asks_right else []
-    if goals and crate.tries_alone(edit):
-        edit.goal, *edit.goals = goals
+    to be one of the right body too: first those that cost the check least, last those whose written answers it refused."""
+    name = answer.name_of(edit.wrong()[0])
+    refused = "\n".join(it for it in answer.errors_of(name) if not NAMES.search(it))
+    goals = [*(goal for goal, _ in answer.unproved(name)), *REFUSED_ANSWER.findall(refused)]
+    if goals and answer.asks_right and crate.tries_alone(edit):
+        edit.goal, *edit.goals = dict.fromkeys(goals)
     else:
         edit.came_to, edit.why = "refused", answer.reason_of(edit)

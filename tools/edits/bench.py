@@ -75,16 +75,12 @@ class Bench:
         words += ["--links", f"{name}=", "--incremental", "out/incremental"]
         return [*words, *(word for it in only for word in ("--only", it))]
 
-    def begin(self, name):
-        """The folder of a new copy of a crate, in a tree of its own."""
-        folder = self.room / f"round-{next(self.numbers)}" / "crates" / name
-        return shutil.copytree(TOP / "crates" / name, folder, ignore=shutil.ignore_patterns("out", "edits"))
-
     def check(self, crate, edits):
         """Checks a copy of a crate with these edits in it, over what earlier checks kept; where it only takes the contracts
         of what they call, with a right body beside the wrong ones."""
-        folder = self.begin(crate.name)
-        at, takes_contracts = folder.parent.parent, all(it.is_searched() for it in edits) and any(it.copy for it in edits)
+        at = self.room / f"round-{next(self.numbers)}"
+        takes_contracts = all(it.is_searched() for it in edits) and any(it.copy for it in edits)
+        folder = shutil.copytree(crate.folder, at / "crates" / crate.name, ignore=shutil.ignore_patterns("out", "edits"))
         controls = crate.right([it for it in edits if it.pairs])[:1] if takes_contracts else []
         for it in controls:
             # it is proved as a whole
@@ -127,7 +123,8 @@ class Bench:
                 found.append(its)
                 at.mkdir(parents=True, exist_ok=True)
                 if edit.is_tried_alone(crate):
-                    try_alone(at, crate.module_of_proof(its), edit.goal, crate.has_types(function))
+                    path, it = crate.place_of(function)
+                    try_alone(at, crate.module_of_proof(its), edit.goal, crate.sources[path].has_types(it))
                 else:
                     # an answer that is refused, so that no other is offered
                     with (at / "Answers.antt").open("a", encoding="utf-8") as file:

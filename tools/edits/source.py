@@ -217,11 +217,6 @@ class Crate:
             found.append(Edit(self.name, edit.name, copy=copy, bodies={function: None}, goal=edit.goal))
         return found
 
-    def has_types(self, function):
-        """Whether a function has type parameters, be it those of its impl."""
-        path, it = self.place_of(function)
-        return self.sources[path].has_types(it)
-
     def module_of_proof(self, name):
         """The module of the proof of a function, by the name that a check gives it."""
         return f"Rattle.{self.name}.proofs.{name.replace('::', '.')}"
