@@ -290,7 +290,8 @@ def evidence():
     """What stands behind the claims, in numbers."""
     code, proofs = tree.lines(tree.erased(), "//"), tree.lines(tree.files(tree.CRATES, ".antt"), "--")
     functions = [it for path in tree.erased() for it in tree.file_of(path).functions]
-    planted = [f"{sum(float(it) for _, its, it in rows_of('plant') if its == what):,.0f}" for what in ("refused", "let through", "not judged")]
+    planted = [f"{sum(float(it) for _, its, it in rows_of('plant') if its == what):,.0f}"
+               for what in ("refused", "let through", "not judged")]
     queues = re.search(r"let sizes: &\[\(usize, u32\)\] = &\[(.*?)\];", text_of(TOP / "rust/hontkhale/tests/slow/same_calls.rs"), re.S)[1].count("(")
     calls = re.search(r"const CALLS: u64 = if cfg!.debug_assertions. \{ ([\d_]+) \}", text_of(TOP / "rust/hontkhale/tests/models/draw.rs"))[1]
     definitions = sum(not indent for it in tree.crates() for indent, _ in it.definitions())

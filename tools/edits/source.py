@@ -185,7 +185,7 @@ class Crate:
         return pathlib.Path("proofs", *self.name_of(function).split("::"))
 
     def copy_of(self, edit, number):
-        """The name and the text of a copy of the one function that an edit changes, with its wrong body; none if there can't be one."""
+        """The name and the text of a copy of the one function that an edit changes, with its wrong body, where there can be one."""
         if edit.most == 1 or edit.asks or edit.added or len(edit.bodies) != 1:
             return ()
         (function,) = edit.bodies
