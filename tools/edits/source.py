@@ -85,7 +85,7 @@ def edits_of(crate):
                 case "asks":
                     edit.asks += rest.split()
                 case "new":
-                    edit.pairs.append((said["file"], said["in"], said.pop("old", ""), rest))
+                    edit.pairs.append((said.get("file", ""), said["in"], said.pop("old", ""), rest))
     return found
 
 
