@@ -34,8 +34,8 @@ def text_of(path):
 def files(folder, *endings):
     """The files below a folder that the repository keeps, in order: none of what a build makes."""
     made = {"out", "target", ".git", "__pycache__"}
-    found = (it for it in sorted(folder.rglob("*")) if it.suffix in endings and it.is_file())
-    return [it for it in found if not made & set(it.relative_to(TOP).parts)]
+    found = (it for it in folder.rglob("*") if it.suffix in endings and it.is_file())
+    return sorted(it for it in found if not made & set(it.relative_to(TOP).parts))
 
 
 @functools.cache
