@@ -28,7 +28,7 @@ def times(pid):
 
 
 def database_seconds(it):
-    parent = it.pid()
+    parent = int((it.data / "postmaster.pid").read_text().split()[0])
     children = pathlib.Path(f"/proc/{parent}/task/{parent}/children").read_text().split()
     total = sum(times(parent))
     for child in children:

@@ -5,7 +5,6 @@ mod clock;
 mod commands;
 mod db;
 mod effect;
-mod expiry;
 mod fault;
 mod input;
 mod leases;
@@ -25,6 +24,12 @@ mod worker;
 use options::{Verb, HELP};
 use std::error::Error;
 use std::process::ExitCode;
+use std::sync::{Mutex, MutexGuard, PoisonError};
+
+/// Whoever panics with a lock ends the program: nothing is left half done.
+fn enter<T>(mutex: &Mutex<T>) -> MutexGuard<'_, T> {
+    mutex.lock().unwrap_or_else(PoisonError::into_inner)
+}
 
 async fn run(verb: Verb) -> Result<(), Box<dyn Error>> {
     match verb {
@@ -32,7 +37,7 @@ async fn run(verb: Verb) -> Result<(), Box<dyn Error>> {
             println!("{HELP}");
             Ok(())
         }
-        Verb::Setup(database) => setup::run(database).await,
+        Verb::Setup(database, partitions) => setup::run(database, partitions).await,
         Verb::Worker(options) => worker::run(*options).await,
         Verb::Status(database) => status::run(&database).await,
     }

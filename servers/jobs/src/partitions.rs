@@ -1,9 +1,10 @@
 //! What a worker holds of each partition: which jobs wait in its queue, which are out, and which leases it keeps.
 
 use crate::clock::Clock;
+use crate::enter;
 use hontkhale::{DelayQueue, Key};
 use std::collections::{HashMap, HashSet};
-use std::sync::{Arc, Mutex, MutexGuard, OnceLock, PoisonError};
+use std::sync::{Arc, Mutex, MutexGuard, OnceLock};
 use std::time::{Duration, Instant};
 
 /// The most jobs that wait in memory of a partition; the others wait in the table until there is room.
@@ -119,10 +120,6 @@ pub struct Partitions {
     partitions: OnceLock<Vec<Mutex<Partition>>>,
 }
 
-fn enter(partition: &Mutex<Partition>) -> MutexGuard<'_, Partition> {
-    partition.lock().unwrap_or_else(PoisonError::into_inner)
-}
-
 impl Partitions {
     pub fn new(clock: Arc<Clock>) -> Partitions {
         Partitions { queue: DelayQueue::new(), clock, partitions: OnceLock::new() }
@@ -175,7 +172,7 @@ impl Partitions {
     /// The owned partitions that have room for what waits, one of so many in turn, each with the time since which its jobs
     /// are to be read: what was due before is over, and the dead rows that it left aren't read again and again.
     pub fn to_read(&self, of: usize, turn: usize) -> (Vec<usize>, Vec<i64>) {
-        let to_read = |(number, partition)| {
+        let to_read = |(number, partition): (usize, &Mutex<Partition>)| {
             let mut partition = enter(partition);
             if partition.term.is_none() || partition.waiting > WAITING_ROOM / 2 {
                 return None;
@@ -212,9 +209,9 @@ impl Partitions {
         }
     }
 
-    /// The next reading of a partition is of all that waits in it.
-    pub fn read_whole(&self, partition: usize) {
-        enter(&self.all()[partition]).is_whole = true;
+    /// The next reading of some partitions is of all that waits in them.
+    pub fn read_whole(&self, partitions: impl IntoIterator<Item = usize>) {
+        partitions.into_iter().for_each(|it| enter(&self.all()[it]).is_whole = true);
     }
 
     /// Those of some kinds of which jobs wait in memory.
@@ -255,11 +252,10 @@ impl Partitions {
 
     /// How many jobs wait in memory, and how many leases there are.
     pub fn counts(&self) -> (usize, usize) {
-        let count = |it| {
-            let partition = enter(it);
-            (partition.waiting, partition.held.len() - partition.waiting)
+        let add = |(waiting, leases), it: MutexGuard<'_, Partition>| {
+            (waiting + it.waiting, leases + it.held.len() - it.waiting)
         };
-        self.all().iter().map(count).fold((0, 0), |sum, it| (sum.0 + it.0, sum.1 + it.1))
+        self.all().iter().map(enter).fold((0, 0), add)
     }
 
     /// It is owned from now on by a term, with the leases that the table has.

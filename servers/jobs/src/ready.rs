@@ -1,11 +1,10 @@
 //! The jobs that are due and wait for a holder, and the kinds of which none may be given out.
 
+use crate::enter;
 use crate::partitions::{Partitions, Waiting};
-use crate::worker::Worker;
 use std::cmp::Reverse;
 use std::collections::{BTreeSet, HashMap, HashSet};
-use std::sync::{Arc, Mutex, MutexGuard, PoisonError};
-use tokio::sync::mpsc::UnboundedReceiver;
+use std::sync::{Arc, Mutex};
 use tokio::sync::Notify;
 use tokio::time::{timeout_at, Instant};
 
@@ -62,7 +61,7 @@ pub struct Ready {
 
 impl Ready {
     pub fn push(&self, jobs: impl IntoIterator<Item = Waiting>) {
-        let mut ready = self.enter();
+        let mut ready = enter(&self.state);
         for it in jobs {
             ready.jobs.entry(it.kind).or_default().insert((Reverse(it.priority), it.due, it.id));
         }
@@ -75,13 +74,9 @@ impl Ready {
         self.filled_for_kinds.notify_waiters();
     }
 
-    fn enter(&self) -> MutexGuard<'_, State> {
-        self.state.lock().unwrap_or_else(PoisonError::into_inner)
-    }
-
     /// Keeps to what the table says of kinds.
     pub fn keep_to(&self, kinds: &Kinds) {
-        let mut ready = self.enter();
+        let mut ready = enter(&self.state);
         kinds.paused.iter().for_each(|it| drop(ready.jobs.remove(&it[..])));
         let closed: HashSet<String> = kinds.paused.iter().chain(&kinds.full).cloned().collect();
         let has_opened = ready.closed.iter().any(|it| !closed.contains(it));
@@ -94,12 +89,12 @@ impl Ready {
 
     /// The kinds of which some at a time may run.
     pub fn bounded(&self) -> Vec<String> {
-        self.enter().bounded.clone()
+        enter(&self.state).bounded.clone()
     }
 
     /// The table gave none of a job of a kind: where it is bounded, so many run.
     pub fn note_refused(&self, kind: &str) {
-        let mut ready = self.enter();
+        let mut ready = enter(&self.state);
         if ready.bounded.iter().any(|it| it == kind) {
             ready.closed.insert(kind.to_owned());
         }
@@ -107,7 +102,7 @@ impl Ready {
 
     /// The kinds of which jobs wait for a holder: a hundred of them at most, and a word where there are more.
     pub fn kinds(&self) -> Vec<String> {
-        let ready = self.enter();
+        let ready = enter(&self.state);
         let mut kinds = ready.jobs.keys().filter(|it| !ready.closed.contains(&it[..])).map(|it| it.to_string());
         let mut told: Vec<String> = kinds.by_ref().take(TOLD).collect();
         told.extend(kinds.next().map(|_| MORE.to_owned()));
@@ -136,7 +131,7 @@ impl Ready {
     }
 
     fn pop(&self, partitions: &Partitions, kinds: &[String], count: usize) -> Vec<(i64, Arc<str>)> {
-        let mut ready = self.enter();
+        let mut ready = enter(&self.state);
         let mut taken = Vec::new();
         while taken.len() < count {
             let Some((kind, place)) = ready.first(kinds) else { break };
@@ -171,12 +166,5 @@ impl State {
                 self.jobs.remove(kind);
             }
         }
-    }
-}
-
-/// Makes ready what comes out of the index, until the keeper has ended.
-pub async fn fill(worker: Arc<Worker>, mut jobs: UnboundedReceiver<Vec<Waiting>>) {
-    while let Some(jobs) = jobs.recv().await {
-        worker.ready.push(jobs);
     }
 }

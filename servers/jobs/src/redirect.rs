@@ -1,11 +1,11 @@
 //! Sends a holder to the worker that owns a job.
 
 use crate::commands::try_again;
-use crate::sql;
 use crate::worker::Worker;
+use crate::{enter, sql};
 use servers::resp::Reply;
 use std::collections::HashMap;
-use std::sync::{Mutex, MutexGuard, PoisonError};
+use std::sync::Mutex;
 use std::time::{Duration, Instant};
 
 /// How long an answer of the database is good for.
@@ -15,15 +15,9 @@ const GOOD_FOR: Duration = Duration::from_millis(250);
 #[derive(Default)]
 pub struct Redirects(Mutex<HashMap<usize, (Instant, String)>>);
 
-impl Redirects {
-    fn enter(&self) -> MutexGuard<'_, HashMap<usize, (Instant, String)>> {
-        self.0.lock().unwrap_or_else(PoisonError::into_inner)
-    }
-}
-
 /// The reply to a word about a partition that this worker doesn't own.
 pub async fn redirect(worker: &Worker, partition: usize) -> Reply {
-    let known = worker.redirects.enter().get(&partition).cloned();
+    let known = enter(&worker.redirects.0).get(&partition).cloned();
     if let Some((at, address)) = known {
         if at.elapsed() < GOOD_FOR {
             return moved(worker, partition, &address);
@@ -34,7 +28,7 @@ pub async fn redirect(worker: &Worker, partition: usize) -> Reply {
         Ok(rows) => rows.first().map(|row| row.get(0)).unwrap_or_default(),
         Err(error) => return try_again(&error.to_string()),
     };
-    worker.redirects.enter().insert(partition, (Instant::now(), address.clone()));
+    enter(&worker.redirects.0).insert(partition, (Instant::now(), address.clone()));
     moved(worker, partition, &address)
 }
 

@@ -3,10 +3,9 @@
 use crate::commands::{fenced, try_again, Attempt, Command};
 use crate::db::{tell, Param};
 use crate::effect::note_lateness;
-use crate::expiry::{adopt, running};
-use crate::fault::Error;
 use crate::input::Input;
-use crate::partitions::{Beat, Running};
+use crate::leases::{adopt, running};
+use crate::partitions::Beat;
 use crate::redirect::redirect;
 use crate::sql;
 use crate::worker::Worker;
@@ -31,12 +30,6 @@ const GUESS: Duration = Duration::from_millis(200);
 /// How often a worker looks whether others have jobs while a holder waits for one.
 const ELSEWHERE: Duration = Duration::from_millis(250);
 
-/// Where a client is silent for so long, its host is asked whether it still is there, so many times.
-fn keepalive() -> TcpKeepalive {
-    let (idle, interval) = (Duration::from_secs(300), Duration::from_secs(75));
-    TcpKeepalive::new().with_time(idle).with_interval(interval).with_retries(9)
-}
-
 pub async fn serve(worker: Arc<Worker>, listener: TcpListener) {
     let seats = Arc::new(Semaphore::new(worker.options.clients));
     loop {
@@ -50,8 +43,10 @@ pub async fn serve(worker: Arc<Worker>, listener: TcpListener) {
 async fn talk(worker: Arc<Worker>, mut stream: TcpStream, seat: Option<OwnedSemaphorePermit>) {
     // A reply that waits for a packet to fill would be late.
     let _ = stream.set_nodelay(true);
-    // Nobody would notice that a host has vanished.
-    let _ = SockRef::from(&stream).set_tcp_keepalive(&keepalive());
+    // Nobody would notice that a host has vanished: where a client is silent for so long, its host is asked.
+    let (idle, interval) = (Duration::from_secs(300), Duration::from_secs(75));
+    let keepalive = TcpKeepalive::new().with_time(idle).with_interval(interval).with_retries(9);
+    let _ = SockRef::from(&stream).set_tcp_keepalive(&keepalive);
     match seat {
         None => drop(stream.write_all(b"-ERR max number of clients reached\r\n").await),
         Some(_seat) => {
@@ -210,12 +205,9 @@ impl Holder<'_> {
         let mut beats: Vec<Beat> = attempts.iter().map(extend).collect();
         let is_unknown = |it: &(&Beat, &Attempt)| *it.0 == Beat::Unknown;
         let unknown: Vec<i64> = beats.iter().zip(attempts).filter(is_unknown).map(|it| it.1.id).collect();
-        let mut cancelled = HashSet::new();
-        if !unknown.is_empty() {
-            cancelled = adopt(worker, &unknown).await;
-            for (beat, it) in beats.iter_mut().zip(attempts).filter(|it| *it.0 == Beat::Unknown) {
-                *beat = extend(it);
-            }
+        let cancelled = if unknown.is_empty() { HashSet::new() } else { adopt(worker, &unknown).await };
+        for (beat, it) in beats.iter_mut().zip(attempts).filter(|it| *it.0 == Beat::Unknown) {
+            *beat = extend(it);
         }
         for (beat, it) in beats.into_iter().zip(attempts) {
             let reply = match beat {
@@ -245,30 +237,25 @@ impl Holder<'_> {
         let reasons: Vec<String> = commands.iter().map(reason).collect();
         let terms = worker.partitions.terms();
         let params: [Param<'_>; 6] = [&worker.number, &terms, &ids, &numbers, &reasons, &worker.options.attempts];
-        let (sql, params, ended) = match commands[0] {
+        let (sql, params, count) = match commands[0] {
             Command::Done(_) => (sql::DONE, &params[..4], &worker.metrics.done),
             _ => (sql::FAIL, &params[..], &worker.metrics.failed),
         };
-        let answer = worker.links.insist(sql, params).await;
-        ended.add(self.end(&attempts, answer).await);
+        match worker.links.insist(sql, params).await {
+            Ok(rows) => count.add(self.end(&attempts, &rows).await),
+            Err(error) => attempts.iter().for_each(|_| self.tell(try_again(&error.to_string()))),
+        }
     }
 
     /// Answers attempts by the jobs that the database tells, each by what became of it, and by `running` as it was.
     /// Tells how many have ended.
-    async fn end(&mut self, attempts: &[Attempt], answer: Result<Vec<Row>, Error>) -> u64 {
-        let rows = match answer {
-            Ok(rows) => rows,
-            Err(error) => {
-                attempts.iter().for_each(|_| self.tell(try_again(&error.to_string())));
-                return 0;
-            }
-        };
+    async fn end(&mut self, attempts: &[Attempt], rows: &[Row]) -> u64 {
         let mut ended: HashMap<i64, bool> = HashMap::new();
-        for row in &rows {
-            *ended.entry(row.get(0)).or_default() |= row.get::<_, &str>(1) != "running";
+        for row in rows {
+            let state: &str = row.get(1);
+            *ended.entry(row.get(0)).or_default() |= state != "running";
+            self.worker.metrics.dead.add((state == "dead").into());
         }
-        let dead = rows.iter().filter(|row| row.get::<_, &str>(1) == "dead").count();
-        self.worker.metrics.dead.add(dead as u64);
         for it in attempts {
             let reply = match ended.get(&it.id) {
                 Some(true) => Reply::Status("OK"),
@@ -310,7 +297,7 @@ async fn give(worker: &Worker, jobs: &[(i64, Arc<str>)], kinds: &[String]) -> Re
 
 /// What a holder is told of a job: its id, its attempt, the end of its lease in milliseconds since 1970, and its payload.
 fn given(worker: &Worker, row: &Row) -> Reply {
-    let it: Running = running(row);
+    let it = running(row);
     worker.partitions.note_running(&it, Duration::ZERO);
     worker.metrics.taken.add(1);
     note_lateness(worker, row.get(4), row.get(5), it.attempt);

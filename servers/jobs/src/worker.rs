@@ -3,21 +3,20 @@
 use crate::clock::Clock;
 use crate::db::{tell, Links};
 use crate::effect;
-use crate::expiry;
 use crate::metrics::Metrics;
 use crate::options::WorkerOptions;
 use crate::owner;
 use crate::partitions::{Due, Partitions, Waiting};
 use crate::ready::{Ready, MORE};
 use crate::redirect::Redirects;
-use crate::{chores, fault, leases, scrape, server, setup, sql};
+use crate::{chores, enter, fault, leases, scrape, server, setup, sql};
 use std::collections::hash_map::RandomState;
 use std::error::Error;
 use std::hash::{BuildHasher, Hasher};
 use std::io;
 use std::net::SocketAddr;
 use std::sync::atomic::{AtomicBool, AtomicUsize, Ordering::SeqCst};
-use std::sync::{Arc, Mutex, PoisonError};
+use std::sync::{Arc, Mutex};
 use tokio::net::TcpListener;
 use tokio::signal::unix::{signal, SignalKind};
 use tokio::sync::mpsc::{unbounded_channel, UnboundedSender};
@@ -89,7 +88,7 @@ impl Worker {
     /// ready and wait for holders. Those that have more kinds than they tell are named in turn, and after all of them
     /// none.
     pub fn elsewhere(&self, kinds: &[String]) -> Option<String> {
-        let places = self.elsewhere.lock().unwrap_or_else(PoisonError::into_inner);
+        let places = enter(&self.elsewhere);
         let turn = self.turn.fetch_add(1, SeqCst);
         let of = |kinds: &[String]| -> Vec<&Place> {
             places.iter().filter(|it| kinds.is_empty() || it.ready.iter().any(|it| kinds.contains(it))).collect()
@@ -106,7 +105,7 @@ impl Worker {
             Some(Place { at: at.to_owned(), ready: ready.split(' ').map(str::to_owned).collect() })
         };
         let places = places.into_iter().filter_map(place).collect();
-        *self.elsewhere.lock().unwrap_or_else(PoisonError::into_inner) = places;
+        *enter(&self.elsewhere) = places;
     }
 }
 
@@ -155,8 +154,10 @@ pub async fn run(options: WorkerOptions) -> Result<(), Box<dyn Error>> {
         Some(_) => tell(format_args!("worker {} has an effect", worker.options.name)),
         None => tell(format_args!("worker {} at {}", worker.options.name, worker.address)),
     }
-    watched(&worker).await?;
-    worker.partitions.divide(setup::check(&worker.options.database).await?);
+    if let Some(address) = worker.options.metrics {
+        tokio::spawn(scrape::serve(worker.clone(), bind(address).await?));
+    }
+    worker.partitions.divide(setup::check(&worker.links, &worker.options.database).await?);
     let statement = match &worker.options.effect {
         Some(effect) => effect::statement(&worker.links, sql::BEGIN_EFFECT, effect).await?,
         None => String::new(),
@@ -183,13 +184,6 @@ async fn bind(address: SocketAddr) -> Result<TcpListener, String> {
     TcpListener::bind(address).await.map_err(|error| format!("{address}: {error}"))
 }
 
-async fn watched(worker: &Arc<Worker>) -> Result<(), Box<dyn Error>> {
-    if let Some(address) = worker.options.metrics {
-        tokio::spawn(scrape::serve(worker.clone(), bind(address).await?));
-    }
-    Ok(())
-}
-
 struct Tasks {
     keeper: std::thread::JoinHandle<()>,
     jobs: tokio::task::JoinHandle<()>,
@@ -198,18 +192,23 @@ struct Tasks {
 }
 
 fn begin(worker: &Arc<Worker>, listener: Option<TcpListener>, effect: Arc<str>) -> Tasks {
-    let (due, jobs) = unbounded_channel();
+    let (due, mut jobs) = unbounded_channel::<Vec<Waiting>>();
     let (ended, leases_ended) = unbounded_channel();
     let kept = worker.clone();
     let keeper = std::thread::spawn(move || keep(&kept, &due, &ended));
     let jobs = match listener {
         Some(listener) => {
             tokio::spawn(server::serve(worker.clone(), listener));
-            tokio::spawn(crate::ready::fill(worker.clone(), jobs))
+            let worker = worker.clone();
+            tokio::spawn(async move {
+                while let Some(jobs) = jobs.recv().await {
+                    worker.ready.push(jobs);
+                }
+            })
         }
         None => tokio::spawn(effect::run(worker.clone(), effect, jobs)),
     };
-    let expiry = tokio::spawn(expiry::run(worker.clone(), leases_ended));
+    let expiry = tokio::spawn(leases::expire_on(worker.clone(), leases_ended));
     tokio::spawn(leases::write_on(worker.clone()));
     tokio::spawn(chores::run(worker.clone()));
     let owner = tokio::spawn(owner::run(worker.clone()));
