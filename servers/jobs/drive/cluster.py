@@ -223,16 +223,12 @@ def run_cases(cases, settings=()):
 def held(it, *statements):
     """A session in whose open transaction these statements were run."""
     command = ["psql", "-X", "-q", "-At", it.url]
-    process = subprocess.Popen(command, stdin=subprocess.PIPE, stdout=subprocess.PIPE, text=True)
-    process.stdin.write("BEGIN;\n" + "".join(f"{text};\n" for text in statements) + "\\echo locked\n")
-    process.stdin.flush()
-    while "locked" not in process.stdout.readline():
-        assert process.poll() is None, statements
-    try:
+    with subprocess.Popen(command, stdin=subprocess.PIPE, stdout=subprocess.PIPE, text=True) as process:
+        process.stdin.write("BEGIN;\n" + "".join(f"{text};\n" for text in statements) + "\\echo locked\n")
+        process.stdin.flush()
+        while "locked" not in process.stdout.readline():
+            assert process.poll() is None, statements
         yield
-    finally:
-        process.stdin.close()
-        process.wait(HANG)
 
 
 def empty(it):

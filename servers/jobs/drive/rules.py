@@ -118,6 +118,22 @@ def cancelled(it):
     say("a job that ran and one that waited were cancelled, and the holder told")
 
 
+def take_all(asks, count, *words):
+    """So many jobs are given, and no more."""
+    got = []
+    wait_for(lambda: got.extend(asks.call("JOBS.TAKE", 100, "WAIT", 1000, *words)) or len(got) >= count)
+    assert len(got) == count, got
+
+
+def slow_and_quick(it, column, value):
+    """200,000 jobs of a slow kind, more than a worker holds in memory, are due before 50 quick ones."""
+    it.sql(
+        f"INSERT INTO jobs_kinds (kind, {column}) VALUES ('slow', {value}); "
+        "INSERT INTO jobs (kind, due) SELECT 'slow', now() - interval '1 hour' FROM generate_series(1, 200000); "
+        "INSERT INTO jobs (kind) SELECT 'quick' FROM generate_series(1, 50)"
+    )
+
+
 def changed_kind(it):
     """A job whose kind is changed goes to holders of the new one, whether it is in memory already or not."""
     metrics = free_port()
@@ -127,8 +143,7 @@ def changed_kind(it):
     it.sql("UPDATE jobs SET kind = 'new'")
     asks = Connection(address)
     assert asks.call("JOBS.TAKE", 5, "KIND", "old") == []
-    got = []
-    wait_for(lambda: got.extend(asks.call("JOBS.TAKE", 5, "WAIT", 1000, "KIND", "new")) or len(got) == 5)
+    take_all(asks, 5, "KIND", "new")
     assert asks.call("JOBS.TAKE", 5, "KIND", "old") == []
     say("five jobs whose kind was changed went to a holder of the new one")
 
@@ -137,26 +152,21 @@ def paused(it):
     """Jobs of a paused kind wait, however many are due before others, and go on after it."""
     for effect in (True, False):
         empty(it)
-        it.sql("INSERT INTO jobs_kinds (kind, paused) VALUES ('slow', true)")
-        # More than a worker holds in memory.
-        it.sql(
-            "INSERT INTO jobs (kind, due) SELECT 'slow', now() - interval '1 hour' FROM generate_series(1, 200000); "
-            "INSERT INTO jobs (kind) SELECT 'quick' FROM generate_series(1, 50)"
-        )
+        slow_and_quick(it, "paused", "true")
         if effect:
-            worker = it.spawn("worker", "--effect", EFFECT)
+            worker = it.effect()
             exactly_once(it, 50)
         else:
             worker, address = it.serve()
-            asks, got = Connection(address), []
-            wait_for(lambda: got.extend(asks.call("JOBS.TAKE", 50, "WAIT", 1000)) or len(got) == 50)
+            asks = Connection(address)
+            take_all(asks, 50)
         assert it.sql("SELECT DISTINCT state, attempt FROM jobs WHERE kind = 'slow'") == [["waiting", "0"]]
         it.sql("DELETE FROM jobs WHERE kind = 'slow' AND id % 100 <> 0; UPDATE jobs_kinds SET paused = false")
         left = it.number("SELECT count(*) FROM jobs WHERE kind = 'slow'")
         if effect:
             exactly_once(it, 50 + int(left))
         else:
-            wait_for(lambda: got.extend(asks.call("JOBS.TAKE", 100, "WAIT", 1000)) or len(got) == 50 + left)
+            take_all(asks, left)
         # What is paused while it stands in memory isn't given either.
         it.sql("UPDATE jobs_kinds SET paused = true")
         it.sql("INSERT INTO jobs (kind) VALUES ('slow'), ('quick')")
@@ -168,11 +178,7 @@ def paused(it):
 
 def bounded(it):
     """So many jobs of a kind run at a time over all workers, and those that wait keep no other."""
-    it.sql(
-        "INSERT INTO jobs_kinds (kind, at_most) VALUES ('slow', 3); "
-        "INSERT INTO jobs (kind, due) SELECT 'slow', now() - interval '1 hour' FROM generate_series(1, 200000); "
-        "INSERT INTO jobs (kind) SELECT 'quick' FROM generate_series(1, 50)"
-    )
+    slow_and_quick(it, "at_most", 3)
     addresses = [it.serve()[1] for _ in range(2)]
     it.wait_for_owners(2)
     slow, quick, most = [], [], 0
@@ -224,9 +230,7 @@ def bounded_effects(it):
         if cuts % 2:
             it.sql(f"SELECT pg_terminate_backend(pid) {its}")
         else:
-            wire.cut()
-            time.sleep(1)
-            wire.mend()
+            wire.cut_for(1)
         cuts += 1
     exactly_once(it, count)
     assert it.sql("SELECT is_called FROM beside") == [["f"]], "two effects of the kind were had at once"

@@ -130,14 +130,19 @@ impl Given {
             "--database or JOBS_DATABASE names no database: it is postgres://user@host/name or host=.. dbname=.., and \
              sslmode is disable or prefer"
         })?;
-        if config.get_ssl_mode() == SslMode::Require {
-            return Err("the URL's sslmode is disable or prefer: TLS to the database goes through a proxy".to_owned());
-        }
-        if shown.is_some() && config.get_password().is_some() {
-            return Err(
-                "--database has a password, which whoever lists processes reads: JOBS_DATABASE hides it".to_owned()
-            );
-        }
+        let has_tls = config.get_ssl_mode() == SslMode::Require;
+        let is_told = shown.is_some() && config.get_password().is_some();
+        let schema = self.text("--schema");
+        let is_plain = |it: &String| {
+            it.len() <= 40
+                && it.starts_with(|it: char| it.is_ascii_lowercase() || it == '_')
+                && it.bytes().all(|it| it.is_ascii_lowercase() || it.is_ascii_digit() || it == b'_')
+        };
+        check(&[
+            (!has_tls, "the URL's sslmode is disable or prefer: TLS to the database goes through a proxy"),
+            (!is_told, "--database has a password, which whoever lists processes reads: JOBS_DATABASE hides it"),
+            (schema.iter().all(is_plain), "--schema has 1 to 40 small letters, digits and _, and begins with no digit"),
+        ])?;
         if config.get_connect_timeout().is_none() {
             config.connect_timeout(CONNECT);
         }
@@ -145,30 +150,12 @@ impl Given {
             // One of them is the primary.
             config.target_session_attrs(TargetSessionAttrs::ReadWrite);
         }
-        let schema = self.text("--schema");
-        let is_plain = |it: &str| {
-            it.len() <= 40
-                && it.starts_with(|it: char| it.is_ascii_lowercase() || it == '_')
-                && it.bytes().all(|it| it.is_ascii_lowercase() || it.is_ascii_digit() || it == b'_')
-        };
-        if schema.as_deref().is_some_and(|it| !is_plain(it)) {
-            return Err(
-                "--schema has 1 to 40 small letters, digits and _, and begins with none of the digits".to_owned()
-            );
-        }
         Ok(Database {
             config,
             schema,
             statement_timeout: self.millis("--statement-timeout", 100)?.unwrap_or(Duration::from_secs(10)),
             lock_timeout: self.millis("--lock-timeout", 100)?.unwrap_or(Duration::from_secs(5)),
         })
-    }
-
-    fn end(self) -> Result<(), String> {
-        match self.0.first() {
-            None => Ok(()),
-            Some((name, _)) => Err(format!("there is no {name} here, or it was given twice; jobs --help tells them")),
-        }
     }
 }
 
@@ -185,8 +172,10 @@ pub fn verb(words: impl Iterator<Item = String>) -> Result<Verb, String> {
         "worker" => Verb::Worker(Box::new(worker(&mut given)?)),
         _ => return Err(format!("there is no {verb}; jobs --help tells what there is")),
     };
-    given.end()?;
-    Ok(verb)
+    match given.0.first() {
+        None => Ok(verb),
+        Some((name, _)) => Err(format!("there is no {name} here, or it was given twice; jobs --help tells them")),
+    }
 }
 
 fn worker(given: &mut Given) -> Result<WorkerOptions, String> {
@@ -208,28 +197,24 @@ fn worker(given: &mut Given) -> Result<WorkerOptions, String> {
         attempts: given.number("--attempts", 1..=MOST_ATTEMPTS)?.unwrap_or(ATTEMPTS),
         metrics: given.address("--metrics")?,
     };
-    check(&options)?;
-    Ok(options)
-}
-
-fn check(options: &WorkerOptions) -> Result<(), String> {
     // A slash and a space part what workers tell each other.
     let is_plain = |text: &str, most| {
         (1..=most).contains(&text.len()) && text.bytes().all(|it| it.is_ascii_graphic() && it != b'/')
     };
     let is_elsewhere = options.effect.is_some() || options.announce.is_some() || !options.listen.ip().is_unspecified();
-    for (is_right, what) in [
+    check(&[
         // A lease that ends before it is written could never be extended.
         (options.lease >= 2 * options.write_every, "--lease is twice --write-every at least"),
         (is_plain(&options.name, 24), "--name has 1 to 24 plain characters, and no slash"),
         (options.announce.iter().all(|it| is_plain(it, 200)), "--announce has 1 to 200 plain characters, and no slash"),
         (is_elsewhere, "--announce has to say where holders reach a worker that listens everywhere"),
-    ] {
-        if !is_right {
-            return Err(what.to_owned());
-        }
-    }
-    Ok(())
+    ])?;
+    Ok(options)
+}
+
+/// Refuses what isn't right.
+fn check(all: &[(bool, &str)]) -> Result<(), String> {
+    all.iter().find(|it| !it.0).map_or(Ok(()), |it| Err(it.1.to_owned()))
 }
 
 #[cfg(test)]

@@ -16,7 +16,6 @@ pub const MORE: &str = "*";
 type Place = (Reverse<i16>, i64, i64);
 
 /// What the table says of kinds.
-#[derive(Default)]
 pub struct Kinds {
     /// None of them may begin.
     pub paused: Vec<String>,
@@ -29,16 +28,8 @@ pub struct Kinds {
 impl Kinds {
     /// As `READ` tells them, each behind a mark.
     pub fn of(words: Vec<&str>) -> Kinds {
-        let mut kinds = Kinds::default();
-        for word in words {
-            let (mark, kind) = word.split_at(1);
-            let all = if mark == "-" { &mut kinds.paused } else { &mut kinds.bounded };
-            all.push(kind.to_owned());
-            if mark == "=" {
-                kinds.full.push(kind.to_owned());
-            }
-        }
-        kinds
+        let of = |marks: &[char]| words.iter().filter_map(|it| it.strip_prefix(marks)).map(str::to_owned).collect();
+        Kinds { paused: of(&['-']), bounded: of(&['<', '=']), full: of(&['=']) }
     }
 }
 
@@ -132,14 +123,8 @@ impl Ready {
 
     fn pop(&self, partitions: &Partitions, kinds: &[String], count: usize) -> Vec<(i64, Arc<str>)> {
         let mut ready = enter(&self.state);
-        let mut taken = Vec::new();
-        while taken.len() < count {
-            let Some((kind, place)) = ready.first(kinds) else { break };
-            ready.remove(&kind, &place);
-            if partitions.may_be_given(place.2, &kind) {
-                taken.push((place.2, kind));
-            }
-        }
+        let jobs = std::iter::from_fn(|| ready.pop(kinds));
+        let taken: Vec<_> = jobs.filter(|(id, kind)| partitions.may_be_given(*id, kind)).take(count).collect();
         if !ready.jobs.is_empty() && !taken.is_empty() {
             // One word may stand for many jobs: the next who waits is woken by who took some.
             self.filled.notify_one();
@@ -149,22 +134,17 @@ impl Ready {
 }
 
 impl State {
-    /// The job that is given out first.
-    fn first(&self, kinds: &[String]) -> Option<(Arc<str>, Place)> {
+    /// Takes out the job that is given out first.
+    fn pop(&mut self, kinds: &[String]) -> Option<(i64, Arc<str>)> {
         let is_wanted =
             |kind: &str| !self.closed.contains(kind) && (kinds.is_empty() || kinds.iter().any(|it| it[..] == *kind));
         let wanted = self.jobs.iter().filter(|it| is_wanted(it.0));
-        let (kind, place) =
-            wanted.filter_map(|(kind, places)| Some((kind, places.iter().next()?))).min_by_key(|it| it.1)?;
-        Some((kind.clone(), *place))
-    }
-
-    fn remove(&mut self, kind: &Arc<str>, place: &Place) {
-        if let Some(places) = self.jobs.get_mut(kind) {
-            places.remove(place);
-            if places.is_empty() {
-                self.jobs.remove(kind);
-            }
+        let kind = wanted.min_by_key(|it| it.1.first())?.0.clone();
+        let places = self.jobs.get_mut(&kind)?;
+        let (_, _, id) = places.pop_first()?;
+        if places.is_empty() {
+            self.jobs.remove(&kind);
         }
+        Some((id, kind))
     }
 }

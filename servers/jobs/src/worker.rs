@@ -2,14 +2,12 @@
 
 use crate::clock::Clock;
 use crate::db::{tell, Links};
-use crate::effect;
 use crate::metrics::Metrics;
 use crate::options::WorkerOptions;
-use crate::owner;
 use crate::partitions::{Due, Partitions, Waiting};
 use crate::ready::{Ready, MORE};
 use crate::redirect::Redirects;
-use crate::{chores, enter, fault, leases, scrape, server, setup, sql};
+use crate::{chores, effect, enter, fault, leases, owner, scrape, server, setup, sql};
 use std::collections::hash_map::RandomState;
 use std::error::Error;
 use std::hash::{BuildHasher, Hasher};
@@ -39,7 +37,8 @@ pub struct Worker {
     pub address: String,
     /// True from the moment that it ends.
     pub ending: watch::Receiver<bool>,
-    elsewhere: Mutex<Vec<Place>>,
+    /// Other workers that have jobs for holders: a partition and the address of each, and the kinds.
+    elsewhere: Mutex<Vec<(String, Vec<String>)>>,
     /// How often a holder was to be sent elsewhere.
     turn: AtomicUsize,
     /// Rung when the partitions are to be let go.
@@ -90,30 +89,20 @@ impl Worker {
     pub fn elsewhere(&self, kinds: &[String]) -> Option<String> {
         let places = enter(&self.elsewhere);
         let turn = self.turn.fetch_add(1, SeqCst);
-        let of = |kinds: &[String]| -> Vec<&Place> {
-            places.iter().filter(|it| kinds.is_empty() || it.ready.iter().any(|it| kinds.contains(it))).collect()
+        let of = |kinds: &[String]| -> Vec<&String> {
+            let has_some = |ready: &[String]| kinds.is_empty() || ready.iter().any(|it| kinds.contains(it));
+            places.iter().filter(|it| has_some(&it.1)).map(|it| &it.0).collect()
         };
         let (ready, more) = (of(kinds), of(&[MORE.to_owned()]));
-        let place = ready.get(turn % ready.len().max(1)).or_else(|| more.get(turn % (more.len() + 1)));
-        place.map(|it| it.at.clone())
+        ready.get(turn % ready.len().max(1)).or(more.get(turn % (more.len() + 1))).map(|it| it.to_string())
     }
 
     /// What `READ` has said of other workers: partition, address, a slash and kinds.
     pub fn note_elsewhere(&self, places: Vec<&str>) {
-        let place = |it: &str| {
-            let (at, ready) = it.rsplit_once('/')?;
-            Some(Place { at: at.to_owned(), ready: ready.split(' ').map(str::to_owned).collect() })
-        };
-        let places = places.into_iter().filter_map(place).collect();
-        *enter(&self.elsewhere) = places;
+        let places = places.into_iter().filter_map(|it| it.rsplit_once('/'));
+        let place = |(at, ready): (&str, &str)| (at.to_owned(), ready.split(' ').map(str::to_owned).collect());
+        *enter(&self.elsewhere) = places.map(place).collect();
     }
-}
-
-/// Another worker that has jobs for holders.
-struct Place {
-    /// One of its partitions, and its address.
-    at: String,
-    ready: Vec<String>,
 }
 
 /// Takes out what is due, until the worker ends.
@@ -140,14 +129,13 @@ fn keep(worker: &Worker, jobs: &UnboundedSender<Vec<Waiting>>, leases: &Unbounde
 /// Runs a worker until it is told to end by SIGTERM or SIGINT.
 pub async fn run(options: WorkerOptions) -> Result<(), Box<dyn Error>> {
     let (end, ending) = watch::channel(false);
-    let listener = match options.effect {
-        Some(_) => None,
-        None => Some(bind(options.listen).await?),
-    };
-    let address = match (&listener, &options.announce) {
-        (None, _) => "-".to_owned(),
-        (Some(_), Some(address)) => address.clone(),
-        (Some(listener), None) => listener.local_addr()?.to_string(),
+    let (listener, address) = match &options.effect {
+        Some(_) => (None, "-".to_owned()),
+        None => {
+            let listener = bind(options.listen).await?;
+            let here = listener.local_addr()?.to_string();
+            (Some(listener), options.announce.clone().unwrap_or(here))
+        }
     };
     let worker = Arc::new(Worker::new(options, address, ending));
     match worker.options.effect {
