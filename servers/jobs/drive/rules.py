@@ -284,10 +284,15 @@ def pruned(it):
         "INSERT INTO jobs (state, due, ended) SELECT state, now(), now() - days * interval '1 day' "
         "FROM unnest(ARRAY['dead', 'done']) state, unnest(ARRAY[89, 91]) days"
     )
-    it.effect()
+    old = "SELECT count(*) FROM jobs WHERE ended < now() - interval '90 days'"
+    worker = it.effect()
     it.wait_for_number("SELECT count(*) FROM jobs", 3)
-    assert it.number("SELECT count(*) FROM jobs WHERE state = 'dead' AND ended < now() - interval '90 days'") == 0
-    say("a job that was dead for more than 90 days was pruned")
+    assert it.number(f"{old} AND state = 'dead'") == 0
+    end(worker)
+    it.effect(EFFECT, "--keep-done", str(90 * 24 * 3_600_000))
+    it.wait_for_number("SELECT count(*) FROM jobs", 2)
+    assert it.number(old) == 0
+    say("a job that was dead for more than 90 days was pruned, and a done one where it was said")
 
 
 def delays(it):
