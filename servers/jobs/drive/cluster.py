@@ -100,8 +100,8 @@ class Cluster:
         # A server that it starts would keep a pipe of this process open.
         with open(self.room / "said", "w") as said:
             done = subprocess.run(command, cwd="/", stdout=said, stderr=said, env=env)
-        told = [it.read_text()[-2000:] for it in (self.room / "said", self.room / "log") if it.exists()]
-        assert not done.returncode, (name, words, *told)
+        logs = (self.room / "said", self.room / "log")
+        assert not done.returncode, (name, words, *[it.read_text()[-2000:] for it in logs if it.exists()])
 
     def start(self):
         words = ["-D", self.data, "-w", "-t", "300", "-l", self.room / "log", "-o", self.options, "start"]

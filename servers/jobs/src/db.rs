@@ -161,7 +161,7 @@ impl Session {
         Ok(self.query(sql, params).await?[0].get(0))
     }
 
-    /// The same, and whose fault it is where there is no answer. Only what the database refuses to read is the statement's.
+    /// Rows, or whose fault it is that there are none. Only what the database refuses to read is the statement's.
     /// The first parameter of what is asked for jobs is the worker's number.
     async fn query_rows(&self, sql: &str, params: &[Param<'_>], asked: Asked) -> Result<Vec<Row>, (Whose, Error)> {
         let own = |error: Error| (error.whose(Asked::Own), error);

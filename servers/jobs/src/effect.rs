@@ -22,8 +22,9 @@ const UNFIT: Duration = Duration::from_millis(50);
 const LOCKED: Duration = Duration::from_secs(1);
 const PATIENCE: Duration = Duration::from_secs(300);
 
-/// The statement that begins so, takes jobs and has this effect of them.
-pub async fn statement(links: &Links, begin: &str, effect: &str) -> Result<String, Error> {
+/// The statement that takes jobs and has this effect of them.
+pub async fn statement(links: &Links, effect: &str) -> Result<String, Error> {
+    let begin = sql::BEGIN_EFFECT;
     let reading = format!("{begin}{effect}{}", sql::END_EFFECT);
     match links.insist_to_prepare(&reading).await {
         Err(error) if error.code() == Some(&SqlState::FEATURE_NOT_SUPPORTED) => {

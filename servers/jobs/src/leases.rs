@@ -1,5 +1,5 @@
-//! Leases: the write of those that holders have extended in memory to the table, and those that have ended. Their jobs are
-//! given out again, or are dead after the last attempt.
+//! Leases: the write to the table of those that holders have extended in memory, and those that have ended, whose jobs
+//! are given out again, or are dead after the last attempt.
 
 use crate::db::tell;
 use crate::fault::Error;
@@ -98,15 +98,11 @@ async fn expire(worker: &Worker, leases: &[(i64, i32)]) {
     };
     let is_waiting = |row: &&Row| row.get::<_, &str>(1) == "waiting";
     let again: HashMap<i64, Waiting> = rows.iter().filter(is_waiting).map(|row| (row.get(0), waiting(row))).collect();
-    let dead = (rows.len() - again.len()) as u64;
     worker.metrics.expired.add(rows.len() as u64);
-    worker.metrics.dead.add(dead);
+    worker.metrics.dead.add((rows.len() - again.len()) as u64);
     // A worker that does its jobs itself finds them by its next reading.
     let is_given = worker.options.effect.is_none();
-    let is_again = |(id, attempt): &&(i64, i32)| {
-        let again = again.get(id).filter(|_| is_given);
-        worker.partitions.end(*id, *attempt, again)
-    };
+    let is_again = |it: &&(i64, i32)| worker.partitions.end(it.0, it.1, again.get(&it.0).filter(|_| is_given));
     if !is_given {
         worker.partitions.read_whole(again.keys().map(|id| worker.partitions.of(*id)));
     }

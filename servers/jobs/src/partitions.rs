@@ -253,6 +253,7 @@ impl Partitions {
         lost.held.values().for_each(|it| self.forget(it));
     }
 
+    /// Forgets what is held of a job.
     fn let_go(&self, partition: &mut Partition, id: i64) {
         if let Some(held) = partition.held.remove(&id) {
             partition.waiting -= usize::from(!matches!(held, Held::Running(_)));

@@ -176,7 +176,8 @@ WHERE state IN ('running', 'done')" };
 /// Holders have failed. A job comes once more as it stood before, as of those that are done.
 pub const FAIL: &str = concat! { "
 WITH free AS MATERIALIZED (
-    SELECT id, v.error FROM unnest($3::bigint[], $4::int[], $5::text[]) AS v(id, attempt, error) JOIN jobs USING (id, attempt)
+    SELECT id, v.error
+    FROM unnest($3::bigint[], $4::int[], $5::text[]) AS v(id, attempt, error) JOIN jobs USING (id, attempt)
     WHERE state || '' = 'running' AND ", owned!(), "
 ), failed AS (
     UPDATE jobs j SET lease_until = NULL, ended = clock_timestamp(), error = free.error,

@@ -7,7 +7,7 @@ use crate::options::WorkerOptions;
 use crate::partitions::{Due, Partitions, Waiting};
 use crate::ready::{Ready, MORE};
 use crate::redirect::Redirects;
-use crate::{chores, effect, enter, fault, leases, owner, scrape, server, setup, sql};
+use crate::{chores, effect, enter, fault, leases, owner, scrape, server, setup};
 use std::collections::hash_map::RandomState;
 use std::error::Error;
 use std::hash::{BuildHasher, Hasher};
@@ -147,7 +147,7 @@ pub async fn run(options: WorkerOptions) -> Result<(), Box<dyn Error>> {
     }
     worker.partitions.divide(setup::check(&worker.links, &worker.options.database).await?);
     let statement = match &worker.options.effect {
-        Some(effect) => effect::statement(&worker.links, sql::BEGIN_EFFECT, effect).await?,
+        Some(effect) => effect::statement(&worker.links, effect).await?,
         None => String::new(),
     };
     let mut tasks = begin(&worker, listener, statement.into());
