@@ -161,21 +161,18 @@ def holders(it, hosts, seed):
         thread.join(HANG)
         assert not thread.is_alive(), "a holder hangs"
     rows = it.sql("SELECT job, attempt, extract(epoch FROM at) FROM given")
-    given = {(int(job), int(attempt)): float(at) for job, attempt, at in rows}
+    # When the attempt after each was given.
+    after = {(int(job), int(attempt) - 1): float(at) for job, attempt, at in rows}
     failed = set().union(*(it.failed for it in holding))
     told = {attempt: until for it in holding for attempt, until in it.told.items() if attempt not in failed}
-    early = [
-        (attempt, until - given[attempt[0], attempt[1] + 1])
-        for attempt, until in told.items()
-        if given.get((attempt[0], attempt[1] + 1), until) < until
-    ]
+    early = [(attempt, until - after[attempt]) for attempt, until in told.items() if after.get(attempt, until) < until]
     assert not early, f"{len(early)} jobs were given again before what holders were told: {early[:5]}"
     done = [attempt for it in holding for attempt in it.done]
     last = {int(id): int(attempt) for id, attempt in it.sql("SELECT id, attempt FROM jobs")}
     wrong = [attempt for attempt in done if last[attempt[0]] != attempt[1]]
     assert not wrong and len(set(it[0] for it in done)) == len(set(done)), wrong[:5]
     say(
-        f"seed {seed}: {happened}: 1,500 jobs by {len(given)} attempts, {len(told)} of them told until when, "
+        f"seed {seed}: {happened}: 1,500 jobs by {len(after)} attempts, {len(told)} of them told until when, "
         f"none replaced sooner, one of each job done; all {took:.1f} s after it"
     )
 

@@ -58,8 +58,7 @@ pub async fn run(mut database: Database, partitions: Option<usize>) -> Result<()
         delay.wait().await;
     }
     insist(&session, BEGIN).await?;
-    let stands: i32 = session.value(VERSION, &[]).await?;
-    let known = VERSIONS.len() as i32;
+    let (stands, known): (i32, _) = (session.value(VERSION, &[]).await?, VERSIONS.len() as i32);
     if stands > known {
         return Err(format!("the tables have version {stands}, this program knows {known}").into());
     }

@@ -150,8 +150,7 @@ pub async fn run(options: WorkerOptions) -> Result<(), Box<dyn Error>> {
         Some(effect) => effect::statement(&worker.links, effect).await?,
         None => String::new(),
     };
-    let mut tasks = begin(&worker, listener, statement.into());
-    let signals = signals()?;
+    let (mut tasks, signals) = (begin(&worker, listener, statement.into()), signals()?);
     tokio::select! {
         _ = signals.notified() => {}
         ended = &mut tasks.owner => return Ok(ended??),
