@@ -180,13 +180,11 @@ class Cluster:
 
         wait_for(all_owned)
 
-    def living(self):
-        return [it for it in self.processes if it.poll() is None]
-
     def close(self):
-        for process in self.living():
-            # One that was stopped ends, too.
-            kill(process)
+        for process in self.processes:
+            if process.poll() is None:
+                # One that was stopped ends, too.
+                kill(process)
         with contextlib.suppress(AssertionError):
             self.stop("immediate")
         shutil.rmtree(self.room, ignore_errors=True)
@@ -211,12 +209,13 @@ def cluster(settings=(), env=None):
 
 
 def run_cases(cases, settings=()):
-    """Runs cases in one cluster, each with empty tables. The workers that are left of one have to drain."""
+    """Runs cases in one cluster, each with empty tables."""
     with cluster(settings) as it:
         for case in cases:
             empty(it)
             case(it)
-            end(*it.living())
+            # The workers that are left have to drain. One that has ended unseen has failed.
+            end(*(process for process in it.processes if process.returncode is None))
 
 
 @contextlib.contextmanager
@@ -229,6 +228,8 @@ def held(it, *statements):
         while "locked" not in process.stdout.readline():
             assert process.poll() is None, statements
         yield
+        process.stdin.close()
+        process.wait(HANG)
 
 
 def empty(it):

@@ -289,7 +289,8 @@ def pruned(it):
     it.wait_for_number("SELECT count(*) FROM jobs", 3)
     assert it.number(f"{old} AND state = 'dead'") == 0
     end(worker)
-    it.effect(EFFECT, "--keep-done", str(90 * 24 * 3_600_000))
+    for _ in range(3):
+        it.spawn("worker", "--effect", EFFECT, "--keep-done", str(90 * 24 * 3_600_000))
     it.wait_for_number("SELECT count(*) FROM jobs", 2)
     assert it.number(old) == 0
     say("a job that was dead for more than 90 days was pruned, and a done one where it was said")
