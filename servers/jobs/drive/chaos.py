@@ -4,6 +4,7 @@
 
 Effects are had once. What a holder was told of a lease holds, and one attempt of a job alone is done.
 """
+import concurrent.futures
 import contextlib
 import os
 import random
@@ -11,6 +12,7 @@ import signal
 import sys
 import threading
 import time
+from itertools import repeat
 
 from cluster import EFFECT, HANG, cluster, end, exactly_once, free_port, kill, say
 from holder import GONE, Connection, Refusal
@@ -44,39 +46,33 @@ class Host:
         time.sleep(seconds)
         self.process.send_signal(signal.SIGCONT)
 
-    def cut(self, seconds):
-        self.apart.cut()
-        time.sleep(seconds)
-        self.apart.mend()
-
-    def cut_database(self, seconds):
-        self.wire.cut()
-        time.sleep(seconds)
-        self.wire.mend()
-
     def suffer(self, draws, until, happened):
+        harms = {"kill": self.kill, "stop": self.stop, "cut_database": self.wire.cut_for}
+        if self.apart:
+            harms["cut"] = self.apart.cut_for
         while time.monotonic() < until:
             time.sleep(draws.uniform(0.5, 4))
-            what = draws.choice([self.kill, self.stop, self.cut_database, *([self.cut] if self.apart else [])])
-            happened.append(what.__name__)
-            what(draws.uniform(0.5, 8))
+            what = draws.choice(list(harms))
+            happened.append(what)
+            harms[what](draws.uniform(0.5, 8))
 
 
 def trouble(it, hosts, seed):
     """Lets each host suffer for some seconds, and stops the database hard once."""
     until, happened = time.monotonic() + SECONDS, []
-    threads = [
-        threading.Thread(target=host.suffer, args=[random.Random(f"{seed} {number}"), until, happened])
-        for number, host in enumerate(hosts)
-    ]
-    for thread in threads:
-        thread.start()
-    time.sleep(random.Random(seed).uniform(5, 20))
-    it.stop("immediate")
-    it.start()
-    for thread in threads:
-        thread.join()
+    with concurrent.futures.ThreadPoolExecutor(len(hosts)) as pool:
+        draws = [random.Random(f"{seed} {number}") for number in range(len(hosts))]
+        over = pool.map(Host.suffer, hosts, draws, repeat(until), repeat(happened))
+        time.sleep(random.Random(seed).uniform(5, 20))
+        it.stop("immediate")
+        it.start()
+        list(over)
     return ", ".join(f"{happened.count(name)} {name}" for name in ("kill", "stop", "cut", "cut_database"))
+
+
+def ask(address, *words):
+    with contextlib.closing(Connection(address, timeout=3)) as connection:
+        return connection.call(*words)
 
 
 class Holding(threading.Thread):
@@ -93,21 +89,17 @@ class Holding(threading.Thread):
         while not self.ends:
             address = self.draws.choice(self.addresses)
             with contextlib.suppress(*GONE):
-                connection = Connection(address, timeout=3)
-                jobs = connection.call("JOBS.TAKE", 5, "WAIT", 300)
+                jobs = ask(address, "JOBS.TAKE", 5, "WAIT", 300)
                 if isinstance(jobs, list):
-                    for id, attempt, until, _ in jobs:
-                        self.told[id, attempt] = until / 1000
-                    self.hold(address, [(id, attempt) for id, attempt, *_ in jobs])
-                connection.close()
+                    told = {(id, attempt): until / 1000 for id, attempt, until, _ in jobs}
+                    self.told.update(told)
+                    self.hold(address, list(told))
 
     def say(self, address, word, attempt):
         """The answer of whoever owns the job."""
         for _ in range(20):
             try:
-                connection = Connection(address, timeout=3)
-                reply = connection.call(word, *attempt)
-                connection.close()
+                reply = ask(address, word, *attempt)
             except GONE:
                 address, reply = self.draws.choice(self.addresses), Refusal("TRYAGAIN")
             if not isinstance(reply, Refusal) or reply.startswith("FENCED"):
@@ -169,21 +161,18 @@ def holders(it, hosts, seed):
         thread.join(HANG)
         assert not thread.is_alive(), "a holder hangs"
     rows = it.sql("SELECT job, attempt, extract(epoch FROM at) FROM given")
-    given = {(int(job), int(attempt)): float(at) for job, attempt, at in rows}
+    # When the attempt after each was given.
+    after = {(int(job), int(attempt) - 1): float(at) for job, attempt, at in rows}
     failed = set().union(*(it.failed for it in holding))
     told = {attempt: until for it in holding for attempt, until in it.told.items() if attempt not in failed}
-    early = [
-        (attempt, until - given[attempt[0], attempt[1] + 1])
-        for attempt, until in told.items()
-        if given.get((attempt[0], attempt[1] + 1), until) < until
-    ]
+    early = [(attempt, until - after[attempt]) for attempt, until in told.items() if after.get(attempt, until) < until]
     assert not early, f"{len(early)} jobs were given again before what holders were told: {early[:5]}"
     done = [attempt for it in holding for attempt in it.done]
     last = {int(id): int(attempt) for id, attempt in it.sql("SELECT id, attempt FROM jobs")}
     wrong = [attempt for attempt in done if last[attempt[0]] != attempt[1]]
     assert not wrong and len(set(it[0] for it in done)) == len(set(done)), wrong[:5]
     say(
-        f"seed {seed}: {happened}: 1,500 jobs by {len(given)} attempts, {len(told)} of them told until when, "
+        f"seed {seed}: {happened}: 1,500 jobs by {len(after)} attempts, {len(told)} of them told until when, "
         f"none replaced sooner, one of each job done; all {took:.1f} s after it"
     )
 

@@ -38,22 +38,13 @@ def free_port():
         return it.getsockname()[1]
 
 
-def program(name):
-    """A program of PostgreSQL's, which Debian keeps beside its version."""
-    found = sorted(glob.glob(f"/usr/lib/postgresql/*/bin/{name}"), key=lambda it: int(it.split("/")[4]))
-    return found[-1] if found else shutil.which(name)
-
-
-def wait_for(what, every=0.05):
+def wait_for(what, every=0.05, told=""):
     """What comes true."""
     end = time.monotonic() + HANG
-    while True:
-        answer = what()
-        if answer:
-            return answer
-        if time.monotonic() > end:
-            raise AssertionError(f"not within {HANG} s: {what.__doc__ or what.__name__}")
+    while not (answer := what()):
+        assert time.monotonic() < end, f"not within {HANG} s: {told or what.__doc__ or what.__name__}"
         time.sleep(every)
+    return answer
 
 
 def end(*workers):
@@ -97,36 +88,36 @@ class Cluster:
             shutil.chown(self.room, "postgres", "postgres")
         self.data = self.room / "data"
         self.url = f"postgres://jobs@127.0.0.1:{self.port}/postgres"
-        self.as_user([program("initdb"), "-D", self.data, "-U", "jobs", "-A", "trust", "-E", "UTF8", "--locale=C"])
+        self.as_user("initdb", "-D", self.data, "-U", "jobs", "-A", "trust", "-E", "UTF8", "--locale=C")
         paths = [f"unix_socket_directories={self.room}", "listen_addresses=127.0.0.1", f"port={self.port}"]
         sizes = ["shared_buffers=256MB", "max_connections=50", "max_wal_size=4GB"]
         self.options = " ".join(f"-c {it}" for it in [*paths, *sizes, *settings])
 
-    def as_user(self, command, **more):
-        done = subprocess.run([*self.user, *map(str, command)], cwd="/", capture_output=True, text=True, **more)
-        if done.returncode:
-            raise AssertionError(f"{command}: {done.stdout}{done.stderr}")
+    def as_user(self, name, *words, env=None):
+        """Runs a program of PostgreSQL's, which Debian keeps beside its version."""
+        found = sorted(glob.glob(f"/usr/lib/postgresql/*/bin/{name}"), key=lambda it: int(it.split("/")[4]))
+        command = [*self.user, found[-1] if found else name, *map(str, words)]
+        # A server that it starts would keep a pipe of this process open.
+        with open(self.room / "said", "w") as said:
+            done = subprocess.run(command, cwd="/", stdout=said, stderr=said, env=env)
+        logs = (self.room / "said", self.room / "log")
+        assert not done.returncode, (name, words, *[it.read_text()[-2000:] for it in logs if it.exists()])
 
     def start(self):
-        log = self.room / "log"
-        command = [*self.user, program("pg_ctl"), "-D", self.data, "-w", "-t", "300", "-l", log, "-o", self.options, "start"]
-        # The server's own output would keep a pipe of this process open.
-        quiet = {"stdout": subprocess.DEVNULL, "stderr": subprocess.DEVNULL}
-        if subprocess.run(list(map(str, command)), cwd="/", env=self.env, **quiet).returncode:
-            raise AssertionError(f"the server doesn't start: {log.read_text()[-2000:] if log.exists() else command}")
+        words = ["-D", self.data, "-w", "-t", "300", "-l", self.room / "log", "-o", self.options, "start"]
+        self.as_user("pg_ctl", *words, env=self.env)
 
     def stop(self, how="fast"):
-        self.as_user([program("pg_ctl"), "-D", self.data, "-m", how, "-w", "stop"])
+        self.as_user("pg_ctl", "-D", self.data, "-m", how, "-w", "stop")
 
-    def pid(self):
-        return int((self.data / "postmaster.pid").read_text().split()[0])
+    def psql(self, text):
+        command = ["psql", "-X", "-q", "-At", "-F", "\t", "-v", "ON_ERROR_STOP=1", self.url]
+        return subprocess.run(command, input=text, capture_output=True, text=True, timeout=HANG)
 
     def sql(self, text):
         """Rows, as lists of texts."""
-        command = ["psql", "-X", "-q", "-At", "-F", "\t", "-v", "ON_ERROR_STOP=1", self.url]
-        done = subprocess.run(command, input=text, capture_output=True, text=True, timeout=HANG)
-        if done.returncode:
-            raise AssertionError(f"{text}: {done.stderr}")
+        done = self.psql(text)
+        assert not done.returncode, f"{text}: {done.stderr}"
         return [line.split("\t") for line in done.stdout.splitlines()]
 
     def number(self, text):
@@ -134,26 +125,16 @@ class Cluster:
 
     def wait_for_number(self, text, number):
         """A query comes to a number."""
-
-        def is_so():
-            return self.number(text) == number
-
-        is_so.__doc__ = f"{text} is {number}"
-        wait_for(is_so, every=0.2)
+        wait_for(lambda: self.number(text) == number, every=0.2, told=f"{text} is {number}")
 
     def refuses(self, text, why=""):
         """The tables refuse a statement."""
-        try:
-            self.sql(text)
-        except AssertionError as error:
-            assert why in str(error), error
-        else:
-            raise AssertionError(f"{text} is accepted")
+        done = self.psql(text)
+        assert done.returncode and why in done.stderr, (text, done)
 
-    def jobs(self, *words, env=None, url=None):
-        done = run(*words, url=url or self.url, env=env)
-        if done.returncode:
-            raise AssertionError(f"jobs {words}: {done.stderr}")
+    def jobs(self, *words):
+        done = run(*words, url=self.url)
+        assert not done.returncode, f"jobs {words}: {done.stderr}"
         return done.stdout
 
     def enqueue(self, count, delay=0, spread=0, table="jobs"):
@@ -161,10 +142,6 @@ class Cluster:
         due = f"clock_timestamp() + ({delay} + random() * {spread}) * interval '1 second'"
         pieces = [min(1000, count - done) for done in range(0, count, 1000)]
         self.sql("".join(f"INSERT INTO {table} (due) SELECT {due} FROM generate_series(1, {it});" for it in pieces))
-
-    def setup(self):
-        self.jobs("setup")
-        self.sql("CREATE TABLE IF NOT EXISTS effects (job bigint, at timestamptz DEFAULT clock_timestamp())")
 
     def spawn(self, *words, env=None, log=None, url=None, within=()):
         # Without an URL it stands in the environment.
@@ -186,27 +163,19 @@ class Cluster:
         lease = [] if "--lease" in words else ["--lease", LONG]
         worker = self.spawn("worker", "--listen", address, *lease, *words, **more)
         its = f"JOIN jobs_workers w ON w.worker = p.owner AND p.until > now() WHERE w.address = '{address}'"
-
-        def owns_some():
-            """it owns partitions"""
-            assert worker.poll() is None, "it has ended"
-            return self.number(f"SELECT count(*) FROM jobs_partitions p {its}")
-
-        wait_for(owns_some)
+        owned = f"SELECT count(*) FROM jobs_partitions p {its}"
+        wait_for(lambda: worker.poll() is not None or self.number(owned), told="it owns partitions")
+        assert worker.poll() is None, "it has ended"
         return worker, address
 
     def logged(self, log="workers"):
         return (self.room / log).read_text()
 
-    def owned(self, schema="public"):
-        """How many partitions each worker has."""
-        rows = self.sql(f"SELECT count(*) FROM {schema}.jobs_partitions WHERE until > now() GROUP BY owner")
-        return [int(it[0]) for it in rows]
-
     def wait_for_owners(self, workers, partitions=64, schema="public"):
         def all_owned():
             """each partition has an owner, by fair shares"""
-            owned = self.owned(schema)
+            rows = self.sql(f"SELECT count(*) FROM {schema}.jobs_partitions WHERE until > now() GROUP BY owner")
+            owned = [int(it[0]) for it in rows]
             return len(owned) == workers and sum(owned) == partitions and max(owned) - min(owned) <= 1
 
         wait_for(all_owned)
@@ -228,7 +197,8 @@ def cluster(settings=(), env=None):
     it = Cluster(settings, env)
     try:
         it.start()
-        it.setup()
+        it.jobs("setup")
+        it.sql("CREATE TABLE effects (job bigint, at timestamptz DEFAULT clock_timestamp())")
         yield it
     except BaseException:
         with contextlib.suppress(OSError):
@@ -244,20 +214,20 @@ def run_cases(cases, settings=()):
         for case in cases:
             empty(it)
             case(it)
+            # The workers that are left have to drain. One that has ended unseen has failed.
+            end(*(process for process in it.processes if process.returncode is None))
 
 
 @contextlib.contextmanager
 def held(it, *statements):
     """A session in whose open transaction these statements were run."""
     command = ["psql", "-X", "-q", "-At", it.url]
-    process = subprocess.Popen(command, stdin=subprocess.PIPE, stdout=subprocess.PIPE, text=True)
-    process.stdin.write("BEGIN;\n" + "".join(f"{text};\n" for text in statements) + "\\echo locked\n")
-    process.stdin.flush()
-    while "locked" not in process.stdout.readline():
-        assert process.poll() is None, statements
-    try:
+    with subprocess.Popen(command, stdin=subprocess.PIPE, stdout=subprocess.PIPE, text=True) as process:
+        process.stdin.write("BEGIN;\n" + "".join(f"{text};\n" for text in statements) + "\\echo locked\n")
+        process.stdin.flush()
+        while "locked" not in process.stdout.readline():
+            assert process.poll() is None, statements
         yield
-    finally:
         process.stdin.close()
         process.wait(HANG)
 

@@ -1,16 +1,13 @@
 """A holder of leases: takes jobs from workers, beats, and follows a job to the worker that owns it."""
+import functools
 import time
 
 from cluster import HANG, wait_for
 
 from client import GONE, Client, Refusal, packed
 
-
-class Connection(Client):
-    """A holder's, to which payloads are texts."""
-
-    def __init__(self, address, timeout=HANG):
-        super().__init__(address, timeout, is_text=True)
+# A holder's, to which payloads are texts.
+Connection = functools.partial(Client, timeout=HANG, is_text=True)
 
 
 class Job:
@@ -60,10 +57,7 @@ class Holder:
 
     def beat(self, jobs):
         """One beat of each, at the worker that is known to own it."""
-        self.say(jobs, "JOBS.BEAT", self.noted)
-
-    def noted(self, job, until):
-        job.until = until / 1000
+        self.say(jobs, "JOBS.BEAT", lambda job, until: setattr(job, "until", until / 1000))
 
     def say(self, jobs, word, accepted):
         by_address = {}
@@ -81,18 +75,15 @@ class Holder:
                     job.address = others[job.id % len(others)]
                 continue
             for job, reply in zip(its_jobs, replies):
-                self.hear(job, reply, sent, accepted)
-
-    def hear(self, job, reply, sent, accepted):
-        if not isinstance(reply, Refusal):
-            job.sent = sent
-            accepted(job, reply)
-        elif reply.startswith("MOVED "):
-            job.address = reply.split()[2]
-        elif reply.startswith("FENCED "):
-            job.refused = time.time()
-        else:
-            assert reply.startswith("TRYAGAIN "), reply
+                if not isinstance(reply, Refusal):
+                    job.sent = sent
+                    accepted(job, reply)
+                elif reply.startswith("MOVED "):
+                    job.address = reply.split()[2]
+                elif reply.startswith("FENCED "):
+                    job.refused = time.time()
+                else:
+                    assert reply.startswith("TRYAGAIN "), reply
 
     def beat_for(self, jobs, seconds, every):
         end = time.monotonic() + seconds

@@ -81,13 +81,12 @@ def great_payloads(it):
     with open(f"/proc/{worker.pid}/status") as status:
         most = next(int(line.split()[1]) / 1024 for line in status if line.startswith("VmHWM"))
     assert most < 400, f"{most:.0f} MiB"
-    end(worker)
     say(f"a mebibyte came whole; ten holders asked for 100 of them: {counts} were given, by {most:.0f} MiB")
 
 
 def nonsense(it):
     """Clients that say nonsense, and what a web page can send to an address of this machine, harm nobody."""
-    worker, address = it.serve()
+    _, address = it.serve()
     it.enqueue(10)
     host, port = address.split(":")
     body = b"JOBS.TAKE 10\r\n" + b"".join(b"JOBS.DONE %d 1\r\n" % id for id in range(1, 11))
@@ -116,7 +115,6 @@ def nonsense(it):
             assert got.startswith(said) and b"OK" not in got, (text[:30], got)
     assert it.sql("SELECT DISTINCT state, attempt FROM jobs") == [["waiting", "0"]], "a web page did jobs"
     assert Connection(address).call("PING") == "PONG"
-    end(worker)
     say("clients that say nonsense harmed nobody, and what a web page may send did none of 10 jobs")
 
 
@@ -148,7 +146,6 @@ def flood(it):
         thread.join()
     assert it.number("SELECT count(*) FROM jobs WHERE attempt <> 1") == 0 and worker.poll() is None
     assert it.sql(f"SELECT pid {sessions} ORDER BY 1") == before, "a session was given up"
-    end(worker)
     say(f"{sent[0]} false notifications beside 5,000 jobs: each done once; ms late p50, p99, max: {lateness(it)}")
 
 
@@ -172,7 +169,6 @@ def taken_away(it):
     it.sql("UPDATE jobs_partitions SET owner = NULL, until = '-infinity'")
     it.wait_for_owners(1)
     assert set(Connection(address).calls([("JOBS.DONE", job.id, 1) for job in jobs])) == {"OK"}
-    end(worker)
     say("a worker whose partitions another had taken changed nothing by 90 words of its holders")
 
 
@@ -185,12 +181,11 @@ def vanished_host(it):
     Connection(lost_address).socket.sendall(packed("JOBS.TAKE", 50, "WAIT", WAIT))
     wait_for(lambda: not wire.whole.is_set())
     begun = time.monotonic()
-    other, address = it.serve("--name", "other")
+    _, address = it.serve("--name", "other")
     given = len(Holder([address]).take(100))
     took = time.monotonic() - begun
     assert not wire.whole.is_set(), "the host is back"
     kill(lost)
-    end(other)
     wire.mend()
     say(f"a host vanished while jobs were sent to it; another gave {given}, {took:.1f} s later")
 
@@ -207,7 +202,7 @@ def frozen_host(it):
     wait_for(lambda: it.number("SELECT count(*) FROM jobs WHERE state = 'running'") > 0, every=0.001)
     worker.send_signal(signal.SIGSTOP)
     begun = time.monotonic()
-    other, address = it.serve("--name", "other", *words)
+    _, address = it.serve("--name", "other", *words)
     holder = Holder([address])
     # Others have its jobs while it stands still: nobody waits for it.
     holder.take(60, also=lambda: holder.beat(holder.jobs.values()))
@@ -235,7 +230,6 @@ def frozen_host(it):
     assert all(word.startswith("FENCED") for word in said), said
     holder.end()
     assert done(it) == 100, done(it)
-    end(worker, other)
     say(
         f"a worker stood still within a take; another gave what waits {took:.1f} s later, and of {len(late)} jobs in its late "
         "answer none was ended by it"
@@ -269,15 +263,14 @@ def locked_leases(it):
     rows are locked when their leases end, which come back after it."""
     it.sql("ALTER ROLE jobs SET lock_timeout = '100ms'")
     words = ["--lease", "6000", "--write-every", "1000", "--lock-timeout", "100"]
-    worker, address = it.serve(*words)
+    _, address = it.serve(*words)
     it.enqueue(60)
     holder = Holder([address])
     jobs = holder.take(60)
     row = jobs[0].id
     with held(it, f"SELECT FROM jobs WHERE id = {row} FOR UPDATE"):
         holder.beat_for(jobs, 4, 0.3)
-        second, its_address = it.serve(*words)
-        holder.addresses.append(its_address)
+        holder.addresses.append(it.serve(*words)[1])
         holder.beat_for(jobs, 6, 0.3)
         assert holder.jobs[row].until < time.time() + 1, "a lease that can't be written is promised"
     holder.beat_for(jobs, 4, 0.3)
@@ -289,14 +282,13 @@ def locked_leases(it):
         time.sleep(1)
     again = Holder(holder.addresses).take(60)
     assert all(job.attempt > 1 for job in again)
-    end(worker, second)
     it.sql("ALTER ROLE jobs RESET lock_timeout")
     say(f"with one lease's row locked {59 - lost} of 59 that beat kept theirs; all came back that were locked at their ends")
 
 
 def old_snapshot(it):
     """A transaction is left open, so that rows that are over stay: the readings don't come to them again and again."""
-    worker = it.effect()
+    it.effect()
     with held(it, "SET TRANSACTION ISOLATION LEVEL REPEATABLE READ", "SELECT count(*) FROM jobs"):
         it.enqueue(150000)
         wait_for(lambda: done(it) == 150000, every=0.5)
@@ -309,7 +301,6 @@ def old_snapshot(it):
         time.sleep(6)
         pages = it.number(read) / (time.monotonic() - begun)
     exactly_once(it, 150000)
-    end(worker)
     assert pages < 1500, f"{pages:.0f} pages of the index a second"
     say(f"beside an old snapshot and 150,000 jobs that are over, {pages:.0f} pages of the index are read a second")
 
@@ -317,13 +308,12 @@ def old_snapshot(it):
 def old_statistics(it):
     """A table that was filled since it was analyzed: jobs are taken by their ids, and not out of all that is due."""
     it.sql("ALTER TABLE jobs SET (autovacuum_enabled = off); VACUUM ANALYZE jobs")
-    worker = it.effect()
+    it.effect()
     it.enqueue(60000, delay=2, spread=12)
     it.sql("SELECT pg_stat_reset()")
     exactly_once(it, 60000)
     time.sleep(1)
     read = it.number("SELECT sum(idx_tup_read) FROM pg_stat_user_indexes WHERE indexrelname = 'jobs_waiting'") / 60000
-    end(worker)
     it.sql("ALTER TABLE jobs RESET (autovacuum_enabled)")
     assert read < 20, f"{read:.0f} entries of the index of what waits were read for each job"
     say(f"with old statistics {read:.1f} entries of the index of what waits are read for each job")

@@ -5,9 +5,17 @@ import selectors
 import socket
 import subprocess
 import threading
+import time
 
 
-class Wire:
+class Link:
+    def cut_for(self, seconds):
+        self.cut()
+        time.sleep(seconds)
+        self.mend()
+
+
+class Wire(Link):
     """A way to a port that is cut and mended: while it is cut nothing goes through, and nobody is told."""
 
     def __init__(self, port, host="127.0.0.1"):
@@ -52,7 +60,7 @@ class Wire:
         return url.replace(f"127.0.0.1:{self.target}/", f"{self.address}/")
 
 
-class Apart:
+class Apart(Link):
     """A network namespace, whose link to this one can be cut: packets are lost then, as between two hosts."""
 
     def __init__(self, number=0):
@@ -67,8 +75,8 @@ class Apart:
         self.ip("link", "add", self.link, "type", "veth", "peer", "name", "guest", "netns", self.name)
         self.ip("addr", "add", f"{self.host}/30", "dev", self.link)
         self.ip("link", "set", self.link, "up")
-        for words in (["addr", "add", f"{self.guest}/30", "dev", "guest"], ["link", "set", "guest", "up"]):
-            self.ip("-n", self.name, *words)
+        self.ip("-n", self.name, "addr", "add", f"{self.guest}/30", "dev", "guest")
+        self.ip("-n", self.name, "link", "set", "guest", "up")
         return self
 
     def __exit__(self, *_):
@@ -79,15 +87,14 @@ class Apart:
 
     def cut(self):
         # A frame for an address that nobody has is lost. A link that is down would be noticed.
-        for where, way in self.ways():
-            self.ip(*where, "neigh", "replace", *way, "lladdr", "02:00:00:00:00:99", "nud", "permanent")
+        self.neighbours("replace", "lladdr", "02:00:00:00:00:99", "nud", "permanent")
 
     def mend(self):
-        for where, way in self.ways():
-            self.ip(*where, "neigh", "del", *way)
+        self.neighbours("del")
 
-    def ways(self):
-        return [([], [self.guest, "dev", self.link]), (["-n", self.name], [self.host, "dev", "guest"])]
+    def neighbours(self, verb, *more):
+        self.ip("neigh", verb, self.guest, "dev", self.link, *more)
+        self.ip("-n", self.name, "neigh", verb, self.host, "dev", "guest", *more)
 
     @property
     def within(self):

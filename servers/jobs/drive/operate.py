@@ -45,9 +45,8 @@ def older_tables(it):
     with held(it, "INSERT INTO older.jobs (state, due) VALUES ('waiting', '2100-01-01')"):
         assert "stands" in it.jobs("setup", "--schema", "older")
     effect = "INSERT INTO public.effects (job) SELECT id FROM taken"
-    worker = it.spawn("worker", "--schema", "older", "--effect", effect)
+    it.spawn("worker", "--schema", "older", "--effect", effect)
     it.wait_for_number("SELECT count(*) FROM older.jobs WHERE state = 'done'", inserts + 1)
-    end(worker)
     say(
         f"tables of the first form were changed beside {inserts} inserts, of which none waited {longest:.1f} s, and "
         "all jobs were done; a second setup beside an open insert had nothing to wait for"
@@ -57,7 +56,7 @@ def older_tables(it):
 def kinds(it):
     """Holders take the kinds that they name, in the order of priority; retries go by the kind and by the job."""
     numbers = free_port()
-    worker, address = it.serve("--attempts", "2", "--metrics", f"127.0.0.1:{numbers}")
+    _, address = it.serve("--attempts", "2", "--metrics", f"127.0.0.1:{numbers}")
     it.sql(
         "INSERT INTO jobs_kinds (kind, attempts, first_delay) VALUES ('mail', 3, 0.01); "
         "INSERT INTO jobs (kind, priority, payload) SELECT 'mail', i % 3, i % 3 FROM generate_series(1, 30) i; "
@@ -88,7 +87,6 @@ def kinds(it):
         pass
     order = [job[3] for _ in range(3) for job in asks.call("JOBS.TAKE", 10, "KIND", "mail")]
     assert order == sorted(order, reverse=True) and len(order) == 30, order
-    end(worker)
     say("kinds, priorities and retries by kind and by job do as they are told")
 
 
@@ -109,7 +107,7 @@ def unique(it):
 def schedules(it):
     """A schedule enqueues each of its jobs once, while workers are killed; what it missed comes once."""
     it.sql("INSERT INTO jobs_schedules (name, cron, payload) VALUES ('yearly', '0 0 1 1 *', 'beat')")
-    words = ["worker", "--effect", EFFECT, "--keep-done", "3600000"]
+    words = ["worker", "--effect", EFFECT]
     workers = [it.spawn(*words) for _ in range(3)]
     it.wait_for_owners(3)
     fired = 8
@@ -122,13 +120,7 @@ def schedules(it):
         it.wait_for_number("SELECT count(*) FROM effects", number + 1)
     time.sleep(2)
     assert it.number("SELECT count(*) FROM jobs WHERE payload = 'beat' AND due <= now()") == fired
-    # Those that were done an hour ago are pruned, and no other.
-    old = it.number("SELECT count(*) FROM jobs WHERE state = 'done' AND id % 2 = 0")
-    it.sql("UPDATE jobs SET ended = ended - interval '1 hour' WHERE id % 2 = 0; DELETE FROM jobs_schedules")
-    it.wait_for_number("SELECT count(*) FROM jobs WHERE ended < now() - interval '1 hour'", 0)
-    assert old and it.number("SELECT count(*) FROM jobs WHERE state = 'done'") == fired - old
-    end(*workers)
-    say(f"a schedule fired {fired} times, each once though workers were killed; old done jobs were pruned")
+    say(f"a schedule fired {fired} times, each once though workers were killed")
 
 
 def status(it):

@@ -27,7 +27,7 @@ def times(pid):
 
 
 def database_seconds(it):
-    parent = it.pid()
+    parent = int((it.data / "postmaster.pid").read_text().split()[0])
     children = pathlib.Path(f"/proc/{parent}/task/{parent}/children").read_text().split()
     total = sum(times(parent))
     for child in children:
@@ -38,24 +38,20 @@ def database_seconds(it):
 
 
 def used(it, workers):
-    """The processor seconds of the workers and of the database so far."""
-    return sum(times(it.pid)[0] for it in workers), database_seconds(it)
-
-
-def stolen():
-    """The processor seconds so far that other machines took of this one's."""
-    return int(pathlib.Path("/proc/stat").read_text().split(maxsplit=9)[8]) / HERTZ
+    """The processor seconds so far of the workers, of the database, and those that other machines took of this one's."""
+    stolen = int(pathlib.Path("/proc/stat").read_text().split(maxsplit=9)[8]) / HERTZ
+    return sum(times(it.pid)[0] for it in workers), database_seconds(it), stolen
 
 
 def load(it, rate):
     it.sql("TRUNCATE jobs; TRUNCATE effects; CHECKPOINT")
     workers = [it.spawn("worker", "--name", f"w{number}", "--effect", EFFECT) for number in range(WORKERS)]
     it.wait_for_owners(WORKERS)
-    begun, before = time.monotonic(), (*used(it, workers), stolen())
+    begun, before = time.monotonic(), used(it, workers)
     it.enqueue(rate * SECONDS, delay=4, spread=SECONDS)
     time.sleep(SECONDS)
     it.wait_for_number("SELECT count(*) FROM jobs WHERE state = 'waiting'", 0)
-    took, after = time.monotonic() - begun, (*used(it, workers), stolen())
+    took, after = time.monotonic() - begun, used(it, workers)
     end(*workers)
     return [*map(float, lateness(it).split()), *[(now - then) / took for now, then in zip(after, before)]]
 

@@ -22,12 +22,11 @@ def sorts(it):
     # It stands still until its terms are over, and another of the other sort comes meanwhile: awake it ends.
     left.send_signal(signal.SIGSTOP)
     words = ["--effect", EFFECT] if left is both[1] else ["--listen", f"127.0.0.1:{free_port()}"]
-    new = it.spawn("worker", *words)
+    it.spawn("worker", *words)
     it.wait_for_number(f"SELECT count(*) FROM jobs_workers WHERE until > now() AND (address = '-') = {left is both[1]}", 1)
     left.send_signal(signal.SIGCONT)
     wait_for(lambda: left.poll() == 1)
     it.wait_for_owners(1)
-    end(new)
     say("of two workers of both sorts one was refused, and one that had stood still, once it was awake")
 
 
@@ -43,7 +42,7 @@ def follow(address, *words):
 
 def many_kinds(it):
     """Three workers and 1,000 kinds: a holder that asks one worker for one of these has it, while the others wait."""
-    workers, addresses = zip(*[it.serve() for _ in range(3)])
+    addresses = [it.serve()[1] for _ in range(3)]
     it.wait_for_owners(3)
     it.sql("INSERT INTO jobs (kind) SELECT 'k' || i FROM generate_series(1, 1000) i")
     kinds, moved = [f"k{number}" for number in range(1, 1000, 25)], 0
@@ -59,7 +58,6 @@ def many_kinds(it):
         return not kinds
 
     wait_for(all_given)
-    end(*workers)
     say(f"a holder that asked one of three workers had each of 40 of 1,000 kinds, sent on {moved} times")
 
 
@@ -73,18 +71,17 @@ def silent(it):
     refused = Connection(address).reply()
     assert refused == "ERR max number of clients reached", refused
     end(worker)
-    worker, address = it.serve("--clients", "1", "--timeout", "500")
+    _, address = it.serve("--clients", "1", "--timeout", "500")
     held.append(Connection(address))
     wait_for(lambda: Connection(address).call("PING") == "PONG")
     # Who waits for a job isn't silent, once the last one's place is free.
     wait_for(lambda: Connection(address).call("JOBS.TAKE", 1, "WAIT", 1500) == [])
-    end(worker)
     say("a silent holder was closed, and another had its place")
 
 
 def ends(it):
     """A holder is told the end of its lease as the table has it, by the database's clock."""
-    worker, address = it.serve("--write-every", "300")
+    _, address = it.serve("--write-every", "300")
     it.enqueue(1)
     asks = Connection(address)
     ((id, attempt, until, _),) = asks.call("JOBS.TAKE", 1, "WAIT", WAIT)
@@ -98,13 +95,12 @@ def ends(it):
     # A deleted job is nobody's, also where the worker hears it from its own write alone.
     it.sql("DELETE FROM jobs")
     wait_for(lambda: str(asks.call("JOBS.BEAT", id, attempt)).startswith("FENCED"))
-    end(worker)
     say("a holder was told the end of its lease as the table has it, and that its job was deleted")
 
 
 def cancelled(it):
     """A job is cancelled while it waits, runs, or is over."""
-    worker, address = it.serve("--write-every", str(int(LONG) // 2))
+    _, address = it.serve("--write-every", str(int(LONG) // 2))
     it.sql("INSERT INTO jobs (due) SELECT now() + i * interval '1 hour' FROM generate_series(0, 1) i")
     asks = Connection(address)
     ((id, attempt, *_),) = asks.call("JOBS.TAKE", 1, "WAIT", WAIT)
@@ -117,25 +113,38 @@ def cancelled(it):
     assert it.sql(f"SELECT jobs_cancel({id})") == [["f"]]
     assert it.number("SELECT jobs_retry()") == 0
     assert it.number(f"SELECT jobs_retry(ARRAY[{id}])") == 1
-    (((again, *_),),) = [asks.call("JOBS.TAKE", 1, "WAIT", WAIT)]
+    ((again, *_),) = asks.call("JOBS.TAKE", 1, "WAIT", WAIT)
     assert again == id
-    end(worker)
     say("a job that ran and one that waited were cancelled, and the holder told")
+
+
+def take_all(asks, count, *words):
+    """So many jobs are given, and no more."""
+    got = []
+    wait_for(lambda: got.extend(asks.call("JOBS.TAKE", 100, "WAIT", 1000, *words)) or len(got) >= count)
+    assert len(got) == count, got
+
+
+def slow_and_quick(it, column, value):
+    """200,000 jobs of a slow kind, more than a worker holds in memory, are due before 50 quick ones."""
+    it.sql(
+        f"INSERT INTO jobs_kinds (kind, {column}) VALUES ('slow', {value}); "
+        "INSERT INTO jobs (kind, due) SELECT 'slow', now() - interval '1 hour' FROM generate_series(1, 200000); "
+        "INSERT INTO jobs (kind) SELECT 'quick' FROM generate_series(1, 50)"
+    )
 
 
 def changed_kind(it):
     """A job whose kind is changed goes to holders of the new one, whether it is in memory already or not."""
     metrics = free_port()
-    worker, address = it.serve("--metrics", f"127.0.0.1:{metrics}")
+    _, address = it.serve("--metrics", f"127.0.0.1:{metrics}")
     it.sql("INSERT INTO jobs (kind) SELECT 'old' FROM generate_series(1, 5)")
     wait_for(lambda: metric(metrics, "jobs_indexed") == 5)
     it.sql("UPDATE jobs SET kind = 'new'")
     asks = Connection(address)
     assert asks.call("JOBS.TAKE", 5, "KIND", "old") == []
-    got = []
-    wait_for(lambda: got.extend(asks.call("JOBS.TAKE", 5, "WAIT", 1000, "KIND", "new")) or len(got) == 5)
+    take_all(asks, 5, "KIND", "new")
     assert asks.call("JOBS.TAKE", 5, "KIND", "old") == []
-    end(worker)
     say("five jobs whose kind was changed went to a holder of the new one")
 
 
@@ -143,26 +152,21 @@ def paused(it):
     """Jobs of a paused kind wait, however many are due before others, and go on after it."""
     for effect in (True, False):
         empty(it)
-        it.sql("INSERT INTO jobs_kinds (kind, paused) VALUES ('slow', true)")
-        # More than a worker holds in memory.
-        it.sql(
-            "INSERT INTO jobs (kind, due) SELECT 'slow', now() - interval '1 hour' FROM generate_series(1, 200000); "
-            "INSERT INTO jobs (kind) SELECT 'quick' FROM generate_series(1, 50)"
-        )
+        slow_and_quick(it, "paused", "true")
         if effect:
-            worker = it.spawn("worker", "--effect", EFFECT)
+            worker = it.effect()
             exactly_once(it, 50)
         else:
             worker, address = it.serve()
-            asks, got = Connection(address), []
-            wait_for(lambda: got.extend(asks.call("JOBS.TAKE", 50, "WAIT", 1000)) or len(got) == 50)
+            asks = Connection(address)
+            take_all(asks, 50)
         assert it.sql("SELECT DISTINCT state, attempt FROM jobs WHERE kind = 'slow'") == [["waiting", "0"]]
         it.sql("DELETE FROM jobs WHERE kind = 'slow' AND id % 100 <> 0; UPDATE jobs_kinds SET paused = false")
         left = it.number("SELECT count(*) FROM jobs WHERE kind = 'slow'")
         if effect:
             exactly_once(it, 50 + int(left))
         else:
-            wait_for(lambda: got.extend(asks.call("JOBS.TAKE", 100, "WAIT", 1000)) or len(got) == 50 + left)
+            take_all(asks, left)
         # What is paused while it stands in memory isn't given either.
         it.sql("UPDATE jobs_kinds SET paused = true")
         it.sql("INSERT INTO jobs (kind) VALUES ('slow'), ('quick')")
@@ -174,12 +178,8 @@ def paused(it):
 
 def bounded(it):
     """So many jobs of a kind run at a time over all workers, and those that wait keep no other."""
-    it.sql(
-        "INSERT INTO jobs_kinds (kind, at_most) VALUES ('slow', 3); "
-        "INSERT INTO jobs (kind, due) SELECT 'slow', now() - interval '1 hour' FROM generate_series(1, 200000); "
-        "INSERT INTO jobs (kind) SELECT 'quick' FROM generate_series(1, 50)"
-    )
-    workers, addresses = zip(*[it.serve() for _ in range(2)])
+    slow_and_quick(it, "at_most", 3)
+    addresses = [it.serve()[1] for _ in range(2)]
     it.wait_for_owners(2)
     slow, quick, most = [], [], 0
     over = 0
@@ -204,7 +204,6 @@ def bounded(it):
 
     wait_for(all_had)
     assert most == 3, most
-    end(*workers)
     say(f"{most:.0f} of a bounded kind ran at a time, and 50 others beside 200,000 of it")
 
 
@@ -217,7 +216,8 @@ def bounded_effects(it):
         "INSERT INTO jobs_kinds (kind, at_most, most_delay) VALUES ('slow', 1, 1)"
     )
     wire = Wire(it.port)
-    workers = [it.spawn("worker", "--effect", "SELECT alone(id) FROM taken", url=url) for url in (it.url, wire.url(it.url))]
+    for url in (it.url, wire.url(it.url)):
+        it.spawn("worker", "--effect", "SELECT alone(id) FROM taken", url=url)
     its = "FROM pg_stat_activity WHERE application_name LIKE 'jobs-work%' AND state = 'active' AND query LIKE '%alone%'"
     count = cuts = 0
     while cuts < 6:
@@ -230,13 +230,10 @@ def bounded_effects(it):
         if cuts % 2:
             it.sql(f"SELECT pg_terminate_backend(pid) {its}")
         else:
-            wire.cut()
-            time.sleep(1)
-            wire.mend()
+            wire.cut_for(1)
         cuts += 1
     exactly_once(it, count)
     assert it.sql("SELECT is_called FROM beside") == [["f"]], "two effects of the kind were had at once"
-    end(*workers)
     say(f"{count} effects of a bounded kind were had one after another, though sessions were ended and cut off {cuts} times")
 
 
@@ -250,10 +247,10 @@ def long_names(it):
         'ALTER TABLE "select".jobs ALTER COLUMN id RESTART WITH 9000000000000000000; '
         "INSERT INTO \"select\".jobs (kind) SELECT repeat('k', 40) FROM generate_series(1, 400)"
     )
-    workers = [it.spawn("worker", "--schema", "select", "--effect", "SELECT FROM taken") for _ in range(7)]
+    for _ in range(7):
+        it.spawn("worker", "--schema", "select", "--effect", "SELECT FROM taken")
     it.wait_for_owners(7, 200, '"select"')
     it.wait_for_number("SELECT count(*) FROM \"select\".jobs WHERE state = 'done'", 400)
-    end(*workers)
     say("the schema select had 200 partitions over 7 workers, and jobs whose ids have 19 digits and whose kinds 40 letters")
 
 
@@ -276,9 +273,8 @@ def odd_rows(it):
     )
     assert it.sql("SELECT jobs_is_last(1000000000, 2000000000, '', 25)") == [["t"]], "it waits again"
     it.sql("INSERT INTO jobs (attempt) VALUES (999999999)")
-    worker = it.effect()
+    it.effect()
     exactly_once(it, 152)
-    end(worker)
     say("jobs that were due before 1970 were done, and rows that can't be counted on are refused")
 
 
@@ -288,11 +284,16 @@ def pruned(it):
         "INSERT INTO jobs (state, due, ended) SELECT state, now(), now() - days * interval '1 day' "
         "FROM unnest(ARRAY['dead', 'done']) state, unnest(ARRAY[89, 91]) days"
     )
-    worker = it.spawn("worker", "--effect", EFFECT)
+    old = "SELECT count(*) FROM jobs WHERE ended < now() - interval '90 days'"
+    worker = it.effect()
     it.wait_for_number("SELECT count(*) FROM jobs", 3)
-    assert it.number("SELECT count(*) FROM jobs WHERE state = 'dead' AND ended < now() - interval '90 days'") == 0
+    assert it.number(f"{old} AND state = 'dead'") == 0
     end(worker)
-    say("a job that was dead for more than 90 days was pruned")
+    for _ in range(3):
+        it.spawn("worker", "--effect", EFFECT, "--keep-done", str(90 * 24 * 3_600_000))
+    it.wait_for_number("SELECT count(*) FROM jobs", 2)
+    assert it.number(old) == 0
+    say("a job that was dead for more than 90 days was pruned, and a done one where it was said")
 
 
 def delays(it):

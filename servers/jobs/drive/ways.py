@@ -5,8 +5,7 @@ import shutil
 import subprocess
 import time
 
-from cluster import EFFECT, HANG, WAIT, Cluster, empty, end, exactly_once, free_port, program, run, run_cases, say
-from cluster import wait_for
+from cluster import EFFECT, HANG, WAIT, Cluster, empty, end, exactly_once, free_port, run, run_cases, say, wait_for
 from holder import Connection, Holder
 
 
@@ -14,7 +13,7 @@ def password(it):
     """Holders have to say a password before all else."""
     file = it.room / "password"
     file.write_text("open sesame\nand no more\n")
-    worker, address = it.serve("--password-file", str(file))
+    _, address = it.serve("--password-file", str(file))
     it.enqueue(3)
     asks = Connection(address)
     for words, said in [
@@ -31,7 +30,6 @@ def password(it):
     both = Connection(address).calls([("PING",), ("AUTH", "open sesame"), ("PING",)])
     assert both == ["NOAUTH Authentication required.", "OK", "PONG"], both
     assert "sesame" not in it.logged()
-    end(worker)
     say("a holder that didn't say the password was refused each word")
 
 
@@ -110,7 +108,7 @@ def standby(first, room):
     second.url = f"postgres://jobs@127.0.0.1:{second.port}/postgres"
     second.options = first.options.replace(f"port={first.port}", f"port={second.port}")
     name = f"host=127.0.0.1 port={first.port} user=jobs application_name=second"
-    first.as_user([program("pg_basebackup"), "-D", second.data, "-R", "-X", "stream", "-d", name])
+    first.as_user("pg_basebackup", "-D", second.data, "-R", "-X", "stream", "-d", name)
     second.start()
     first.sql("ALTER SYSTEM SET synchronous_standby_names = 'second'")
     first.sql("SELECT pg_reload_conf()")
@@ -131,7 +129,7 @@ def failover(it):
         it.stop("immediate")
         time.sleep(1)
         begun = time.time()
-        it.as_user([program("pg_ctl"), "-D", second.data, "-w", "promote"])
+        it.as_user("pg_ctl", "-D", second.data, "-w", "promote")
         exactly_once(second, 10000)
         after = f"SELECT extract(epoch FROM min(started)) FROM jobs WHERE started > to_timestamp({begun})"
         back = second.number(after) - begun

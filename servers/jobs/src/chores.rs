@@ -72,7 +72,7 @@ async fn enqueue(worker: &Worker, bad: &mut HashMap<String, Instant>) -> Result<
     loop {
         let left: Vec<String> = bad.keys().cloned().collect();
         let some = match enqueue_of(worker, &left, None).await {
-            Some(Err((Whose::Schedule, _))) => one_by_one(worker, &left, bad).await?,
+            Some(Err((Whose::Row, _))) => one_by_one(worker, &left, bad).await?,
             Some(answer) => answer.map_err(|it| it.1)?.len(),
             None => return Ok(()),
         };
@@ -92,7 +92,7 @@ async fn one_by_one(worker: &Worker, left: &[String], bad: &mut HashMap<String, 
         let name: String = row.get(0);
         if let Some(Err((whose, error))) = enqueue_of(worker, &[], Some(&name)).await {
             tell(format_args!("the job of schedule {name} isn't enqueued: {error}"));
-            if whose != Whose::Schedule {
+            if whose != Whose::Row {
                 return Err(error);
             }
             bad.insert(name, Instant::now());

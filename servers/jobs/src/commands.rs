@@ -27,39 +27,38 @@ pub enum Command {
     Beat(Attempt),
     Done(Attempt),
     Fail(Attempt, String),
-    Ping,
     Time,
-    /// What clients ask of a server of the protocol before they begin.
-    Commands,
     /// A password, with which a holder begins where the worker wants one.
     Auth(Vec<u8>),
-    Quit,
     /// What a web page's request begins with, and what follows in it: no client of this protocol sends them.
     Attack,
-    Refused(String),
+    /// What has one answer, and what is refused.
+    Answer(Reply),
+    /// What is no request, or the client's last one: the connection is closed after its answer.
+    Last(Reply),
 }
 
 impl Command {
     pub fn of(args: Args) -> Command {
-        let Some((name, args)) = args.split_first() else {
-            return Command::Refused("ERR there is no command".to_owned());
-        };
+        let refused = |why: String| Command::Answer(Reply::Error(why));
+        let Some((name, args)) = args.split_first() else { return refused("ERR there is no command".to_owned()) };
         let name = name.to_ascii_uppercase();
         let command = match &name[..] {
             b"JOBS.TAKE" => take(args),
             b"JOBS.BEAT" => attempt(args, 2).map(Command::Beat),
             b"JOBS.DONE" => attempt(args, 2).map(Command::Done),
             b"JOBS.FAIL" => attempt(args, 3).map(|it| Command::Fail(it, reason(args.get(2)))),
-            b"PING" => Some(Command::Ping),
+            b"PING" => Some(Command::Answer(Reply::Status("PONG"))),
             b"TIME" => Some(Command::Time),
-            b"COMMAND" => Some(Command::Commands),
+            // Clients ask it of a server of the protocol before they begin.
+            b"COMMAND" => Some(Command::Answer(Reply::Array(Vec::new()))),
             // Clients may name a user before it, as Redis has them.
             b"AUTH" if (1..=2).contains(&args.len()) => args.last().cloned().map(Command::Auth),
-            b"QUIT" => Some(Command::Quit),
+            b"QUIT" => Some(Command::Last(Reply::Status("OK"))),
             b"POST" | b"HOST:" => Some(Command::Attack),
-            _ => return Command::Refused(format!("ERR there is no command {}", shown(&name))),
+            _ => return refused(format!("ERR there is no command {}", shown(&name))),
         };
-        command.unwrap_or_else(|| Command::Refused(format!("ERR wrong arguments of {}", shown(&name))))
+        command.unwrap_or_else(|| refused(format!("ERR wrong arguments of {}", shown(&name))))
     }
 }
 
@@ -163,7 +162,7 @@ mod tests {
             "JOBS.DONE 17 2 3",
             "SET a b",
         ] {
-            assert!(matches!(command(line), Command::Refused(_)), "{line}");
+            assert!(matches!(command(line), Command::Answer(Reply::Error(_))), "{line}");
         }
     }
 }

@@ -3,18 +3,18 @@
 
 use crate::fault::{Asked, Error, Whose};
 use crate::metrics::Metrics;
-use crate::sql;
+use crate::{enter, sql};
 use std::collections::HashMap;
 use std::future::{poll_fn, Future};
 use std::sync::atomic::{AtomicBool, AtomicUsize, Ordering::SeqCst};
-use std::sync::{Arc, Mutex, MutexGuard, PoisonError};
+use std::sync::{Arc, Mutex};
 use std::time::Duration;
-use tokio::sync::mpsc::{unbounded_channel, UnboundedReceiver, UnboundedSender};
+use tokio::sync::mpsc::{unbounded_channel, UnboundedSender};
 use tokio::task::JoinHandle;
 use tokio::time::timeout;
 use tokio_postgres::error::SqlState;
 use tokio_postgres::tls::NoTlsStream;
-use tokio_postgres::types::ToSql;
+use tokio_postgres::types::{FromSqlOwned, ToSql};
 use tokio_postgres::{AsyncMessage, Client, Config, Connection, NoTls, Row, SimpleQueryMessage, Socket, Statement};
 
 pub type Param<'p> = &'p (dyn ToSql + Sync);
@@ -53,13 +53,10 @@ impl Database {
     }
 
     fn settings(&self) -> String {
-        let path = match &self.schema {
-            None => String::new(),
-            Some(schema) => format!(
-                "SELECT set_config('search_path', concat_ws(',', '\"{schema}\"', \
-                 nullif(current_setting('search_path'), '')), false);"
-            ),
-        };
+        let path = self.schema.as_ref().map_or(String::new(), |schema| {
+            let then = "nullif(current_setting('search_path'), '')";
+            format!("SELECT set_config('search_path', concat_ws(',', '\"{schema}\"', {then}), false);")
+        });
         // A plan that was made for any ids would look for them among all that is due, which takes a second.
         format!(
             "SET plan_cache_mode = force_custom_plan; SET statement_timeout = {}; SET lock_timeout = {}; SET tcp_user_timeout = {}; \
@@ -90,8 +87,7 @@ async fn greet(database: &Database) -> Result<(Client, (String, String)), Error>
         Some(SimpleQueryMessage::Row(row)) => row.get(column).unwrap_or_default().to_owned(),
         _ => String::new(),
     };
-    let answer = (text(0), text(1));
-    Ok((client, answer))
+    Ok((client, (text(0), text(1))))
 }
 
 /// A session, with the statements that it has prepared.
@@ -160,7 +156,12 @@ impl Session {
         self.limited(self.client.query(&statement, params)).await
     }
 
-    /// The same, and whose fault it is where there is no answer. Only what the database refuses to read is the statement's.
+    /// The first value of the one row that a statement gives.
+    pub async fn value<T: FromSqlOwned>(&self, sql: &str, params: &[Param<'_>]) -> Result<T, Error> {
+        Ok(self.query(sql, params).await?[0].get(0))
+    }
+
+    /// Rows, or whose fault it is that there are none. Only what the database refuses to read is the statement's.
     /// The first parameter of what is asked for jobs is the worker's number.
     async fn query_rows(&self, sql: &str, params: &[Param<'_>], asked: Asked) -> Result<Vec<Row>, (Whose, Error)> {
         let own = |error: Error| (error.whose(Asked::Own), error);
@@ -177,7 +178,7 @@ impl Session {
             Err(error) => error,
         };
         if error.may_be_of_reading() {
-            self.known().remove(sql);
+            enter(&self.prepared).remove(sql);
             self.prepare(sql).await.map_err(own)?;
         }
         Err((error.whose(asked), error))
@@ -192,17 +193,13 @@ impl Session {
         self.is_given_up.load(SeqCst) || self.client.is_closed()
     }
 
-    fn known(&self) -> MutexGuard<'_, HashMap<String, Statement>> {
-        self.prepared.lock().unwrap_or_else(PoisonError::into_inner)
-    }
-
     async fn prepare(&self, sql: &str) -> Result<Statement, Error> {
-        let known = self.known().get(sql).cloned();
+        let known = enter(&self.prepared).get(sql).cloned();
         if let Some(statement) = known {
             return Ok(statement);
         }
         let statement = self.limited(self.client.prepare(sql)).await?;
-        self.known().insert(sql.to_owned(), statement.clone());
+        enter(&self.prepared).insert(sql.to_owned(), statement.clone());
         Ok(statement)
     }
 }
@@ -216,17 +213,10 @@ async fn drive(mut connection: Connection<Socket, NoTlsStream>, told: UnboundedS
     }
 }
 
-/// Notifications for a session that listens to none.
-fn deaf() -> UnboundedSender<String> {
-    unbounded_channel().0
-}
-
 /// A session for a program that ends soon.
 pub async fn connect(database: &Database) -> Result<Session, Error> {
-    Session::open(database, &Arc::default(), deaf()).await
+    Session::open(database, &Arc::default(), unbounded_channel().0).await
 }
-
-pub type Told = UnboundedReceiver<String>;
 
 /// A delay that doubles up to a second.
 pub struct Delay(Duration);
@@ -278,31 +268,22 @@ impl Links {
         if let Some(session) = seat.as_ref().filter(|it| !it.is_closed()) {
             return Ok(session.clone());
         }
-        let session = Arc::new(Session::open(&self.database, &self.metrics, deaf()).await?);
+        // It listens to nothing.
+        let session = Arc::new(Session::open(&self.database, &self.metrics, unbounded_channel().0).await?);
         *seat = Some(session.clone());
         Ok(session)
     }
 
     /// One try.
     pub async fn query(&self, sql: &str, params: &[Param<'_>]) -> Result<Vec<Row>, Error> {
-        let answer = match self.session().await {
-            Ok(session) => session.query(sql, params).await,
-            Err(error) => Err(error),
-        };
-        if answer.is_err() {
-            self.metrics.database_errors.add(1);
-        }
+        let answer = async { self.session().await?.query(sql, params).await }.await;
+        self.metrics.database_errors.add(answer.is_err().into());
         answer
     }
 
-    /// Has the database read a statement, without running it.
-    async fn prepare(&self, sql: &str) -> Result<(), Error> {
-        self.session().await?.prepare(sql).await.map(drop)
-    }
-
-    /// Tries again until the statement is prepared, or refused.
+    /// Has the database read a statement, without running it. Tries again until it is prepared, or refused.
     pub async fn insist_to_prepare(&self, sql: &str) -> Result<(), Error> {
-        self.until(|| self.prepare(sql)).await
+        self.until(|| async { self.session().await?.prepare(sql).await.map(drop) }).await
     }
 
     /// Tries again until the answer is rows or the statement's fault. It must bear to be run twice.
@@ -310,7 +291,8 @@ impl Links {
         self.until(|| self.query(sql, params)).await
     }
 
-    async fn until<T, F>(&self, mut ask: impl FnMut() -> F) -> Result<T, Error>
+    /// Tries again until an answer isn't the connection's fault.
+    pub async fn until<T, F>(&self, mut ask: impl FnMut() -> F) -> Result<T, Error>
     where
         F: Future<Output = Result<T, Error>>,
     {
@@ -318,8 +300,7 @@ impl Links {
         loop {
             match ask().await {
                 Err(error) if error.whose(Asked::Own) == Whose::Connection && !self.is_ending.load(SeqCst) => {
-                    let waited = delay.wait().await;
-                    tell(format_args!("tried again after {waited:?}: {error}"));
+                    tell(format_args!("tried again after {:?}: {error}", delay.wait().await));
                 }
                 answer => return answer,
             }
@@ -335,22 +316,19 @@ impl Links {
         params: &[Param<'_>],
         asked: fn(usize) -> Asked,
     ) -> Option<Result<Vec<Row>, (Whose, Error)>> {
-        let mut delay = Delay::new();
-        for tried in 1.. {
+        let (mut delay, mut tried) = (Delay::new(), 0);
+        loop {
             let session = self.until(|| self.session()).await.ok()?;
-            let (whose, error) = match session.query_rows(sql, params, asked(tried)).await {
-                Ok(rows) => return Some(Ok(rows)),
-                Err(error) => error,
-            };
-            self.metrics.database_errors.add(1);
-            if whose != Whose::Connection {
-                return Some(Err((whose, error)));
+            tried += 1;
+            let answer = session.query_rows(sql, params, asked(tried)).await;
+            self.metrics.database_errors.add(answer.is_err().into());
+            match answer {
+                Err((Whose::Connection, _)) if self.is_ending.load(SeqCst) => return None,
+                Err((Whose::Connection, error)) => {
+                    tell(format_args!("tried again after {:?}: {error}", delay.wait().await));
+                }
+                answer => return Some(answer),
             }
-            if self.is_ending.load(SeqCst) {
-                break;
-            }
-            tell(format_args!("tried again after {:?}: {error}", delay.wait().await));
         }
-        None
     }
 }

@@ -22,8 +22,9 @@ const UNFIT: Duration = Duration::from_millis(50);
 const LOCKED: Duration = Duration::from_secs(1);
 const PATIENCE: Duration = Duration::from_secs(300);
 
-/// The statement that begins so, takes jobs and has this effect of them.
-pub async fn statement(links: &Links, begin: &str, effect: &str) -> Result<String, Error> {
+/// The statement that takes jobs and has this effect of them.
+pub async fn statement(links: &Links, effect: &str) -> Result<String, Error> {
+    let begin = sql::BEGIN_EFFECT;
     let reading = format!("{begin}{effect}{}", sql::END_EFFECT);
     match links.insist_to_prepare(&reading).await {
         Err(error) if error.code() == Some(&SqlState::FEATURE_NOT_SUPPORTED) => {
@@ -64,7 +65,7 @@ async fn batch_of(worker: Arc<Worker>, statement: Arc<str>, mut ids: Vec<i64>, _
     ids.sort_unstable();
     let had = match ask(&worker, &statement, &ids).await {
         // One of them is bad or slow, and doesn't keep the others.
-        Some(Err((Whose::Job, _))) if ids.len() > 1 => {
+        Some(Err((Whose::Row, _))) if ids.len() > 1 => {
             let mut had = 0;
             for id in &ids {
                 let one = vec![*id];
@@ -89,10 +90,14 @@ async fn ask(worker: &Worker, statement: &str, ids: &Vec<i64>) -> Option<Answer>
 async fn settle(worker: &Worker, ids: &[i64], answer: Option<Answer>) -> usize {
     match answer {
         Some(Ok(rows)) => {
-            note(worker, &rows, ids.len());
+            let had = rows.len() as u64;
+            worker.metrics.taken.add(had);
+            worker.metrics.done.add(had);
+            worker.metrics.refused.add((ids.len() as u64).saturating_sub(had));
+            rows.iter().for_each(|row| note_lateness(worker, row.get(0), row.get(1), row.get(2)));
             return rows.len();
         }
-        Some(Err((Whose::Job, error))) => fail(worker, ids[0], &error).await,
+        Some(Err((Whose::Row, error))) => fail(worker, ids[0], &error).await,
         Some(Err((_, error))) => {
             // It may be right again in a moment.
             tell(format_args!("the effect can't be had, and its jobs wait: {error}"));
@@ -103,15 +108,6 @@ async fn settle(worker: &Worker, ids: &[i64], answer: Option<Answer>) -> usize {
         None => {}
     }
     0
-}
-
-fn note(worker: &Worker, rows: &[Row], asked: usize) {
-    worker.metrics.taken.add(rows.len() as u64);
-    worker.metrics.done.add(rows.len() as u64);
-    worker.metrics.refused.add(asked.saturating_sub(rows.len()) as u64);
-    for row in rows {
-        note_lateness(worker, row.get(0), row.get(1), row.get(2));
-    }
 }
 
 /// Only the first attempt tells how late a job was: the others waited for their holders.

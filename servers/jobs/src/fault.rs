@@ -13,8 +13,8 @@ pub enum Error {
     Database(tokio_postgres::Error),
     /// The database was silent for so long. Whether the statement was run isn't known.
     Silent(Duration),
-    /// A worker of the other sort lives, of this name and at this address.
-    Unlike(String),
+    /// This program refuses what it has found there.
+    Refused(String),
 }
 
 #[derive(Clone, Copy, Debug, PartialEq, Eq)]
@@ -23,10 +23,9 @@ pub enum Whose {
     Connection,
     /// The statement's, which the database refuses whatever rows it meets.
     Statement,
-    /// One job's of those that were named: each is tried alone, and one that is alone has failed an attempt.
-    Job,
-    /// One schedule's: each is tried alone, and one that is alone waits.
-    Schedule,
+    /// One job's or schedule's of those that were named: each is tried alone. A job that is alone has failed an attempt,
+    /// and a schedule waits.
+    Row,
 }
 
 #[derive(Clone, Copy)]
@@ -41,7 +40,7 @@ pub enum Asked {
 
 /// What a statement meets that another session has prepared, or has not.
 const POOLED: [SqlState; 2] = [SqlState::DUPLICATE_PSTATEMENT, SqlState::INVALID_SQL_STATEMENT_NAME];
-const POOLER: &str = ": a pooler in transaction mode stands between, and jobs wants one in session mode";
+pub const POOLER: &str = ": a pooler in transaction mode stands between, and jobs wants one in session mode";
 
 impl From<tokio_postgres::Error> for Error {
     fn from(error: tokio_postgres::Error) -> Error {
@@ -53,10 +52,7 @@ impl fmt::Display for Error {
     fn fmt(&self, f: &mut fmt::Formatter<'_>) -> fmt::Result {
         match self {
             Error::Silent(limit) => write!(f, "the database didn't answer within {limit:?}"),
-            Error::Unlike(other) => write!(
-                f,
-                "{other} works at this table: workers that serve holders and workers that have an effect never do so together"
-            ),
+            Error::Refused(why) => f.write_str(why),
             Error::Database(error) => match (error.as_db_error(), std::error::Error::source(error)) {
                 (Some(db), _) => {
                     let why = if POOLED.contains(db.code()) { POOLER } else { "" };
@@ -75,14 +71,14 @@ impl Error {
     pub fn code(&self) -> Option<&SqlState> {
         match self {
             Error::Database(error) => error.code(),
-            Error::Silent(_) | Error::Unlike(_) => None,
+            Error::Silent(_) | Error::Refused(_) => None,
         }
     }
 
     /// Whose it is. What a row raises may look like the connection's: it is the row's once it has come again and again.
     pub fn whose(&self, asked: Asked) -> Whose {
         match self {
-            Error::Unlike(_) => Whose::Statement,
+            Error::Refused(_) => Whose::Statement,
             _ => whose(self.code(), asked),
         }
     }
@@ -121,18 +117,12 @@ fn is_passing(code: Option<&SqlState>) -> bool {
 }
 
 fn whose(code: Option<&SqlState>, asked: Asked) -> Whose {
-    let (row, tries) = match asked {
-        Asked::Own if is_passing(code) => return Whose::Connection,
-        Asked::Own => return Whose::Statement,
-        Asked::Jobs(tries) => (Whose::Job, tries),
-        Asked::Schedules(tries) => (Whose::Schedule, tries),
-    };
-    // A row that wants too much wants it again.
-    let is_of_row = !is_passing(code) || code.is_some_and(is_limit) || tries >= TRIES;
-    if is_of_row {
-        row
-    } else {
-        Whose::Connection
+    match asked {
+        // A row that wants too much wants it again.
+        Asked::Jobs(tries) | Asked::Schedules(tries) if tries >= TRIES || code.is_some_and(is_limit) => Whose::Row,
+        _ if is_passing(code) => Whose::Connection,
+        Asked::Own => Whose::Statement,
+        _ => Whose::Row,
     }
 }
 
@@ -142,20 +132,18 @@ mod tests {
 
     #[test]
     fn what_passes_is_a_rows_after_some_tries_and_what_does_not_at_once() {
-        for code in ["08001", "40001", "57P01", "58030", "25006"].map(SqlState::from_code) {
-            assert_eq!(whose(Some(&code), Asked::Own), Whose::Connection);
-            assert_eq!(whose(Some(&code), Asked::Jobs(TRIES - 1)), Whose::Connection);
-            assert_eq!(whose(Some(&code), Asked::Jobs(TRIES)), Whose::Job);
+        use Whose::{Connection, Row, Statement};
+        for (codes, own, at_first) in [
+            ("08001 40001 57P01 58030 25006", Connection, Connection),
+            ("22012 42P01 P0001 XX000", Statement, Row),
+            ("53100 55P03 57014", Connection, Row),
+            ("none", Connection, Connection),
+        ] {
+            for code in codes.split(' ') {
+                let told = (code != "none").then(|| SqlState::from_code(code));
+                let asked = [Asked::Own, Asked::Jobs(TRIES - 1), Asked::Schedules(1), Asked::Jobs(TRIES)];
+                assert_eq!(asked.map(|it| whose(told.as_ref(), it)), [own, at_first, at_first, Row], "{code}");
+            }
         }
-        for code in ["22012", "42P01", "P0001", "XX000"].map(SqlState::from_code) {
-            assert_eq!(whose(Some(&code), Asked::Own), Whose::Statement);
-            assert_eq!(whose(Some(&code), Asked::Schedules(1)), Whose::Schedule);
-        }
-        for code in ["53100", "55P03", "57014"].map(SqlState::from_code) {
-            assert_eq!(whose(Some(&code), Asked::Own), Whose::Connection);
-            assert_eq!(whose(Some(&code), Asked::Jobs(1)), Whose::Job);
-        }
-        assert_eq!(whose(None, Asked::Jobs(1)), Whose::Connection);
-        assert_eq!(whose(None, Asked::Jobs(TRIES)), Whose::Job);
     }
 }

@@ -2,7 +2,10 @@
 
 use crate::db::{Database, CONNECT};
 use servers::password::Password;
+use std::fmt::Display;
 use std::net::SocketAddr;
+use std::ops::RangeInclusive;
+use std::str::FromStr;
 use std::time::Duration;
 use tokio_postgres::config::{SslMode, TargetSessionAttrs};
 use tokio_postgres::Config;
@@ -13,6 +16,7 @@ const MOST_PARTITIONS: usize = 1_024;
 const ATTEMPTS: i32 = 25;
 /// So many can be counted.
 const MOST_ATTEMPTS: i32 = 1_000_000_000;
+const YEAR: u64 = 31_536_000_000;
 
 pub const HELP: &str = "jobs VERB [OPTION..]: delayed jobs and leases in PostgreSQL
 
@@ -71,15 +75,10 @@ pub struct WorkerOptions {
     pub metrics: Option<SocketAddr>,
 }
 
-pub struct SetupOptions {
-    pub database: Database,
-    /// Of new tables. Others keep theirs.
-    pub partitions: Option<usize>,
-}
-
 pub enum Verb {
     Help,
-    Setup(SetupOptions),
+    /// So many partitions have new tables. Others keep theirs.
+    Setup(Database, Option<usize>),
     Worker(Box<WorkerOptions>),
     Status(Database),
 }
@@ -87,16 +86,13 @@ pub enum Verb {
 struct Given(Vec<(String, String)>);
 
 impl Given {
-    fn of(mut words: impl Iterator<Item = String>) -> Result<Given, String> {
-        let mut given = Vec::new();
-        while let Some(name) = words.next() {
-            if !name.starts_with("--") {
-                return Err(format!("{name} isn't an option; jobs --help tells them"));
-            }
-            let value = words.next().ok_or(format!("{name} wants a value"))?;
-            given.push((name, value));
-        }
-        Ok(Given(given))
+    fn of(words: &[String]) -> Result<Given, String> {
+        let option = |pair: &[String]| match pair {
+            [name, ..] if !name.starts_with("--") => Err(format!("{name} isn't an option; jobs --help tells them")),
+            [name, value] => Ok((name.clone(), value.clone())),
+            _ => Err(format!("{} wants a value", pair[0])),
+        };
+        words.chunks(2).map(option).collect::<Result<_, _>>().map(Given)
     }
 
     fn text(&mut self, name: &str) -> Option<String> {
@@ -104,40 +100,49 @@ impl Given {
         Some(self.0.remove(at).1)
     }
 
-    fn value<T: std::str::FromStr>(&mut self, name: &str, otherwise: T) -> Result<T, String> {
-        match self.text(name) {
-            None => Ok(otherwise),
-            Some(text) => text.parse().map_err(|_| format!("{text} is nothing for {name}")),
-        }
-    }
-
-    fn millis(&mut self, name: &str, otherwise: u64, least: u64) -> Result<Duration, String> {
-        self.text(name).map_or(Ok(Duration::from_millis(otherwise)), |text| millis(name, &text, least))
-    }
-
     fn address(&mut self, name: &str) -> Result<Option<SocketAddr>, String> {
         let address = |it: String| it.parse().map_err(|_| format!("{it} is no address for {name}"));
         self.text(name).map(address).transpose()
     }
 
+    fn number<T>(&mut self, name: &str, range: RangeInclusive<T>) -> Result<Option<T>, String>
+    where
+        T: FromStr + PartialOrd + Display,
+    {
+        let number = |text: String| match text.parse() {
+            Ok(it) if range.contains(&it) => Ok(it),
+            _ => Err(format!("{text} is nothing for {name}: it is {} to {}", range.start(), range.end())),
+        };
+        self.text(name).map(number).transpose()
+    }
+
+    fn millis(&mut self, name: &str, least: u64) -> Result<Option<Duration>, String> {
+        let number = self.number(name, least..=YEAR).map_err(|it| it + " milliseconds")?;
+        Ok(number.map(Duration::from_millis))
+    }
+
     fn database(&mut self) -> Result<Database, String> {
-        let given = self.text("--database");
-        let is_shown = given.is_some();
-        let url = given.or_else(|| std::env::var("JOBS_DATABASE").ok());
+        let shown = self.text("--database");
+        let url = shown.clone().or_else(|| std::env::var("JOBS_DATABASE").ok());
         let url = url.ok_or("--database or JOBS_DATABASE has to name the database")?;
         // Neither the text nor what the library says of it is shown, since a password may stand in it.
         let mut config: Config = url.parse().map_err(|_| {
             "--database or JOBS_DATABASE names no database: it is postgres://user@host/name or host=.. dbname=.., and \
              sslmode is disable or prefer"
         })?;
-        if config.get_ssl_mode() == SslMode::Require {
-            return Err("the URL's sslmode is disable or prefer: TLS to the database goes through a proxy".to_owned());
-        }
-        if is_shown && config.get_password().is_some() {
-            return Err(
-                "--database has a password, which whoever lists processes reads: JOBS_DATABASE hides it".to_owned()
-            );
-        }
+        let has_tls = config.get_ssl_mode() == SslMode::Require;
+        let is_told = shown.is_some() && config.get_password().is_some();
+        let schema = self.text("--schema");
+        let is_plain = |it: &String| {
+            it.len() <= 40
+                && it.starts_with(|it: char| it.is_ascii_lowercase() || it == '_')
+                && it.bytes().all(|it| it.is_ascii_lowercase() || it.is_ascii_digit() || it == b'_')
+        };
+        check(&[
+            (!has_tls, "the URL's sslmode is disable or prefer: TLS to the database goes through a proxy"),
+            (!is_told, "--database has a password, which whoever lists processes reads: JOBS_DATABASE hides it"),
+            (schema.iter().all(is_plain), "--schema has 1 to 40 small letters, digits and _, and begins with no digit"),
+        ])?;
         if config.get_connect_timeout().is_none() {
             config.connect_timeout(CONNECT);
         }
@@ -145,113 +150,71 @@ impl Given {
             // One of them is the primary.
             config.target_session_attrs(TargetSessionAttrs::ReadWrite);
         }
-        let schema = self.text("--schema");
-        let is_plain = |it: &str| {
-            it.len() <= 40
-                && it.starts_with(|it: char| it.is_ascii_lowercase() || it == '_')
-                && it.bytes().all(|it| it.is_ascii_lowercase() || it.is_ascii_digit() || it == b'_')
-        };
-        if schema.as_deref().is_some_and(|it| !is_plain(it)) {
-            return Err(
-                "--schema has 1 to 40 small letters, digits and _, and begins with none of the digits".to_owned()
-            );
-        }
         Ok(Database {
             config,
             schema,
-            statement_timeout: self.millis("--statement-timeout", 10_000, 100)?,
-            lock_timeout: self.millis("--lock-timeout", 5_000, 100)?,
+            statement_timeout: self.millis("--statement-timeout", 100)?.unwrap_or(Duration::from_secs(10)),
+            lock_timeout: self.millis("--lock-timeout", 100)?.unwrap_or(Duration::from_secs(5)),
         })
-    }
-
-    fn end(self) -> Result<(), String> {
-        match self.0.first() {
-            None => Ok(()),
-            Some((name, _)) => Err(format!("there is no {name} here, or it was given twice; jobs --help tells them")),
-        }
-    }
-}
-
-/// A number of milliseconds, from `least` to a year.
-fn millis(name: &str, text: &str, least: u64) -> Result<Duration, String> {
-    match text.parse() {
-        Ok(millis) if (least..=31_536_000_000).contains(&millis) => Ok(Duration::from_millis(millis)),
-        _ => Err(format!("{text} is nothing for {name}: it is {least} to 31536000000 milliseconds")),
     }
 }
 
 pub fn verb(words: impl Iterator<Item = String>) -> Result<Verb, String> {
-    let mut words = words.peekable();
-    let verb = words.next().unwrap_or_else(|| "--help".to_owned());
-    if ["--help", "-h", "help"].contains(&&verb[..]) {
+    let words: Vec<String> = words.collect();
+    let Some((verb, options)) = words.split_first() else { return Ok(Verb::Help) };
+    if ["-h", "help"].contains(&&verb[..]) || words.iter().any(|it| it == "--help") {
         return Ok(Verb::Help);
     }
-    let rest: Vec<String> = words.collect();
-    if rest.iter().any(|it| it == "--help") {
-        return Ok(Verb::Help);
-    }
-    let mut given = Given::of(rest.into_iter())?;
+    let mut given = Given::of(options)?;
     let verb = match &verb[..] {
-        "setup" => Verb::Setup(SetupOptions {
-            database: given.database()?,
-            partitions: match given.value("--partitions", 0)? {
-                0 => None,
-                count if count <= MOST_PARTITIONS => Some(count),
-                _ => return Err(format!("--partitions is 1 to {MOST_PARTITIONS}")),
-            },
-        }),
+        "setup" => Verb::Setup(given.database()?, given.number("--partitions", 1..=MOST_PARTITIONS)?),
         "status" => Verb::Status(given.database()?),
         "worker" => Verb::Worker(Box::new(worker(&mut given)?)),
         _ => return Err(format!("there is no {verb}; jobs --help tells what there is")),
     };
-    given.end()?;
-    Ok(verb)
+    match given.0.first() {
+        None => Ok(verb),
+        Some((name, _)) => Err(format!("there is no {name} here, or it was given twice; jobs --help tells them")),
+    }
 }
 
 fn worker(given: &mut Given) -> Result<WorkerOptions, String> {
     let options = WorkerOptions {
         database: given.database()?,
-        listen: given.value("--listen", SocketAddr::from(([127, 0, 0, 1], 6500)))?,
+        listen: given.address("--listen")?.unwrap_or(SocketAddr::from(([127, 0, 0, 1], 6500))),
         announce: given.text("--announce"),
         effect: given.text("--effect"),
-        name: given.value("--name", "worker".to_owned())?,
-        lease: given.millis("--lease", 10_000, 100)?,
-        write_every: given.millis("--write-every", 2_000, 10)?,
-        clients: given.value("--clients", 900)?,
-        sessions: given.value("--sessions", 4)?,
+        name: given.text("--name").unwrap_or("worker".to_owned()),
+        lease: given.millis("--lease", 100)?.unwrap_or(Duration::from_secs(10)),
+        write_every: given.millis("--write-every", 10)?.unwrap_or(Duration::from_secs(2)),
+        clients: given.number("--clients", 1..=1_000)?.unwrap_or(900),
+        sessions: given.number("--sessions", 2..=32)?.unwrap_or(4),
         password: given.text("--password-file").map(|it| Password::of_file(&it)).transpose()?,
-        keep_done: given.text("--keep-done").map(|it| millis("--keep-done", &it, 0)).transpose()?,
-        keep_dead: given.millis("--keep-dead", 90 * 24 * 3_600_000, 0)?,
-        timeout: given.text("--timeout").map(|it| millis("--timeout", &it, 1)).transpose()?,
-        drain: given.millis("--drain", 20_000, 0)?,
-        attempts: given.value("--attempts", ATTEMPTS)?,
+        keep_done: given.millis("--keep-done", 0)?,
+        keep_dead: given.millis("--keep-dead", 0)?.unwrap_or(Duration::from_secs(90 * 24 * 3_600)),
+        timeout: given.millis("--timeout", 1)?,
+        drain: given.millis("--drain", 0)?.unwrap_or(Duration::from_secs(20)),
+        attempts: given.number("--attempts", 1..=MOST_ATTEMPTS)?.unwrap_or(ATTEMPTS),
         metrics: given.address("--metrics")?,
     };
-    check(&options)?;
-    Ok(options)
-}
-
-fn check(options: &WorkerOptions) -> Result<(), String> {
     // A slash and a space part what workers tell each other.
     let is_plain = |text: &str, most| {
         (1..=most).contains(&text.len()) && text.bytes().all(|it| it.is_ascii_graphic() && it != b'/')
     };
     let is_elsewhere = options.effect.is_some() || options.announce.is_some() || !options.listen.ip().is_unspecified();
-    for (is_right, what) in [
-        ((1..=1_000).contains(&options.clients), "--clients is 1 to 1000"),
-        ((2..=32).contains(&options.sessions), "--sessions is 2 to 32"),
+    check(&[
         // A lease that ends before it is written could never be extended.
         (options.lease >= 2 * options.write_every, "--lease is twice --write-every at least"),
-        ((1..=MOST_ATTEMPTS).contains(&options.attempts), "--attempts is 1 to 1000000000"),
         (is_plain(&options.name, 24), "--name has 1 to 24 plain characters, and no slash"),
         (options.announce.iter().all(|it| is_plain(it, 200)), "--announce has 1 to 200 plain characters, and no slash"),
         (is_elsewhere, "--announce has to say where holders reach a worker that listens everywhere"),
-    ] {
-        if !is_right {
-            return Err(what.to_owned());
-        }
-    }
-    Ok(())
+    ])?;
+    Ok(options)
+}
+
+/// Refuses what isn't right.
+fn check(all: &[(bool, &str)]) -> Result<(), String> {
+    all.iter().find(|it| !it.0).map_or(Ok(()), |it| Err(it.1.to_owned()))
 }
 
 #[cfg(test)]

@@ -1,16 +1,16 @@
 //! Which partitions a worker owns, by rows of a table: it renews its terms, takes partitions up to a fair share,
 //! reads what is due soon, and is told the rest.
 
-use crate::db::{tell, Delay, Param, Session, Told};
-use crate::expiry::{micros, running, time};
+use crate::db::{tell, Delay, Param, Session};
 use crate::fault::Error;
+use crate::leases::{self, micros, running, time};
 use crate::partitions::{Running, Waiting, WAITING_ROOM};
 use crate::ready::Kinds;
 use crate::sql;
 use crate::worker::Worker;
 use std::sync::Arc;
 use std::time::{Duration, Instant, SystemTime};
-use tokio::sync::mpsc::unbounded_channel;
+use tokio::sync::mpsc::{unbounded_channel, UnboundedReceiver};
 use tokio::time::timeout;
 use tokio_postgres::Row;
 
@@ -39,6 +39,7 @@ const SEARCH_EVERY: Duration = Duration::from_secs(10);
 const MODESTY: Duration = Duration::from_secs(3);
 /// How long partitions that are let go wait for the write of their leases.
 const LAST_WRITE: Duration = Duration::from_secs(1);
+const UNLIKE: &str = "workers that serve holders and workers that have an effect never do so together";
 
 /// Owns partitions by one session after another, until the worker ends.
 ///
@@ -50,7 +51,7 @@ pub async fn run(worker: Arc<Worker>) -> Result<(), Error> {
     while !worker.released() {
         let begun = Instant::now();
         let error = match own(&worker, modesty).await {
-            Err(error) if !matches!(error, Error::Unlike(_)) => error,
+            Err(error) if !matches!(error, Error::Refused(_)) => error,
             answer => return answer,
         };
         modesty = MODESTY;
@@ -58,8 +59,7 @@ pub async fn run(worker: Arc<Worker>) -> Result<(), Error> {
         if begun.elapsed() > TERM {
             delay = Delay::new();
         }
-        let waited = delay.wait().await;
-        tell(format_args!("can't renew its terms, and tries again after {waited:?}: {error}"));
+        tell(format_args!("can't renew its terms, and tries again after {:?}: {error}", delay.wait().await));
     }
     Ok(())
 }
@@ -71,14 +71,13 @@ async fn own(worker: &Worker, modesty: Duration) -> Result<(), Error> {
     database.statement_timeout = database.statement_timeout.min(STATEMENT);
     database.lock_timeout = database.lock_timeout.min(STATEMENT);
     let session = Session::open(&database, &worker.metrics, sender).await?;
-    let table: i64 = session.query("SELECT 'jobs'::regclass::oid::bigint", &[]).await?[0].get(0);
+    let table: i64 = session.value("SELECT 'jobs'::regclass::oid::bigint", &[]).await?;
     // What is due first is read in the order of the index, however few rows the database takes all that is due for.
     session.batch(&format!("LISTEN jobs_{table}; SET enable_bitmapscan = off")).await?;
-    let modest_until = Instant::now() + modesty;
     let mut owner = Owner {
         worker,
         session,
-        modest_until,
+        modest_until: Instant::now() + modesty,
         renewed: None,
         searched: Instant::now(),
         has_more: false,
@@ -119,12 +118,10 @@ impl Owner<'_> {
         if self.renewed.is_some_and(|it| it.elapsed() < RENEW_EVERY) {
             return Ok(());
         }
-        let worker = self.worker;
-        let ready = worker.ready.kinds();
+        let (worker, ready) = (self.worker, self.worker.ready.kinds());
         loop {
             let sent = Instant::now();
-            let params: [Param<'_>; 3] = [&worker.number, &TERM.as_secs_f64(), &ready];
-            let row = self.session.query(sql::RENEW, &params).await?.remove(0);
+            let row = self.session.query(sql::RENEW, &[&worker.number, &TERM.as_secs_f64(), &ready]).await?.remove(0);
             if row.get::<_, bool>(0) {
                 let (partitions, terms): (Vec<i16>, Vec<i64>) = (row.get(1), row.get(2));
                 for (partition, term) in partitions.into_iter().zip(terms) {
@@ -142,11 +139,13 @@ impl Owner<'_> {
     /// until its term is over.
     async fn enter(&mut self) -> Result<(), Error> {
         let (worker, until) = (self.worker, Instant::now() + TERM + 2 * STATEMENT);
-        let params: [Param<'_>; 4] = [&worker.number, &worker.options.name, &worker.address, &TERM.as_secs_f64()];
         loop {
-            match self.session.query(sql::ENTER, &params).await?.remove(0).get::<_, Option<String>>(0) {
+            let params: [Param<'_>; 4] = [&worker.number, &worker.options.name, &worker.address, &TERM.as_secs_f64()];
+            match self.session.value::<Option<String>>(sql::ENTER, &params).await? {
                 None => return Ok(()),
-                Some(other) if worker.released() || Instant::now() > until => return Err(Error::Unlike(other)),
+                Some(other) if worker.released() || Instant::now() > until => {
+                    return Err(Error::Refused(format!("{other} works at this table: {UNLIKE}")));
+                }
                 Some(_) => tokio::time::sleep(READ_EVERY).await,
             }
         }
@@ -157,7 +156,7 @@ impl Owner<'_> {
         let (wanted, sent) = (numbers(partitions), Instant::now());
         let params: [Param<'_>; 4] = [&self.worker.number, &wanted, &TERM.as_secs_f64(), &left_over()];
         let rows = self.session.query(sql::TAKE_PARTITIONS, &params).await?;
-        let taken: Vec<(usize, i64)> = rows.iter().map(|row| (partition(row), row.get(1))).collect();
+        let taken: Vec<_> = rows.iter().map(|row| (row.get::<_, i16>(0) as usize, row.get(1))).collect();
         self.begin(&taken).await?;
         for (partition, term) in taken {
             self.worker.partitions.renew(partition, term, sent + SURE - DRIFT);
@@ -187,9 +186,8 @@ impl Owner<'_> {
         let worker = self.worker;
         // Each partition is read whole from time to time: nothing depends on a notification.
         self.readings += 1;
-        (0..worker.partitions.count())
-            .filter(|it| it % WHOLE == self.readings % WHOLE)
-            .for_each(|it| worker.partitions.read_whole(it));
+        let in_turn = |it: &usize| it % WHOLE == self.readings % WHOLE;
+        worker.partitions.read_whole((0..worker.partitions.count()).filter(in_turn));
         let (asked, since) = worker.partitions.to_read(self.of, self.readings);
         let partitions = numbers(&asked);
         let since: Vec<SystemTime> = since.into_iter().map(time).collect();
@@ -198,27 +196,26 @@ impl Owner<'_> {
         let (most, sent) = (WAITING_ROOM as i64, worker.clock.uptime());
         let params: [Param<'_>; 7] =
             [&worker.number, &partitions, &horizon, &most, &left_over(), &since, &self.left_out];
-        let answer = self.session.query(sql::READ, &params).await;
-        let rows = match answer {
+        let row = match self.session.query(sql::READ, &params).await {
             Err(error) if error.is_limit() && self.of < worker.partitions.count() => {
                 self.of *= 4;
-                asked.iter().for_each(|it| worker.partitions.read_whole(*it));
+                worker.partitions.read_whole(asked);
                 return Ok(());
             }
-            answer => answer?,
+            answer => answer?.remove(0),
         };
         self.of = (self.of / 2).max(1);
-        let now = micros(rows[0].get(10));
+        let now = micros(row.get(10));
         worker.clock.note(sent, now);
-        let kinds = Kinds::of(rows[0].get(9));
-        worker.partitions.note_read(&asked, waiting(&rows[0]), &kinds.bounded, now);
+        let kinds = Kinds::of(row.get(9));
+        worker.partitions.note_read(&asked, waiting(&row), &kinds.bounded, now);
         self.keep_to(kinds);
-        worker.note_elsewhere(rows[0].get::<_, Option<Vec<&str>>>(4).unwrap_or_default());
+        worker.note_elsewhere(row.get::<_, Option<Vec<&str>>>(4).unwrap_or_default());
         let (waiting, leases) = worker.partitions.counts();
         worker.metrics.indexed.set(waiting as u64);
         worker.metrics.leases.set(leases as u64);
-        self.agree(&rows[0].get::<_, Vec<i64>>(3)).await?;
-        let (is_new, workers, free): (bool, Vec<i64>, Vec<i16>) = (rows[0].get(0), rows[0].get(1), rows[0].get(2));
+        self.agree(row.get(3)).await?;
+        let (is_new, workers, free): (bool, Vec<i64>, Vec<i16>) = (row.get(0), row.get(1), row.get(2));
         let share = fair_share(worker.partitions.count(), workers[0].max(1) as usize, workers[1] as usize);
         self.balance(is_new, share, free).await
     }
@@ -232,36 +229,30 @@ impl Owner<'_> {
         let mut left_out = partitions.waiting_of(&kinds.bounded);
         left_out.extend(kinds.paused);
         if self.left_out.iter().any(|it| !left_out.contains(it)) {
-            (0..partitions.count()).for_each(|it| partitions.read_whole(it));
+            partitions.read_whole(0..partitions.count());
         }
         self.left_out = left_out;
     }
 
     /// Comes to the terms that the table has: what others have taken is lost, and what was taken by a statement whose
     /// answer was lost is begun.
-    async fn agree(&mut self, terms: &[i64]) -> Result<(), Error> {
-        let mut begun = Vec::new();
-        for (partition, term) in terms.iter().enumerate() {
-            match self.worker.partitions.term(partition) {
-                Some(known) if known == *term => {}
-                None if *term == 0 => {}
-                _ if *term == 0 => self.worker.partitions.lose(partition),
-                _ => begun.push((partition, *term)),
-            }
-        }
+    async fn agree(&mut self, terms: Vec<i64>) -> Result<(), Error> {
+        let known = self.worker.partitions.terms().into_iter().zip(terms).enumerate();
+        let changed = known.filter(|(_, (known, term))| known != term).map(|(partition, (_, term))| (partition, term));
+        let (lost, begun): (Vec<_>, Vec<_>) = changed.partition(|it| it.1 == 0);
+        lost.iter().for_each(|it| self.worker.partitions.lose(it.0));
         self.begin(&begun).await
     }
 
     /// Lets go what is above its share, and takes what is free below it. Where the database has just started, what is
     /// free is left to those who had it before.
     async fn balance(&mut self, is_new: bool, share: usize, free: Vec<i16>) -> Result<(), Error> {
-        let mut owned = self.worker.partitions.owned();
+        let owned = self.worker.partitions.owned();
         if self.worker.is_ending() {
             return Ok(());
         }
         if owned.len() > share {
-            let given: Vec<usize> = owned.split_off(share);
-            self.let_go(&given).await?;
+            self.let_go(&owned[share..]).await?;
         } else if owned.len() < share && !is_new && Instant::now() > self.modest_until {
             let mut free: Vec<usize> = free.iter().map(|it| *it as usize).filter(|it| !owned.contains(it)).collect();
             // Workers that look at the same moment begin at other places.
@@ -279,7 +270,7 @@ impl Owner<'_> {
     /// Lets go partitions. Their leases are written before, as far as that is soon done: no holder was told more than
     /// the table has.
     async fn let_go(&mut self, partitions: &[usize]) -> Result<(), Error> {
-        let _ = timeout(LAST_WRITE, crate::leases::write(self.worker, partitions)).await;
+        let _ = timeout(LAST_WRITE, leases::write(self.worker, partitions)).await;
         partitions.iter().for_each(|it| self.worker.partitions.lose(*it));
         self.session.query(sql::LET_GO, &[&self.worker.number, &numbers(partitions)]).await?;
         Ok(())
@@ -302,7 +293,7 @@ impl Owner<'_> {
     }
 
     /// Files what it is told, until the next reading is wanted.
-    async fn wait(&mut self, told: &mut Told, read_at: Instant) {
+    async fn wait(&mut self, told: &mut UnboundedReceiver<String>, read_at: Instant) {
         let mut read_next = read_at + if self.has_more { READ_AFTER } else { READ_EVERY };
         self.has_more = false;
         while Instant::now() < read_next && !self.worker.released() {
@@ -332,7 +323,7 @@ impl Owner<'_> {
     fn file(&self, notice: &str) -> bool {
         if notice == "*" {
             // They may have been due for long.
-            (0..self.worker.partitions.count()).for_each(|it| self.worker.partitions.read_whole(it));
+            self.worker.partitions.read_whole(0..self.worker.partitions.count());
             return false;
         }
         if let Some(id) = notice.strip_prefix("cancelled ") {
@@ -340,16 +331,11 @@ impl Owner<'_> {
             return true;
         }
         let soon = self.worker.clock.now() + HORIZON.as_micros() as i64;
-        for job in notice.split(',') {
-            match notified(job) {
-                // The next reading knows whether it may begin.
-                Some(job) if self.left_out.iter().any(|it| it[..] == job.kind[..]) => {}
-                Some(job) if job.due <= soon => self.worker.partitions.note_waiting(job),
-                Some(_) => {}
-                // It isn't the trigger's. What stands in the table is read anyway.
-                None => return true,
-            }
-        }
+        // Of what is left out the next reading knows whether it may begin.
+        let is_wanted = |it: &Waiting| it.due <= soon && self.left_out.iter().all(|kind| kind[..] != it.kind[..]);
+        // What isn't the trigger's ends it: what stands in the table is read anyway.
+        let jobs = notice.split(',').map_while(notified).filter(is_wanted);
+        jobs.for_each(|it| self.worker.partitions.note_waiting(it));
         true
     }
 }
@@ -381,10 +367,6 @@ fn waiting(row: &Row) -> Vec<Waiting> {
     let (priorities, kinds): (Vec<i16>, Vec<&str>) = (row.get(7), row.get(8));
     let jobs = ids.into_iter().zip(dues).zip(priorities.into_iter().zip(kinds));
     jobs.map(|((id, due), (priority, kind))| Waiting { id, due: micros(due), priority, kind: kind.into() }).collect()
-}
-
-fn partition(row: &Row) -> usize {
-    row.get::<_, i16>(0) as usize
 }
 
 fn numbers(partitions: &[usize]) -> Vec<i16> {

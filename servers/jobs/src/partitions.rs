@@ -1,9 +1,10 @@
 //! What a worker holds of each partition: which jobs wait in its queue, which are out, and which leases it keeps.
 
 use crate::clock::Clock;
+use crate::enter;
 use hontkhale::{DelayQueue, Key};
-use std::collections::{HashMap, HashSet};
-use std::sync::{Arc, Mutex, MutexGuard, OnceLock, PoisonError};
+use std::collections::HashMap;
+use std::sync::{Arc, Mutex, MutexGuard, OnceLock};
 use std::time::{Duration, Instant};
 
 /// The most jobs that wait in memory of a partition; the others wait in the table until there is room.
@@ -79,12 +80,9 @@ enum Held {
 }
 
 impl Held {
-    /// The job, where it waits or is out.
-    fn waiting(&self) -> Option<&Waiting> {
-        match self {
-            Held::Waiting { job, .. } | Held::Out(job) => Some(job),
-            Held::Running(_) => None,
-        }
+    /// Whether it is a job of a kind that waits or is out.
+    fn waits_as(&self, kind: &str) -> bool {
+        matches!(self, Held::Waiting { job, .. } | Held::Out(job) if job.kind[..] == *kind)
     }
 }
 
@@ -119,10 +117,6 @@ pub struct Partitions {
     partitions: OnceLock<Vec<Mutex<Partition>>>,
 }
 
-fn enter(partition: &Mutex<Partition>) -> MutexGuard<'_, Partition> {
-    partition.lock().unwrap_or_else(PoisonError::into_inner)
-}
-
 impl Partitions {
     pub fn new(clock: Arc<Clock>) -> Partitions {
         Partitions { queue: DelayQueue::new(), clock, partitions: OnceLock::new() }
@@ -150,18 +144,14 @@ impl Partitions {
         enter(&self.all()[self.of(id)])
     }
 
-    /// The term by which this worker owns a partition. Another may have taken it since.
-    pub fn term(&self, partition: usize) -> Option<i64> {
-        enter(&self.all()[partition]).term
-    }
-
-    /// The terms as the statements want them: 0 for what isn't owned.
+    /// The terms by which this worker owns partitions, as the statements want them: 0 for what isn't owned. Another may
+    /// have taken one since.
     pub fn terms(&self) -> Vec<i64> {
         self.all().iter().map(|it| enter(it).term.unwrap_or(0)).collect()
     }
 
     pub fn owned(&self) -> Vec<usize> {
-        (0..self.count()).filter(|it| self.term(*it).is_some()).collect()
+        (0..self.count()).filter(|it| enter(&self.all()[*it]).term.is_some()).collect()
     }
 
     /// The database has renewed a term: until a moment nobody else takes the partition.
@@ -175,7 +165,7 @@ impl Partitions {
     /// The owned partitions that have room for what waits, one of so many in turn, each with the time since which its jobs
     /// are to be read: what was due before is over, and the dead rows that it left aren't read again and again.
     pub fn to_read(&self, of: usize, turn: usize) -> (Vec<usize>, Vec<i64>) {
-        let to_read = |(number, partition)| {
+        let to_read = |(number, partition): (usize, &Mutex<Partition>)| {
             let mut partition = enter(partition);
             if partition.term.is_none() || partition.waiting > WAITING_ROOM / 2 {
                 return None;
@@ -212,71 +202,62 @@ impl Partitions {
         }
     }
 
-    /// The next reading of a partition is of all that waits in it.
-    pub fn read_whole(&self, partition: usize) {
-        enter(&self.all()[partition]).is_whole = true;
+    /// The next reading of some partitions is of all that waits in them.
+    pub fn read_whole(&self, partitions: impl IntoIterator<Item = usize>) {
+        partitions.into_iter().for_each(|it| enter(&self.all()[it]).is_whole = true);
     }
 
     /// Those of some kinds of which jobs wait in memory.
     pub fn waiting_of(&self, kinds: &[String]) -> Vec<String> {
-        let mut found: HashSet<&String> = HashSet::new();
-        for partition in self.all().iter().take_while(|_| !kinds.is_empty()) {
-            for job in enter(partition).held.values().filter_map(Held::waiting) {
-                found.extend(kinds.iter().find(|it| it[..] == job.kind[..]));
-            }
-        }
-        found.into_iter().cloned().collect()
+        let waits = |kind: &str| self.all().iter().any(|it| enter(it).held.values().any(|held| held.waits_as(kind)));
+        kinds.iter().filter(|it| waits(it)).cloned().collect()
     }
 
     /// Forgets the jobs of some kinds that wait in memory: they stand in the table.
     pub fn forget_kinds(&self, kinds: &[String]) {
         for partition in self.all().iter().take_while(|_| !kinds.is_empty()) {
             let mut partition = enter(partition);
-            let before = partition.held.len();
-            partition.held.retain(|_, held| {
-                let is_kept = held.waiting().map_or(true, |job| kinds.iter().all(|it| it[..] != job.kind[..]));
-                if !is_kept {
-                    self.forget(held);
-                }
-                is_kept
-            });
-            partition.waiting -= before - partition.held.len();
+            let of_them = partition.held.iter().filter(|it| kinds.iter().any(|kind| it.1.waits_as(kind)));
+            let ids: Vec<i64> = of_them.map(|it| *it.0).collect();
+            ids.into_iter().for_each(|id| self.let_go(&mut partition, id));
         }
     }
 
     /// A job was cancelled: whether somebody has it is asked of the table at his next word.
     pub fn note_cancelled(&self, id: i64) {
         let mut partition = self.of_job(id);
-        if let Some(held @ Held::Running(_)) = partition.held.get(&id) {
-            self.forget(held);
-            partition.held.remove(&id);
+        if let Some(Held::Running(_)) = partition.held.get(&id) {
+            self.let_go(&mut partition, id);
         }
     }
 
     /// How many jobs wait in memory, and how many leases there are.
     pub fn counts(&self) -> (usize, usize) {
-        let count = |it| {
-            let partition = enter(it);
-            (partition.waiting, partition.held.len() - partition.waiting)
+        let add = |(waiting, leases), it: MutexGuard<'_, Partition>| {
+            (waiting + it.waiting, leases + it.held.len() - it.waiting)
         };
-        self.all().iter().map(count).fold((0, 0), |sum, it| (sum.0 + it.0, sum.1 + it.1))
+        self.all().iter().map(enter).fold((0, 0), add)
     }
 
     /// It is owned from now on by a term, with the leases that the table has.
     pub fn own(&self, partition: usize, term: i64, leases: &[Running]) {
         self.lose(partition);
-        let mut held = enter(&self.all()[partition]);
-        (held.term, held.is_whole) = (Some(term), true);
-        drop(held);
+        *enter(&self.all()[partition]) = Partition { term: Some(term), is_whole: true, ..Partition::default() };
         let theirs = leases.iter().filter(|it| self.of(it.id) == partition);
         theirs.for_each(|it| self.note_running(it, Duration::ZERO));
     }
 
     /// It is another's. What it held is forgotten, and a holder's next word is answered by the new owner's address.
     pub fn lose(&self, partition: usize) {
-        let mut held = enter(&self.all()[partition]);
-        for it in std::mem::take(&mut *held).held.values() {
-            self.forget(it);
+        let lost = std::mem::take(&mut *enter(&self.all()[partition]));
+        lost.held.values().for_each(|it| self.forget(it));
+    }
+
+    /// Forgets what is held of a job.
+    fn let_go(&self, partition: &mut Partition, id: i64) {
+        if let Some(held) = partition.held.remove(&id) {
+            partition.waiting -= usize::from(!matches!(held, Held::Running(_)));
+            self.forget(&held);
         }
     }
 
@@ -301,17 +282,12 @@ impl Partitions {
                     (*key, *known) = (reset, job);
                 }
             }
-            // It comes out once more, as what it is now: whoever finds it as what it was leaves it.
-            Some(held) => {
-                if let Ok(key) = self.queue.insert_at(Due::Job(id), due) {
-                    *held = Held::Waiting { key, job };
-                }
-            }
             None if !has_room => {}
-            None => {
+            // One that is out comes out once more, as what it is now: whoever finds it as what it was leaves it.
+            Some(Held::Out(_)) | None => {
                 if let Ok(key) = self.queue.insert_at(Due::Job(id), due) {
-                    partition.held.insert(id, Held::Waiting { key, job });
-                    partition.waiting += 1;
+                    let was = partition.held.insert(id, Held::Waiting { key, job });
+                    partition.waiting += usize::from(was.is_none());
                 }
             }
         }
@@ -351,8 +327,7 @@ impl Partitions {
             let mut partition = self.of_job(*id);
             partition.is_whole |= taken < ids.len();
             if let Some(Held::Out(_)) = partition.held.get(id) {
-                partition.held.remove(id);
-                partition.waiting -= 1;
+                self.let_go(&mut partition, *id);
             }
         }
     }
@@ -367,13 +342,7 @@ impl Partitions {
         }
         match partition.held.get(&id) {
             Some(Held::Running(lease)) if lease.attempt >= attempt => return,
-            Some(held) => {
-                self.forget(held);
-                let waited = !matches!(held, Held::Running(_));
-                partition.waiting -= usize::from(waited);
-                partition.held.remove(&id);
-            }
-            None => {}
+            _ => self.let_go(&mut partition, id),
         }
         let until = self.clock.moment(lease_until).max(Instant::now() + not_before);
         if let Ok(key) = self.queue.insert_at(Due::Lease { id, attempt }, until) {
@@ -407,17 +376,13 @@ impl Partitions {
     pub fn end(&self, id: i64, attempt: i32, again: Option<&Waiting>) -> bool {
         let mut partition = self.of_job(id);
         match partition.held.get(&id) {
-            Some(held @ Held::Running(lease)) if lease.attempt == attempt => self.forget(held),
+            Some(Held::Running(lease)) if lease.attempt == attempt => self.let_go(&mut partition, id),
             _ => return false,
         }
-        partition.held.remove(&id);
-        let again = again.filter(|_| partition.term.is_some()).cloned();
-        let is_again = again.is_some();
-        if let Some(job) = again {
-            partition.held.insert(id, Held::Out(job));
-            partition.waiting += 1;
-        }
-        is_again
+        let again = again.filter(|_| partition.term.is_some());
+        partition.held.extend(again.map(|it| (id, Held::Out(it.clone()))));
+        partition.waiting += usize::from(again.is_some());
+        again.is_some()
     }
 
     /// The leases of some partitions that were extended since the table was told of them.

@@ -1,11 +1,10 @@
 //! The jobs that are due and wait for a holder, and the kinds of which none may be given out.
 
+use crate::enter;
 use crate::partitions::{Partitions, Waiting};
-use crate::worker::Worker;
 use std::cmp::Reverse;
 use std::collections::{BTreeSet, HashMap, HashSet};
-use std::sync::{Arc, Mutex, MutexGuard, PoisonError};
-use tokio::sync::mpsc::UnboundedReceiver;
+use std::sync::{Arc, Mutex};
 use tokio::sync::Notify;
 use tokio::time::{timeout_at, Instant};
 
@@ -17,7 +16,6 @@ pub const MORE: &str = "*";
 type Place = (Reverse<i16>, i64, i64);
 
 /// What the table says of kinds.
-#[derive(Default)]
 pub struct Kinds {
     /// None of them may begin.
     pub paused: Vec<String>,
@@ -30,16 +28,8 @@ pub struct Kinds {
 impl Kinds {
     /// As `READ` tells them, each behind a mark.
     pub fn of(words: Vec<&str>) -> Kinds {
-        let mut kinds = Kinds::default();
-        for word in words {
-            let (mark, kind) = word.split_at(1);
-            let all = if mark == "-" { &mut kinds.paused } else { &mut kinds.bounded };
-            all.push(kind.to_owned());
-            if mark == "=" {
-                kinds.full.push(kind.to_owned());
-            }
-        }
-        kinds
+        let of = |marks: &[char]| words.iter().filter_map(|it| it.strip_prefix(marks)).map(str::to_owned).collect();
+        Kinds { paused: of(&['-']), bounded: of(&['<', '=']), full: of(&['=']) }
     }
 }
 
@@ -62,7 +52,7 @@ pub struct Ready {
 
 impl Ready {
     pub fn push(&self, jobs: impl IntoIterator<Item = Waiting>) {
-        let mut ready = self.enter();
+        let mut ready = enter(&self.state);
         for it in jobs {
             ready.jobs.entry(it.kind).or_default().insert((Reverse(it.priority), it.due, it.id));
         }
@@ -75,13 +65,9 @@ impl Ready {
         self.filled_for_kinds.notify_waiters();
     }
 
-    fn enter(&self) -> MutexGuard<'_, State> {
-        self.state.lock().unwrap_or_else(PoisonError::into_inner)
-    }
-
     /// Keeps to what the table says of kinds.
     pub fn keep_to(&self, kinds: &Kinds) {
-        let mut ready = self.enter();
+        let mut ready = enter(&self.state);
         kinds.paused.iter().for_each(|it| drop(ready.jobs.remove(&it[..])));
         let closed: HashSet<String> = kinds.paused.iter().chain(&kinds.full).cloned().collect();
         let has_opened = ready.closed.iter().any(|it| !closed.contains(it));
@@ -94,12 +80,12 @@ impl Ready {
 
     /// The kinds of which some at a time may run.
     pub fn bounded(&self) -> Vec<String> {
-        self.enter().bounded.clone()
+        enter(&self.state).bounded.clone()
     }
 
     /// The table gave none of a job of a kind: where it is bounded, so many run.
     pub fn note_refused(&self, kind: &str) {
-        let mut ready = self.enter();
+        let mut ready = enter(&self.state);
         if ready.bounded.iter().any(|it| it == kind) {
             ready.closed.insert(kind.to_owned());
         }
@@ -107,7 +93,7 @@ impl Ready {
 
     /// The kinds of which jobs wait for a holder: a hundred of them at most, and a word where there are more.
     pub fn kinds(&self) -> Vec<String> {
-        let ready = self.enter();
+        let ready = enter(&self.state);
         let mut kinds = ready.jobs.keys().filter(|it| !ready.closed.contains(&it[..])).map(|it| it.to_string());
         let mut told: Vec<String> = kinds.by_ref().take(TOLD).collect();
         told.extend(kinds.next().map(|_| MORE.to_owned()));
@@ -136,15 +122,9 @@ impl Ready {
     }
 
     fn pop(&self, partitions: &Partitions, kinds: &[String], count: usize) -> Vec<(i64, Arc<str>)> {
-        let mut ready = self.enter();
-        let mut taken = Vec::new();
-        while taken.len() < count {
-            let Some((kind, place)) = ready.first(kinds) else { break };
-            ready.remove(&kind, &place);
-            if partitions.may_be_given(place.2, &kind) {
-                taken.push((place.2, kind));
-            }
-        }
+        let mut ready = enter(&self.state);
+        let jobs = std::iter::from_fn(|| ready.pop(kinds));
+        let taken: Vec<_> = jobs.filter(|(id, kind)| partitions.may_be_given(*id, kind)).take(count).collect();
         if !ready.jobs.is_empty() && !taken.is_empty() {
             // One word may stand for many jobs: the next who waits is woken by who took some.
             self.filled.notify_one();
@@ -154,29 +134,17 @@ impl Ready {
 }
 
 impl State {
-    /// The job that is given out first.
-    fn first(&self, kinds: &[String]) -> Option<(Arc<str>, Place)> {
+    /// Takes out the job that is given out first.
+    fn pop(&mut self, kinds: &[String]) -> Option<(i64, Arc<str>)> {
         let is_wanted =
             |kind: &str| !self.closed.contains(kind) && (kinds.is_empty() || kinds.iter().any(|it| it[..] == *kind));
         let wanted = self.jobs.iter().filter(|it| is_wanted(it.0));
-        let (kind, place) =
-            wanted.filter_map(|(kind, places)| Some((kind, places.iter().next()?))).min_by_key(|it| it.1)?;
-        Some((kind.clone(), *place))
-    }
-
-    fn remove(&mut self, kind: &Arc<str>, place: &Place) {
-        if let Some(places) = self.jobs.get_mut(kind) {
-            places.remove(place);
-            if places.is_empty() {
-                self.jobs.remove(kind);
-            }
+        let kind = wanted.min_by_key(|it| it.1.first())?.0.clone();
+        let places = self.jobs.get_mut(&kind)?;
+        let (_, _, id) = places.pop_first()?;
+        if places.is_empty() {
+            self.jobs.remove(&kind);
         }
-    }
-}
-
-/// Makes ready what comes out of the index, until the keeper has ended.
-pub async fn fill(worker: Arc<Worker>, mut jobs: UnboundedReceiver<Vec<Waiting>>) {
-    while let Some(jobs) = jobs.recv().await {
-        worker.ready.push(jobs);
+        Some((id, kind))
     }
 }

@@ -1,11 +1,11 @@
 //! Sends a holder to the worker that owns a job.
 
 use crate::commands::try_again;
-use crate::sql;
 use crate::worker::Worker;
+use crate::{enter, sql};
 use servers::resp::Reply;
 use std::collections::HashMap;
-use std::sync::{Mutex, MutexGuard, PoisonError};
+use std::sync::Mutex;
 use std::time::{Duration, Instant};
 
 /// How long an answer of the database is good for.
@@ -15,30 +15,21 @@ const GOOD_FOR: Duration = Duration::from_millis(250);
 #[derive(Default)]
 pub struct Redirects(Mutex<HashMap<usize, (Instant, String)>>);
 
-impl Redirects {
-    fn enter(&self) -> MutexGuard<'_, HashMap<usize, (Instant, String)>> {
-        self.0.lock().unwrap_or_else(PoisonError::into_inner)
-    }
-}
-
 /// The reply to a word about a partition that this worker doesn't own.
 pub async fn redirect(worker: &Worker, partition: usize) -> Reply {
-    let known = worker.redirects.enter().get(&partition).cloned();
-    if let Some((at, address)) = known {
-        if at.elapsed() < GOOD_FOR {
-            return moved(worker, partition, &address);
-        }
-    }
-    let number = partition as i16;
-    let address: String = match worker.links.query(sql::OWNER, &[&number]).await {
-        Ok(rows) => rows.first().map(|row| row.get(0)).unwrap_or_default(),
-        Err(error) => return try_again(&error.to_string()),
+    let good = |it: &&(Instant, String)| it.0.elapsed() < GOOD_FOR;
+    let known = enter(&worker.redirects.0).get(&partition).filter(good).map(|it| it.1.clone());
+    let address = match known {
+        Some(address) => address,
+        None => match worker.links.query(sql::OWNER, &[&(partition as i16)]).await {
+            Ok(rows) => {
+                let address: String = rows.first().map(|row| row.get(0)).unwrap_or_default();
+                enter(&worker.redirects.0).insert(partition, (Instant::now(), address.clone()));
+                address
+            }
+            Err(error) => return try_again(&error.to_string()),
+        },
     };
-    worker.redirects.enter().insert(partition, (Instant::now(), address.clone()));
-    moved(worker, partition, &address)
-}
-
-fn moved(worker: &Worker, partition: usize, address: &str) -> Reply {
     if address.is_empty() || address == worker.address {
         return try_again(&format!("no worker has partition {partition} yet"));
     }

@@ -3,10 +3,9 @@
 use crate::commands::{fenced, try_again, Attempt, Command};
 use crate::db::{tell, Param};
 use crate::effect::note_lateness;
-use crate::expiry::{adopt, running};
-use crate::fault::Error;
 use crate::input::Input;
-use crate::partitions::{Beat, Running};
+use crate::leases::{adopt, running};
+use crate::partitions::Beat;
 use crate::redirect::redirect;
 use crate::sql;
 use crate::worker::Worker;
@@ -31,12 +30,6 @@ const GUESS: Duration = Duration::from_millis(200);
 /// How often a worker looks whether others have jobs while a holder waits for one.
 const ELSEWHERE: Duration = Duration::from_millis(250);
 
-/// Where a client is silent for so long, its host is asked whether it still is there, so many times.
-fn keepalive() -> TcpKeepalive {
-    let (idle, interval) = (Duration::from_secs(300), Duration::from_secs(75));
-    TcpKeepalive::new().with_time(idle).with_interval(interval).with_retries(9)
-}
-
 pub async fn serve(worker: Arc<Worker>, listener: TcpListener) {
     let seats = Arc::new(Semaphore::new(worker.options.clients));
     loop {
@@ -50,8 +43,10 @@ pub async fn serve(worker: Arc<Worker>, listener: TcpListener) {
 async fn talk(worker: Arc<Worker>, mut stream: TcpStream, seat: Option<OwnedSemaphorePermit>) {
     // A reply that waits for a packet to fill would be late.
     let _ = stream.set_nodelay(true);
-    // Nobody would notice that a host has vanished.
-    let _ = SockRef::from(&stream).set_tcp_keepalive(&keepalive());
+    // Nobody would notice that a host has vanished: where a client is silent for so long, its host is asked.
+    let (idle, interval) = (Duration::from_secs(300), Duration::from_secs(75));
+    let keepalive = TcpKeepalive::new().with_time(idle).with_interval(interval).with_retries(9);
+    let _ = SockRef::from(&stream).set_tcp_keepalive(&keepalive);
     match seat {
         None => drop(stream.write_all(b"-ERR max number of clients reached\r\n").await),
         Some(_seat) => {
@@ -77,33 +72,25 @@ impl Holder<'_> {
     async fn converse(&mut self, stream: &mut TcpStream) -> io::Result<()> {
         loop {
             let mut commands = Vec::new();
-            let mut broken = None;
-            while commands.len() < TOGETHER && broken.is_none() {
-                match self.input.next().map(|args| args.map(Command::of)) {
-                    Ok(Some(Command::Attack)) => {
-                        tell(format_args!("a client sent POST or Host: as a web page that attacks does: it is closed"));
-                        return Ok(());
-                    }
-                    Ok(Some(command)) => commands.push(command),
+            while commands.len() < TOGETHER && !matches!(commands.last(), Some(Command::Last(_))) {
+                match self.input.next() {
+                    Ok(Some(args)) => commands.push(Command::of(args)),
                     Ok(None) => break,
-                    Err(error) => broken = Some(error),
+                    Err(error) => commands.push(Command::Last(Reply::Error(format!("ERR Protocol error: {error}")))),
                 }
             }
-            if commands.is_empty() && broken.is_none() {
-                if !self.read(stream).await? {
-                    return Ok(());
-                }
-                continue;
+            if commands.contains(&Command::Attack) {
+                tell(format_args!("a client sent POST or Host: as a web page that attacks does: it is closed"));
+                return Ok(());
             }
-            let ends = broken.is_some() || commands.contains(&Command::Quit);
+            if commands.is_empty() && !self.read(stream).await? {
+                return Ok(());
+            }
             for alike in runs(&commands) {
                 self.answer(alike, stream).await?;
             }
-            if let Some(error) = broken {
-                self.tell(Reply::Error(format!("ERR Protocol error: {error}")));
-            }
             self.send(stream).await?;
-            if ends {
+            if let Some(Command::Last(_)) = commands.last() {
                 return Ok(());
             }
         }
@@ -129,52 +116,55 @@ impl Holder<'_> {
         sent.map_err(|_| io::Error::from(io::ErrorKind::TimedOut))?
     }
 
-    async fn answer(&mut self, commands: &[Command], stream: &mut TcpStream) -> io::Result<()> {
-        match &commands[0] {
-            Command::Auth(_) => self.learn(commands).await,
-            Command::Quit => self.tell(Reply::Status("OK")),
-            _ if !self.is_known => {
-                let refused = || Reply::Error("NOAUTH Authentication required.".to_owned());
-                commands.iter().for_each(|_| self.tell(refused()));
-            }
-            Command::Beat(_) => self.beat(&attempts(commands)).await,
-            Command::Done(_) | Command::Fail(..) => self.finish(commands).await,
-            Command::Take { .. } => {
-                for command in commands {
-                    if let Command::Take { count, wait, kinds } = command {
-                        // What was said before isn't kept waiting.
-                        self.send(stream).await?;
-                        self.take(*count, *wait, kinds, stream).await?;
-                    }
+    async fn answer(&mut self, alike: &[Command], stream: &mut TcpStream) -> io::Result<()> {
+        match alike[0] {
+            Command::Beat(_) if self.is_known => self.beat(&attempts(alike)).await,
+            Command::Done(_) | Command::Fail(..) if self.is_known => self.finish(alike).await,
+            _ => {
+                for command in alike {
+                    let reply = self.reply(command, stream).await?;
+                    self.tell(reply);
                 }
             }
-            _ => commands.iter().for_each(|it| self.tell(simple(self.worker, it))),
         }
         Ok(())
     }
 
-    async fn learn(&mut self, commands: &[Command]) {
-        for command in commands {
-            let reply = match (command, &self.worker.options.password) {
-                (Command::Auth(said), Some(password)) if password.is(said) => {
-                    self.is_known = true;
-                    Reply::Status("OK")
-                }
-                (_, Some(_)) => {
-                    tokio::time::sleep(GUESS).await;
-                    Reply::Error("WRONGPASS invalid username-password pair or user is disabled.".to_owned())
-                }
-                (_, None) => Reply::Error("ERR Client sent AUTH, but no password is set.".to_owned()),
-            };
-            self.tell(reply);
-        }
+    async fn reply(&mut self, command: &Command, stream: &mut TcpStream) -> io::Result<Reply> {
+        Ok(match command {
+            Command::Auth(said) => self.learn(said).await,
+            Command::Last(reply) => reply.clone(),
+            Command::Answer(reply) if self.is_known => reply.clone(),
+            Command::Take { count, wait, kinds } if self.is_known => {
+                // What was said before isn't kept waiting.
+                self.send(stream).await?;
+                self.take(*count, *wait, kinds, stream).await?
+            }
+            Command::Time if self.is_known => {
+                let now = self.worker.clock.now();
+                Reply::Array([now / 1_000_000, now % 1_000_000].map(|it| Reply::bulk(it.to_string().as_bytes())).into())
+            }
+            _ => Reply::Error("NOAUTH Authentication required.".to_owned()),
+        })
     }
 
-    async fn take(&mut self, count: usize, wait: Duration, kinds: &[String], stream: &TcpStream) -> io::Result<()> {
+    async fn learn(&mut self, said: &[u8]) -> Reply {
+        let Some(password) = &self.worker.options.password else {
+            return Reply::Error("ERR Client sent AUTH, but no password is set.".to_owned());
+        };
+        if password.is(said) {
+            self.is_known = true;
+            return Reply::Status("OK");
+        }
+        tokio::time::sleep(GUESS).await;
+        Reply::Error("WRONGPASS invalid username-password pair or user is disabled.".to_owned())
+    }
+
+    async fn take(&self, count: usize, wait: Duration, kinds: &[String], stream: &TcpStream) -> io::Result<Reply> {
         let worker = self.worker;
         let mut ending = worker.ending.clone();
         let until = Instant::now() + wait;
-        let reply = loop {
+        loop {
             let look_again = until.min(Instant::now() + ELSEWHERE);
             let jobs = tokio::select! {
                 jobs = worker.ready.take(&worker.partitions, kinds, count, look_again) => jobs,
@@ -182,23 +172,21 @@ impl Holder<'_> {
                 _ = ending.changed() => Vec::new(),
             };
             if jobs.is_empty() && worker.is_ending() {
-                break try_again("this worker drains");
+                return Ok(try_again("this worker drains"));
             }
             if jobs.is_empty() {
                 match worker.elsewhere(kinds) {
-                    Some(place) => break Reply::Error(format!("MOVED {place}")),
-                    None if Instant::now() >= until => break Reply::Array(Vec::new()),
+                    Some(place) => return Ok(Reply::Error(format!("MOVED {place}"))),
+                    None if Instant::now() >= until => return Ok(Reply::Array(Vec::new())),
                     None => continue,
                 }
             }
             let given = give(worker, &jobs, kinds).await;
             // What was ready may be gone from the table: then the holder goes on waiting.
             if given != Reply::Array(Vec::new()) || Instant::now() >= until {
-                break given;
+                return Ok(given);
             }
-        };
-        self.tell(reply);
-        Ok(())
+        }
     }
 
     async fn beat(&mut self, attempts: &[Attempt]) {
@@ -210,12 +198,9 @@ impl Holder<'_> {
         let mut beats: Vec<Beat> = attempts.iter().map(extend).collect();
         let is_unknown = |it: &(&Beat, &Attempt)| *it.0 == Beat::Unknown;
         let unknown: Vec<i64> = beats.iter().zip(attempts).filter(is_unknown).map(|it| it.1.id).collect();
-        let mut cancelled = HashSet::new();
-        if !unknown.is_empty() {
-            cancelled = adopt(worker, &unknown).await;
-            for (beat, it) in beats.iter_mut().zip(attempts).filter(|it| *it.0 == Beat::Unknown) {
-                *beat = extend(it);
-            }
+        let cancelled = if unknown.is_empty() { HashSet::new() } else { adopt(worker, &unknown).await };
+        for (beat, it) in beats.iter_mut().zip(attempts).filter(|it| *it.0 == Beat::Unknown) {
+            *beat = extend(it);
         }
         for (beat, it) in beats.into_iter().zip(attempts) {
             let reply = match beat {
@@ -245,30 +230,25 @@ impl Holder<'_> {
         let reasons: Vec<String> = commands.iter().map(reason).collect();
         let terms = worker.partitions.terms();
         let params: [Param<'_>; 6] = [&worker.number, &terms, &ids, &numbers, &reasons, &worker.options.attempts];
-        let (sql, params, ended) = match commands[0] {
+        let (sql, params, count) = match commands[0] {
             Command::Done(_) => (sql::DONE, &params[..4], &worker.metrics.done),
             _ => (sql::FAIL, &params[..], &worker.metrics.failed),
         };
-        let answer = worker.links.insist(sql, params).await;
-        ended.add(self.end(&attempts, answer).await);
+        match worker.links.insist(sql, params).await {
+            Ok(rows) => count.add(self.end(&attempts, &rows).await),
+            Err(error) => attempts.iter().for_each(|_| self.tell(try_again(&error.to_string()))),
+        }
     }
 
     /// Answers attempts by the jobs that the database tells, each by what became of it, and by `running` as it was.
     /// Tells how many have ended.
-    async fn end(&mut self, attempts: &[Attempt], answer: Result<Vec<Row>, Error>) -> u64 {
-        let rows = match answer {
-            Ok(rows) => rows,
-            Err(error) => {
-                attempts.iter().for_each(|_| self.tell(try_again(&error.to_string())));
-                return 0;
-            }
-        };
+    async fn end(&mut self, attempts: &[Attempt], rows: &[Row]) -> u64 {
         let mut ended: HashMap<i64, bool> = HashMap::new();
-        for row in &rows {
-            *ended.entry(row.get(0)).or_default() |= row.get::<_, &str>(1) != "running";
+        for row in rows {
+            let state: &str = row.get(1);
+            *ended.entry(row.get(0)).or_default() |= state != "running";
+            self.worker.metrics.dead.add((state == "dead").into());
         }
-        let dead = rows.iter().filter(|row| row.get::<_, &str>(1) == "dead").count();
-        self.worker.metrics.dead.add(dead as u64);
         for it in attempts {
             let reply = match ended.get(&it.id) {
                 Some(true) => Reply::Status("OK"),
@@ -310,26 +290,13 @@ async fn give(worker: &Worker, jobs: &[(i64, Arc<str>)], kinds: &[String]) -> Re
 
 /// What a holder is told of a job: its id, its attempt, the end of its lease in milliseconds since 1970, and its payload.
 fn given(worker: &Worker, row: &Row) -> Reply {
-    let it: Running = running(row);
+    let it = running(row);
     worker.partitions.note_running(&it, Duration::ZERO);
     worker.metrics.taken.add(1);
     note_lateness(worker, row.get(4), row.get(5), it.attempt);
     let payload: String = row.get(3);
     let numbers = [it.id, it.attempt.into(), it.lease_until / 1_000].map(Reply::Integer);
     Reply::Array(numbers.into_iter().chain([Reply::bulk(payload.as_bytes())]).collect())
-}
-
-fn simple(worker: &Worker, command: &Command) -> Reply {
-    match command {
-        Command::Time => {
-            let now = worker.clock.now();
-            Reply::Array([now / 1_000_000, now % 1_000_000].map(|it| Reply::bulk(it.to_string().as_bytes())).into())
-        }
-        Command::Ping => Reply::Status("PONG"),
-        Command::Commands => Reply::Array(Vec::new()),
-        Command::Refused(why) => Reply::Error(why.clone()),
-        _ => Reply::Status("OK"),
-    }
 }
 
 fn attempts(commands: &[Command]) -> Vec<Attempt> {
@@ -341,16 +308,13 @@ fn attempts(commands: &[Command]) -> Vec<Attempt> {
 }
 
 /// The longest pieces of commands of one kind.
-fn runs(commands: &[Command]) -> Vec<&[Command]> {
-    let mut runs = Vec::new();
-    let mut rest = commands;
-    while let Some(first) = rest.first() {
-        let length = rest.iter().take_while(|it| discriminant(*it) == discriminant(first)).count();
-        let (run, more) = rest.split_at(length);
-        runs.push(run);
+fn runs(mut rest: &[Command]) -> impl Iterator<Item = &[Command]> {
+    std::iter::from_fn(move || {
+        let kind = discriminant(rest.first()?);
+        let (alike, more) = rest.split_at(rest.iter().take_while(|it| discriminant(*it) == kind).count());
         rest = more;
-    }
-    runs
+        Some(alike)
+    })
 }
 
 /// Ends when the client has closed its side. Not where it has said more, which is answered in its turn.

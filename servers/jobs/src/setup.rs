@@ -1,8 +1,7 @@
 //! Makes the tables, and changes those of an older program: step by step, without keeping inserts waiting.
 
-use crate::db::{connect, meet, tell, Database, Delay, Session};
-use crate::fault::{Asked, Error as DbError, Whose};
-use crate::options::SetupOptions;
+use crate::db::{connect, meet, Database, Delay, Links, Session};
+use crate::fault::{Error as DbError, POOLER};
 use std::error::Error;
 use std::time::{Duration, Instant};
 use tokio_postgres::error::SqlState;
@@ -21,67 +20,60 @@ const PATIENCE: Duration = Duration::from_secs(60);
 
 const BEGIN: &str = "CREATE TABLE IF NOT EXISTS jobs_schema (version integer NOT NULL)";
 const VERSION: &str = "SELECT coalesce(max(version), 0) FROM jobs_schema";
+const COUNT: &str = "SELECT count(*) FROM jobs_partitions";
+const ALONE: &str =
+    "SELECT pg_try_advisory_lock('pg_namespace'::regclass::oid::int, current_schema()::regnamespace::oid::int)";
 
 /// Refuses what speaks PostgreSQL's protocol and isn't it: its relatives lack what the statements want. A pooler that
 /// gives one process to two sessions keeps neither what they have prepared nor what they listen to.
-fn fits([(version, process), (_, other)]: &[(String, String); 2]) -> Result<(), String> {
+fn fits([(version, process), (_, other)]: &[(String, String); 2]) -> Result<(), DbError> {
     let relative =
         ["CockroachDB", "-YB-", "Redshift", "Greenplum", "Materialize"].iter().find(|it| version.contains(**it));
     let number = version.strip_prefix("PostgreSQL ").and_then(|it| it.split(|it: char| !it.is_ascii_digit()).next());
     let is_known = number.and_then(|it| it.parse().ok()).is_some_and(|it: u32| it >= LEAST);
     if relative.is_some() || !is_known {
-        return Err(format!("the database has to be PostgreSQL of version {LEAST} or later, and says: {version}"));
+        let why = format!("the database has to be PostgreSQL of version {LEAST} or later, and says: {version}");
+        return Err(DbError::Refused(why));
     }
     if process == other {
-        return Err("two sessions have one process of the database: a pooler in transaction mode stands between, and \
-                    jobs wants one in session mode"
-            .to_owned());
+        return Err(DbError::Refused(format!("two sessions have one process of the database{POOLER}")));
     }
     Ok(())
 }
 
-pub async fn run(SetupOptions { mut database, partitions }: SetupOptions) -> Result<(), Box<dyn Error>> {
+pub async fn run(mut database: Database, partitions: Option<usize>) -> Result<(), Box<dyn Error>> {
     fits(&meet(&database).await?)?;
     // An index over a great table takes its time.
     database.statement_timeout = Duration::from_secs(24 * 3_600);
     database.lock_timeout = LOCK;
     let session = connect(&database).await?;
     if let Some(schema) = &database.schema {
-        let stands: bool = session.query("SELECT to_regnamespace($1) IS NOT NULL", &[schema]).await?[0].get(0);
-        if !stands {
+        if !session.value("SELECT to_regnamespace($1) IS NOT NULL", &[schema]).await? {
             insist(&session, &format!("CREATE SCHEMA \"{schema}\"")).await?;
         }
     }
     // Two that set up at a time: one waits, without a snapshot that an index would wait for in turn.
     let mut delay = Delay::new();
-    while !session
-        .query(
-            "SELECT pg_try_advisory_lock('pg_namespace'::regclass::oid::int, current_schema()::regnamespace::oid::int)",
-            &[],
-        )
-        .await?[0]
-        .get::<_, bool>(0)
-    {
+    while !session.value(ALONE, &[]).await? {
         delay.wait().await;
     }
     insist(&session, BEGIN).await?;
-    let stands: i32 = session.query(VERSION, &[]).await?[0].get(0);
-    let known = VERSIONS.len() as i32;
+    let (stands, known): (i32, _) = (session.value(VERSION, &[]).await?, VERSIONS.len() as i32);
     if stands > known {
         return Err(format!("the tables have version {stands}, this program knows {known}").into());
     }
     let count = match stands {
-        0 => partitions.unwrap_or(USUAL).to_string(),
-        1 => USUAL.to_string(),
-        _ => count(&session).await?.to_string(),
+        0 => partitions.unwrap_or(USUAL),
+        1 => USUAL,
+        _ => session.value::<i64>(COUNT, &[]).await? as usize,
     };
-    if partitions.is_some_and(|it| it.to_string() != count) {
+    if partitions.is_some_and(|it| it != count) {
         return Err(format!("the tables have {count} partitions, and keep them").into());
     }
     for (version, steps) in (1..).zip(VERSIONS).skip(stands as usize) {
         // What follows the mark on its line says why the step is there.
         for step in steps.split(STEP).filter_map(|it| it.split_once('\n')) {
-            insist(&session, &step.1.replace(&USUAL.to_string(), &count)).await?;
+            insist(&session, &step.1.replace(&USUAL.to_string(), &count.to_string())).await?;
         }
         insist(&session, &format!("INSERT INTO jobs_schema VALUES ({version})")).await?;
     }
@@ -100,42 +92,26 @@ async fn insist(session: &Session, step: &str) -> Result<(), DbError> {
     }
 }
 
-async fn count(session: &Session) -> Result<i64, DbError> {
-    Ok(session.query("SELECT count(*) FROM jobs_partitions", &[]).await?[0].get(0))
-}
-
-/// The version of the tables, and the number of their partitions.
-async fn stands(database: &Database) -> Result<Result<(i32, i64), String>, DbError> {
-    if let Err(refusal) = fits(&meet(database).await?) {
-        return Ok(Err(refusal));
-    }
-    let session = connect(database).await?;
-    let version = session.query(VERSION, &[]).await?[0].get(0);
-    let known = version == VERSIONS.len() as i32;
-    Ok(Ok((version, if known { count(&session).await? } else { 0 })))
-}
-
 /// How many partitions the tables have. Those that another version of this program has made are refused. Where there is
 /// no database yet, it waits for it.
-pub async fn check(database: &Database) -> Result<usize, Box<dyn Error>> {
-    let mut delay = Delay::new();
-    let (stands, count) = loop {
-        match stands(database).await {
-            Ok(stands) => break stands?,
-            Err(error) if error.whose(Asked::Own) == Whose::Connection => {
-                tell(format_args!("tried again after {:?}: {error}", delay.wait().await));
-            }
-            Err(error) if error.code() == Some(&SqlState::UNDEFINED_TABLE) => {
-                return Err("there are no tables yet: jobs setup".into())
-            }
-            Err(error) => return Err(error.into()),
+pub async fn check(links: &Links, database: &Database) -> Result<usize, DbError> {
+    match links.until(|| stands(database)).await {
+        Err(error) if error.code() == Some(&SqlState::UNDEFINED_TABLE) => {
+            Err(DbError::Refused("there are no tables yet: jobs setup".to_owned()))
         }
-    };
-    let wanted = VERSIONS.len();
-    if stands as usize != wanted {
-        return Err(format!("the tables have version {stands}, and this program wants {wanted}: jobs setup").into());
+        count => count,
     }
-    Ok(count as usize)
+}
+
+async fn stands(database: &Database) -> Result<usize, DbError> {
+    fits(&meet(database).await?)?;
+    let session = connect(database).await?;
+    let (stands, wanted): (i32, _) = (session.value(VERSION, &[]).await?, VERSIONS.len());
+    if stands as usize != wanted {
+        let why = format!("the tables have version {stands}, and this program wants {wanted}: jobs setup");
+        return Err(DbError::Refused(why));
+    }
+    Ok(session.value::<i64>(COUNT, &[]).await? as usize)
 }
 
 #[cfg(test)]
@@ -144,7 +120,10 @@ mod tests {
 
     #[test]
     fn relatives_of_postgresql_and_poolers_in_transaction_mode_are_refused_by_name() {
-        let fit = |version: &str, other: &str| fits(&["7", other].map(|it| (version.to_owned(), it.to_owned())));
+        let fit = |version: &str, other: &str| {
+            let refusal = fits(&["7", other].map(|it| (version.to_owned(), it.to_owned()))).err();
+            refusal.map_or(String::new(), |it| it.to_string())
+        };
         for version in [
             "CockroachDB CCL v23.1.11 (x86_64-pc-linux-gnu, built 2023/09/27)",
             "PostgreSQL 15.2-YB-2.25.0.0-b0 on x86_64-pc-linux-gnu",
@@ -152,10 +131,10 @@ mod tests {
             "PostgreSQL 14.4 (Greenplum Database 8.0.0)",
             "PostgreSQL 13.14 on x86_64-pc-linux-gnu",
         ] {
-            assert!(fit(version, "8").unwrap_err().contains(version));
+            assert!(fit(version, "8").contains(version));
         }
-        assert_eq!(fit("PostgreSQL 15.18 (Debian 15.18-0+deb12u1) on x86_64-pc-linux-gnu", "8"), Ok(()));
-        assert_eq!(fit("PostgreSQL 18beta1 on x86_64-pc-linux-gnu", "8"), Ok(()));
-        assert!(fit("PostgreSQL 15.18", "7").unwrap_err().contains("pooler in transaction mode"));
+        assert_eq!(fit("PostgreSQL 15.18 (Debian 15.18-0+deb12u1) on x86_64-pc-linux-gnu", "8"), "");
+        assert_eq!(fit("PostgreSQL 18beta1 on x86_64-pc-linux-gnu", "8"), "");
+        assert!(fit("PostgreSQL 15.18", "7").contains("pooler in transaction mode"));
     }
 }

@@ -5,12 +5,13 @@
 //! Jobs that are named are looked for by their ids. Their state stands there as `state || ''`, which no partial index fits:
 //! where the statistics are old, or many are named, the planner would take such an index, and read all that is due or over.
 
-/// The partitions that the worker owns by the terms that it knows. It stands in each statement, since the database would
-/// plan a function of SQL again at each call.
+/// Of the partitions that the worker owns by the terms that it knows, what nobody has locked. It stands in each statement,
+/// since the database would plan a function of SQL again at each call.
 macro_rules! owned {
     () => {
-        "ANY (ARRAY(SELECT p.partition FROM jobs_partitions p
-            WHERE p.owner = $1::bigint AND p.term = ($2::bigint[])[p.partition + 1]))"
+        "partition = ANY (ARRAY(SELECT p.partition FROM jobs_partitions p
+            WHERE p.owner = $1::bigint AND p.term = ($2::bigint[])[p.partition + 1]))
+    FOR NO KEY UPDATE SKIP LOCKED"
     };
 }
 
@@ -18,14 +19,10 @@ macro_rules! owned {
 /// that less than some seconds are left of it, and its session has ended.
 macro_rules! free {
     ($owner:literal, $left:literal) => {
-        concat!(
-            "until < now() OR until < now() + ",
-            $left,
-            "::float8 * interval '1 second' AND NOT EXISTS (
-                SELECT FROM jobs_workers w JOIN pg_stat_activity a ON a.pid = w.pid WHERE w.worker = ",
-            $owner,
-            ")"
-        )
+        concat! {
+            "until < now() OR until < now() + ", $left, "::float8 * interval '1 second' AND NOT EXISTS (",
+            "SELECT FROM jobs_workers w JOIN pg_stat_activity a ON a.pid = w.pid WHERE w.worker = ", $owner, ")"
+        }
     };
 }
 
@@ -33,16 +30,12 @@ macro_rules! free {
 /// the number of workers and of those before this one, the partitions that nobody owns, the terms of this worker, the others
 /// that have jobs for holders, and the kinds that are paused or bounded, and whether more of them may run, so that a worker
 /// with nothing to do asks for one thing alone.
-pub const READ: &str = concat!(
-    "
+pub const READ: &str = concat! { "
 SELECT clock_timestamp() - pg_postmaster_start_time() < interval '3 seconds',
-    (SELECT ARRAY[count(*), count(*) FILTER (WHERE o.worker < $1)] FROM jobs_workers o WHERE NOT (",
-    free!("o.worker", "$5"),
-    ")),
+    (SELECT ARRAY[count(*), count(*) FILTER (WHERE o.worker < $1)] FROM jobs_workers o
+        WHERE NOT (", free!("o.worker", "$5"), ")),
     (SELECT coalesce(array_agg(partition), '{}') FROM jobs_partitions
-        WHERE ",
-    free!("owner", "$5"),
-    "),
+        WHERE ", free!("owner", "$5"), "),
     (SELECT array_agg(CASE WHEN owner = $1::bigint THEN term ELSE 0 END ORDER BY partition) FROM jobs_partitions),
     (SELECT array_agg(concat_ws(' ', p.partition, w.address) || '/' || array_to_string(w.ready, ' '))
         FROM jobs_workers w JOIN LATERAL (
@@ -63,8 +56,7 @@ FROM (
             AND due < now() + $3::float8 * interval '1 second' AND kind <> ALL ($7::text[])
         ORDER BY due LIMIT $4::bigint
     ) j
-) waiting"
-);
+) waiting" };
 
 /// Whether the tables are those of a worker.
 pub const KNOWN: &str = "SELECT FROM jobs_workers WHERE worker = $1::bigint";
@@ -85,18 +77,13 @@ WITH living AS (
 SELECT EXISTS (SELECT FROM living), coalesce(array_agg(partition), '{}'), coalesce(array_agg(term), '{}') FROM renewed";
 
 /// Takes partitions that nobody owns any more: a term begins.
-pub const TAKE_PARTITIONS: &str = concat!(
-    "
+pub const TAKE_PARTITIONS: &str = concat! { "
 UPDATE jobs_partitions SET owner = $1::bigint, term = term + 1, until = now() + $3::float8 * interval '1 second'
 WHERE partition = ANY (ARRAY(
-    SELECT partition FROM jobs_partitions
-    WHERE partition = ANY($2::smallint[]) AND (",
-    free!("owner", "$4"),
-    ")
+    SELECT partition FROM jobs_partitions WHERE partition = ANY($2::smallint[]) AND (", free!("owner", "$4"), ")
     FOR NO KEY UPDATE SKIP LOCKED
 ))
-RETURNING partition, term"
-);
+RETURNING partition, term" };
 /// Lets partitions go: whoever comes first takes them.
 pub const LET_GO: &str = "
 UPDATE jobs_partitions SET owner = NULL, until = '-infinity'
@@ -121,8 +108,7 @@ WHERE id = ANY($1::bigint[]) AND (state || '' = 'running' OR state || '' = 'dead
 
 /// Gives jobs out that are of some kinds, of any where none is named, each with a lease: as many as begin within the first
 /// 4 MiB of their payloads, and of some kinds as many as may run.
-pub const TAKE: &str = concat!(
-    "
+pub const TAKE: &str = concat! { "
 WITH sized AS MATERIALIZED (
     SELECT id, kind, sum(octet_length(payload)) OVER (ORDER BY due, id) - octet_length(payload) AS begins,
         row_number() OVER (PARTITION BY kind ORDER BY priority DESC, due, id) AS place
@@ -135,71 +121,48 @@ WITH sized AS MATERIALIZED (
     SELECT id FROM jobs
     WHERE id = ANY (ARRAY(
             SELECT id FROM sized LEFT JOIN bounded USING (kind) WHERE begins < 4194304 AND place <= coalesce(room, place)
-        )) AND state || '' = 'waiting' AND due <= now()
-        AND partition = ",
-    owned!(),
-    "
-    FOR NO KEY UPDATE SKIP LOCKED
+        )) AND state || '' = 'waiting' AND due <= now() AND ", owned!(), "
 )
 UPDATE jobs SET state = 'running', attempt = attempt + 1, started = clock_timestamp(), ended = NULL,
     lease_until = date_trunc('milliseconds', now() + $4::float8 * interval '1 second')
 WHERE id = ANY (ARRAY(SELECT id FROM free))
-RETURNING id, attempt, lease_until, payload, started, due"
-);
+RETURNING id, attempt, lease_until, payload, started, due" };
 
 /// Begins the statement that takes jobs and has an effect at once; the effect stands within. Of a kind that is bounded one
 /// statement at a time has effects, one after another: whoever asks for its room has its row.
-pub const BEGIN_EFFECT: &str = concat!(
-    "
+pub const BEGIN_EFFECT: &str = concat! { "
 WITH jobs_free AS MATERIALIZED (
     SELECT id FROM jobs
     WHERE id = ANY($3::bigint[]) AND state || '' = 'waiting' AND due <= now()
-        AND ($4::text[] = '{}' OR kind <> ALL ($4::text[]) OR jobs_room(kind) > 0)
-        AND partition = ",
-    owned!(),
-    "
-    FOR NO KEY UPDATE SKIP LOCKED
+        AND ($4::text[] = '{}' OR kind <> ALL ($4::text[]) OR jobs_room(kind) > 0) AND ", owned!(), "
 ), taken AS (
     UPDATE jobs SET state = 'done', attempt = attempt + 1, started = clock_timestamp(), ended = clock_timestamp()
     WHERE id = ANY (ARRAY(SELECT id FROM jobs_free))
     RETURNING id, due, payload, attempt, started, kind
-), effect AS MATERIALIZED ("
-);
+), effect AS MATERIALIZED (" };
 /// Ends it. The rows of the effect are counted, since a SELECT within WITH that nobody reads isn't run.
 pub const END_EFFECT: &str = ") SELECT started, due, attempt FROM taken, (SELECT count(*) FROM effect) it";
 /// Ends it where the effect has no rows to read: an INSERT, UPDATE or DELETE without RETURNING is run anyway.
 pub const END_EFFECT_WITHOUT_ROWS: &str = ") SELECT started, due, attempt FROM taken";
 
 /// An attempt of a job that waits has failed: it waits longer each time, and after the last attempt it is dead.
-pub const FAIL_WAITING: &str = concat!(
-    "
+pub const FAIL_WAITING: &str = concat! { "
 WITH free AS MATERIALIZED (
-    SELECT id FROM jobs
-    WHERE id = $3::bigint AND state || '' = 'waiting' AND due <= now()
-        AND partition = ",
-    owned!(),
-    "
-    FOR NO KEY UPDATE SKIP LOCKED
+    SELECT id FROM jobs WHERE id = $3::bigint AND state || '' = 'waiting' AND due <= now() AND ", owned!(), "
 )
 UPDATE jobs SET attempt = attempt + 1, started = clock_timestamp(), ended = clock_timestamp(), error = $4::text,
     state = CASE WHEN jobs_is_last(attempt + 1, attempts, kind, $5) THEN 'dead' ELSE 'waiting' END,
     due = CASE WHEN jobs_is_last(attempt + 1, attempts, kind, $5) THEN due
         ELSE now() + jobs_delay(attempt + 1, kind) END
 WHERE id = ANY (ARRAY(SELECT id FROM free))
-RETURNING state"
-);
+RETURNING state" };
 
 /// Holders are done. A second word of the same attempt changes nothing and is answered as the first. A job comes once
 /// more as it stood before: what didn't end then, since another has locked it, isn't the holder's fault.
-pub const DONE: &str = concat!(
-    "
+pub const DONE: &str = concat! { "
 WITH free AS MATERIALIZED (
-    SELECT j.id FROM unnest($3::bigint[], $4::int[]) AS v(id, attempt)
-    JOIN jobs j ON j.id = v.id AND j.attempt = v.attempt AND j.state || '' = 'running'
-    WHERE j.partition = ",
-    owned!(),
-    "
-    FOR NO KEY UPDATE OF j SKIP LOCKED
+    SELECT id FROM unnest($3::bigint[], $4::int[]) AS v(id, attempt) JOIN jobs USING (id, attempt)
+    WHERE state || '' = 'running' AND ", owned!(), "
 ), done AS (
     UPDATE jobs SET state = 'done', lease_until = NULL, ended = clock_timestamp()
     WHERE id = ANY (ARRAY(SELECT id FROM free))
@@ -207,20 +170,15 @@ WITH free AS MATERIALIZED (
 )
 SELECT id, state FROM done
 UNION ALL
-SELECT j.id, j.state FROM unnest($3::bigint[], $4::int[]) AS v(id, attempt)
-JOIN jobs j ON j.id = v.id AND j.attempt = v.attempt AND j.state IN ('running', 'done')"
-);
+SELECT id, state FROM unnest($3::bigint[], $4::int[]) AS v(id, attempt) JOIN jobs USING (id, attempt)
+WHERE state IN ('running', 'done')" };
 
 /// Holders have failed. A job comes once more as it stood before, as of those that are done.
-pub const FAIL: &str = concat!(
-    "
+pub const FAIL: &str = concat! { "
 WITH free AS MATERIALIZED (
-    SELECT j.id, v.error FROM unnest($3::bigint[], $4::int[], $5::text[]) AS v(id, attempt, error)
-    JOIN jobs j ON j.id = v.id AND j.attempt = v.attempt AND j.state || '' = 'running'
-    WHERE j.partition = ",
-    owned!(),
-    "
-    FOR NO KEY UPDATE OF j SKIP LOCKED
+    SELECT id, v.error
+    FROM unnest($3::bigint[], $4::int[], $5::text[]) AS v(id, attempt, error) JOIN jobs USING (id, attempt)
+    WHERE state || '' = 'running' AND ", owned!(), "
 ), failed AS (
     UPDATE jobs j SET lease_until = NULL, ended = clock_timestamp(), error = free.error,
         state = CASE WHEN jobs_is_last(j.attempt, j.attempts, j.kind, $6) THEN 'dead' ELSE 'waiting' END,
@@ -231,39 +189,26 @@ WITH free AS MATERIALIZED (
 )
 SELECT id, state FROM failed
 UNION ALL
-SELECT j.id, j.state FROM unnest($3::bigint[], $4::int[]) AS v(id, attempt)
-JOIN jobs j ON j.id = v.id AND j.attempt = v.attempt AND j.state || '' = 'running'"
-);
+SELECT id, state FROM unnest($3::bigint[], $4::int[]) AS v(id, attempt) JOIN jobs USING (id, attempt)
+WHERE state || '' = 'running'" };
 
 /// Leases have ended: their jobs wait again, and after the last attempt they are dead.
-pub const EXPIRE: &str = concat!(
-    "
+pub const EXPIRE: &str = concat! { "
 WITH free AS MATERIALIZED (
-    SELECT j.id FROM unnest($3::bigint[], $4::int[]) AS v(id, attempt)
-    JOIN jobs j ON j.id = v.id AND j.attempt = v.attempt AND j.state || '' = 'running' AND j.lease_until <= now()
-    WHERE j.partition = ",
-    owned!(),
-    "
-    FOR NO KEY UPDATE OF j SKIP LOCKED
+    SELECT id FROM unnest($3::bigint[], $4::int[]) AS v(id, attempt) JOIN jobs USING (id, attempt)
+    WHERE state || '' = 'running' AND lease_until <= now() AND ", owned!(), "
 )
 UPDATE jobs SET lease_until = NULL, ended = clock_timestamp(), error = 'the lease ended',
     state = CASE WHEN jobs_is_last(attempt, attempts, kind, $5) THEN 'dead' ELSE 'waiting' END
 WHERE id = ANY (ARRAY(SELECT id FROM free))
-RETURNING id, state, due, priority, kind"
-);
+RETURNING id, state, due, priority, kind" };
 
 /// Writes what holders have extended in memory, and tells which leases stand in the table now.
-pub const WRITE_LEASES: &str = concat!(
-    "
+pub const WRITE_LEASES: &str = concat! { "
 WITH free AS MATERIALIZED (
-    SELECT j.id, v.lease_until
-    FROM unnest($3::bigint[], $4::int[], $5::timestamptz[]) AS v(id, attempt, lease_until)
-    JOIN jobs j ON j.id = v.id AND j.attempt = v.attempt AND j.state || '' = 'running'
-    WHERE j.partition = ",
-    owned!(),
-    "
-    FOR NO KEY UPDATE OF j SKIP LOCKED
+    SELECT id, v.until
+    FROM unnest($3::bigint[], $4::int[], $5::timestamptz[]) AS v(id, attempt, until) JOIN jobs USING (id, attempt)
+    WHERE state || '' = 'running' AND ", owned!(), "
 )
-UPDATE jobs j SET lease_until = greatest(j.lease_until, free.lease_until) FROM free WHERE j.id = free.id
-RETURNING j.id"
-);
+UPDATE jobs j SET lease_until = greatest(j.lease_until, free.until) FROM free WHERE j.id = free.id
+RETURNING j.id" };

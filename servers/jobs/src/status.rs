@@ -27,6 +27,6 @@ pub async fn run(database: &Database) -> Result<(), Box<dyn Error>> {
         let (name, address, owned): (&str, &str, i64) = (row.get(0), row.get(1), row.get(2));
         println!("{name:<24} {address:<22} {owned}");
     }
-    println!("\n{}", session.query(COUNTS, &[]).await?[0].get::<_, &str>(0));
+    println!("\n{}", session.value::<String>(COUNTS, &[]).await?);
     Ok(())
 }

@@ -2,22 +2,19 @@
 
 use crate::clock::Clock;
 use crate::db::{tell, Links};
-use crate::effect;
-use crate::expiry;
 use crate::metrics::Metrics;
 use crate::options::WorkerOptions;
-use crate::owner;
 use crate::partitions::{Due, Partitions, Waiting};
 use crate::ready::{Ready, MORE};
 use crate::redirect::Redirects;
-use crate::{chores, fault, leases, scrape, server, setup, sql};
+use crate::{chores, effect, enter, fault, leases, owner, scrape, server, setup};
 use std::collections::hash_map::RandomState;
 use std::error::Error;
 use std::hash::{BuildHasher, Hasher};
 use std::io;
 use std::net::SocketAddr;
 use std::sync::atomic::{AtomicBool, AtomicUsize, Ordering::SeqCst};
-use std::sync::{Arc, Mutex, PoisonError};
+use std::sync::{Arc, Mutex};
 use tokio::net::TcpListener;
 use tokio::signal::unix::{signal, SignalKind};
 use tokio::sync::mpsc::{unbounded_channel, UnboundedSender};
@@ -40,7 +37,8 @@ pub struct Worker {
     pub address: String,
     /// True from the moment that it ends.
     pub ending: watch::Receiver<bool>,
-    elsewhere: Mutex<Vec<Place>>,
+    /// Other workers that have jobs for holders: a partition and the address of each, and the kinds.
+    elsewhere: Mutex<Vec<(String, Vec<String>)>>,
     /// How often a holder was to be sent elsewhere.
     turn: AtomicUsize,
     /// Rung when the partitions are to be let go.
@@ -89,32 +87,22 @@ impl Worker {
     /// ready and wait for holders. Those that have more kinds than they tell are named in turn, and after all of them
     /// none.
     pub fn elsewhere(&self, kinds: &[String]) -> Option<String> {
-        let places = self.elsewhere.lock().unwrap_or_else(PoisonError::into_inner);
+        let places = enter(&self.elsewhere);
         let turn = self.turn.fetch_add(1, SeqCst);
-        let of = |kinds: &[String]| -> Vec<&Place> {
-            places.iter().filter(|it| kinds.is_empty() || it.ready.iter().any(|it| kinds.contains(it))).collect()
+        let of = |kinds: &[String]| -> Vec<&String> {
+            let has_some = |ready: &[String]| kinds.is_empty() || ready.iter().any(|it| kinds.contains(it));
+            places.iter().filter(|it| has_some(&it.1)).map(|it| &it.0).collect()
         };
         let (ready, more) = (of(kinds), of(&[MORE.to_owned()]));
-        let place = ready.get(turn % ready.len().max(1)).or_else(|| more.get(turn % (more.len() + 1)));
-        place.map(|it| it.at.clone())
+        ready.get(turn % ready.len().max(1)).or(more.get(turn % (more.len() + 1))).map(|it| it.to_string())
     }
 
     /// What `READ` has said of other workers: partition, address, a slash and kinds.
     pub fn note_elsewhere(&self, places: Vec<&str>) {
-        let place = |it: &str| {
-            let (at, ready) = it.rsplit_once('/')?;
-            Some(Place { at: at.to_owned(), ready: ready.split(' ').map(str::to_owned).collect() })
-        };
-        let places = places.into_iter().filter_map(place).collect();
-        *self.elsewhere.lock().unwrap_or_else(PoisonError::into_inner) = places;
+        let places = places.into_iter().filter_map(|it| it.rsplit_once('/'));
+        let place = |(at, ready): (&str, &str)| (at.to_owned(), ready.split(' ').map(str::to_owned).collect());
+        *enter(&self.elsewhere) = places.map(place).collect();
     }
-}
-
-/// Another worker that has jobs for holders.
-struct Place {
-    /// One of its partitions, and its address.
-    at: String,
-    ready: Vec<String>,
 }
 
 /// Takes out what is due, until the worker ends.
@@ -141,28 +129,28 @@ fn keep(worker: &Worker, jobs: &UnboundedSender<Vec<Waiting>>, leases: &Unbounde
 /// Runs a worker until it is told to end by SIGTERM or SIGINT.
 pub async fn run(options: WorkerOptions) -> Result<(), Box<dyn Error>> {
     let (end, ending) = watch::channel(false);
-    let listener = match options.effect {
-        Some(_) => None,
-        None => Some(bind(options.listen).await?),
-    };
-    let address = match (&listener, &options.announce) {
-        (None, _) => "-".to_owned(),
-        (Some(_), Some(address)) => address.clone(),
-        (Some(listener), None) => listener.local_addr()?.to_string(),
+    let (listener, address) = match &options.effect {
+        Some(_) => (None, "-".to_owned()),
+        None => {
+            let listener = bind(options.listen).await?;
+            let here = listener.local_addr()?.to_string();
+            (Some(listener), options.announce.clone().unwrap_or(here))
+        }
     };
     let worker = Arc::new(Worker::new(options, address, ending));
     match worker.options.effect {
         Some(_) => tell(format_args!("worker {} has an effect", worker.options.name)),
         None => tell(format_args!("worker {} at {}", worker.options.name, worker.address)),
     }
-    watched(&worker).await?;
-    worker.partitions.divide(setup::check(&worker.options.database).await?);
+    if let Some(address) = worker.options.metrics {
+        tokio::spawn(scrape::serve(worker.clone(), bind(address).await?));
+    }
+    worker.partitions.divide(setup::check(&worker.links, &worker.options.database).await?);
     let statement = match &worker.options.effect {
-        Some(effect) => effect::statement(&worker.links, sql::BEGIN_EFFECT, effect).await?,
+        Some(effect) => effect::statement(&worker.links, effect).await?,
         None => String::new(),
     };
-    let mut tasks = begin(&worker, listener, statement.into());
-    let signals = signals()?;
+    let (mut tasks, signals) = (begin(&worker, listener, statement.into()), signals()?);
     tokio::select! {
         _ = signals.notified() => {}
         ended = &mut tasks.owner => return Ok(ended??),
@@ -183,13 +171,6 @@ async fn bind(address: SocketAddr) -> Result<TcpListener, String> {
     TcpListener::bind(address).await.map_err(|error| format!("{address}: {error}"))
 }
 
-async fn watched(worker: &Arc<Worker>) -> Result<(), Box<dyn Error>> {
-    if let Some(address) = worker.options.metrics {
-        tokio::spawn(scrape::serve(worker.clone(), bind(address).await?));
-    }
-    Ok(())
-}
-
 struct Tasks {
     keeper: std::thread::JoinHandle<()>,
     jobs: tokio::task::JoinHandle<()>,
@@ -198,18 +179,23 @@ struct Tasks {
 }
 
 fn begin(worker: &Arc<Worker>, listener: Option<TcpListener>, effect: Arc<str>) -> Tasks {
-    let (due, jobs) = unbounded_channel();
+    let (due, mut jobs) = unbounded_channel::<Vec<Waiting>>();
     let (ended, leases_ended) = unbounded_channel();
     let kept = worker.clone();
     let keeper = std::thread::spawn(move || keep(&kept, &due, &ended));
     let jobs = match listener {
         Some(listener) => {
             tokio::spawn(server::serve(worker.clone(), listener));
-            tokio::spawn(crate::ready::fill(worker.clone(), jobs))
+            let worker = worker.clone();
+            tokio::spawn(async move {
+                while let Some(jobs) = jobs.recv().await {
+                    worker.ready.push(jobs);
+                }
+            })
         }
         None => tokio::spawn(effect::run(worker.clone(), effect, jobs)),
     };
-    let expiry = tokio::spawn(expiry::run(worker.clone(), leases_ended));
+    let expiry = tokio::spawn(leases::expire_on(worker.clone(), leases_ended));
     tokio::spawn(leases::write_on(worker.clone()));
     tokio::spawn(chores::run(worker.clone()));
     let owner = tokio::spawn(owner::run(worker.clone()));
