@@ -369,7 +369,7 @@ fn memory_is_counted_back_to_nothing() {
     (0..50).for_each(|at| drop(ask(&mut client, &format!("DEL key:{at} count:{at}"))));
     let held = keyspace.held();
     assert_eq!((ask(&mut client, "DBSIZE"), held.bytes, held.expires), (Reply::Integer(0), 0, 0));
-    assert!(keyspace.room().take(0, 64 << 20).is_ok(), "all of the room is free");
+    assert!(keyspace.room.take(0, 64 << 20).is_ok(), "all of the room is free");
 }
 
 /// Takes so many bytes at a time, and nothing every other time.

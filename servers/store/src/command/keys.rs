@@ -1,6 +1,6 @@
 //! Keys and their values.
 
-use super::expiry::Time;
+use super::expiry::Form;
 use super::{count, Answer, Client, Refusal, Words};
 use crate::clock::Tick;
 use crate::keyspace::{Lifetime, Place};
@@ -58,7 +58,7 @@ pub fn get_and_remove(client: &mut Client<'_>, words: Words<'_>) -> Answer {
 pub fn add(client: &mut Client<'_>, name: &[u8], by: i64) -> Answer {
     change(client, name, |place| {
         let old = place.value().map_or(Some(0), |value| integer(value)).ok_or(Refusal::NOT_AN_INTEGER)?;
-        let new = old.checked_add(by).ok_or(Refusal::OVERFLOW)?;
+        let new = old.checked_add(by).ok_or(Refusal::Plain("ERR increment or decrement would overflow"))?;
         place.set(new.to_string().as_bytes(), Lifetime::Kept)?;
         Ok(Reply::Integer(new))
     })
@@ -70,7 +70,7 @@ pub fn incr_by(client: &mut Client<'_>, words: Words<'_>) -> Answer {
 
 pub fn decr_by(client: &mut Client<'_>, words: Words<'_>) -> Answer {
     let by = integer(words[2]).ok_or(Refusal::NOT_AN_INTEGER)?;
-    add(client, words[1], by.checked_neg().ok_or(Refusal::DECR_OVERFLOW)?)
+    add(client, words[1], by.checked_neg().ok_or(Refusal::Plain("ERR decrement would overflow"))?)
 }
 
 pub fn flush(client: &mut Client<'_>, words: Words<'_>) -> Answer {
@@ -108,74 +108,49 @@ impl Only<'_> {
 struct Options<'a> {
     only: Only<'a>,
     is_get: bool,
-    is_kept: bool,
-    is_endless: bool,
-    time: Option<Time<'a>>,
+    /// KEEPTTL of a SET, or PERSIST of a GETEX: no time stands beside it.
+    is_timeless: bool,
+    time: Option<(Form, &'a [u8])>,
 }
 
 impl<'a> Options<'a> {
-    fn of_set(words: Words<'a>) -> Result<Options<'a>, Refusal> {
-        Options::of(words, |options, word, rest| {
-            match (word, &options.only) {
-                (b"nx", Only::Any | Only::None) => options.only = Only::None,
-                (b"xx", Only::Any | Only::Some) => options.only = Only::Some,
-                (b"ifeq", Only::Any) => options.only = Only::Equal(rest.next()?),
-                (b"get", _) => options.is_get = true,
-                (b"keepttl", _) if options.time.is_none() => options.is_kept = true,
-                _ => return None,
-            }
-            Some(())
-        })
-    }
-
-    fn of_getex(words: Words<'a>) -> Result<Options<'a>, Refusal> {
-        Options::of(words, |options, word, _| {
-            let is_known = word == b"persist" && options.time.is_none();
-            options.is_endless |= is_known;
-            is_known.then_some(())
-        })
-    }
-
-    /// The options that a command takes, `take` says whether a word is one and takes what belongs to it, and a time
-    /// beside them.
-    fn of(
-        words: Words<'a>,
-        take: impl Fn(&mut Options<'a>, &[u8], &mut dyn Iterator<Item = &'a [u8]>) -> Option<()>,
-    ) -> Result<Options<'a>, Refusal> {
+    fn of(words: Words<'a>, is_set: bool) -> Result<Options<'a>, Refusal> {
         let mut options = Options::default();
         let mut rest = words.iter().copied();
         while let Some(word) = rest.next() {
-            let word = word.to_ascii_lowercase();
-            if take(&mut options, &word, &mut rest).is_some() {
-                continue;
+            match (&word.to_ascii_lowercase()[..], &options.only) {
+                (b"nx", Only::Any | Only::None) if is_set => options.only = Only::None,
+                (b"xx", Only::Any | Only::Some) if is_set => options.only = Only::Some,
+                (b"ifeq", Only::Any) if is_set => options.only = Only::Equal(rest.next().ok_or(Refusal::SYNTAX)?),
+                (b"get", _) if is_set => options.is_get = true,
+                (b"keepttl", _) if is_set && options.time.is_none() => options.is_timeless = true,
+                (b"persist", _) if !is_set && options.time.is_none() => options.is_timeless = true,
+                _ if options.is_timeless => return Err(Refusal::SYNTAX),
+                (word, _) => {
+                    // Of two times in one form the last counts.
+                    let is_first = |form: &Form| options.time.map_or(true, |(other, _)| other == *form);
+                    let form = Form::of(word).filter(is_first).ok_or(Refusal::SYNTAX)?;
+                    options.time = Some((form, rest.next().ok_or(Refusal::SYNTAX)?));
+                }
             }
-            if options.is_kept || options.is_endless {
-                return Err(Refusal::SYNTAX);
-            }
-            let (unit, is_from_now) = Time::option(&word).ok_or(Refusal::SYNTAX)?;
-            // Of two times in one form the last counts.
-            if options.time.as_ref().is_some_and(|it| (it.unit, it.is_from_now) != (unit, is_from_now)) {
-                return Err(Refusal::SYNTAX);
-            }
-            options.time = Some(Time { text: rest.next().ok_or(Refusal::SYNTAX)?, unit, is_from_now });
         }
         Ok(options)
     }
 
     /// What becomes of the deadline: one that is told, the old one, or none.
-    fn lifetime(&self, now: Tick, command: &'static str) -> Result<Lifetime, Refusal> {
-        match &self.time {
-            None if self.is_kept => Ok(Lifetime::Kept),
+    fn lifetime(&self, now: Tick) -> Result<Lifetime, Refusal> {
+        match self.time {
+            None if self.is_timeless => Ok(Lifetime::Kept),
             None => Ok(Lifetime::Endless),
-            Some(time) => Ok(Lifetime::Until(time.positive(now, command)?)),
+            Some((form, time)) => form.positive(time, now).map(Lifetime::Until),
         }
     }
 }
 
 pub fn set(client: &mut Client<'_>, words: Words<'_>) -> Answer {
-    let options = Options::of_set(&words[3..])?;
+    let options = Options::of(&words[3..], true)?;
     change(client, words[1], |place| {
-        let lifetime = options.lifetime(place.now, "set")?;
+        let lifetime = options.lifetime(place.now)?;
         let old = place.value().cloned();
         let is_done = options.only.allows(old.as_deref());
         if is_done {
@@ -210,7 +185,7 @@ pub fn get_and_set(client: &mut Client<'_>, words: Words<'_>) -> Answer {
 /// Sets each key. What was set before one that is refused stays.
 pub fn set_all(client: &mut Client<'_>, words: Words<'_>) -> Answer {
     if words.len() % 2 == 0 {
-        return Err(Refusal::WordCount("mset"));
+        return Err(Refusal::WordCount);
     }
     for pair in words[1..].chunks(2) {
         change(client, pair[0], |place| place.set(pair[1], Lifetime::Endless))?;
@@ -219,23 +194,21 @@ pub fn set_all(client: &mut Client<'_>, words: Words<'_>) -> Answer {
 }
 
 /// SETEX or PSETEX: the time stands before the value.
-pub fn set_until(client: &mut Client<'_>, words: Words<'_>, command: &'static str) -> Answer {
-    let time = Time::from_now(words[2], command == "setex");
+pub fn set_until(client: &mut Client<'_>, words: Words<'_>, form: Form) -> Answer {
     change(client, words[1], |place| {
-        let until = time.positive(place.now, command)?;
-        place.set(words[3], Lifetime::Until(until))?;
+        place.set(words[3], Lifetime::Until(form.positive(words[2], place.now)?))?;
         Ok(Reply::Status("OK"))
     })
 }
 
 pub fn get_and_expire(client: &mut Client<'_>, words: Words<'_>) -> Answer {
-    let options = Options::of_getex(&words[2..])?;
+    let options = Options::of(&words[2..], false)?;
     change(client, words[1], |place| {
         let Some(value) = place.value().cloned() else { return Ok(Reply::Nil) };
-        if options.is_endless {
+        if options.is_timeless {
             place.persist();
-        } else if let Some(time) = &options.time {
-            if !place.expire(time.positive(place.now, "getex")?)? {
+        } else if let Some((form, time)) = options.time {
+            if !place.expire(form.positive(time, place.now)?)? {
                 return Ok(Reply::Nil);
             }
         }
