@@ -106,7 +106,7 @@ impl Names {
 }
 
 const COMMANDS: &[Command] = &[
-    Command("get", 2, false, Names::First, keys::get),
+    Command("get", 2, false, Names::First, |client, words| Ok(keys::value(client, words[1]))),
     Command("set", 3, true, Names::First, keys::set),
     Command("pexpire", 3, true, Names::First, |client, words| expiry::expire(client, words, Form::Px)),
     Command("expire", 3, true, Names::First, |client, words| expiry::expire(client, words, Form::Ex)),

@@ -3,7 +3,7 @@
 use crate::command::{Client, Desk, Served, Session};
 use crate::output::Output;
 use crate::resp::{Parser, Reply};
-use crate::seats::{NoSeat, Seat, PER_SEAT};
+use crate::seats::{Seat, NO_MEMORY, PER_SEAT};
 use mio::event::Event;
 use mio::net::TcpStream;
 use std::io::{self, ErrorKind, Read};
@@ -53,7 +53,7 @@ pub enum After {
 }
 
 pub struct Connection {
-    socket: TcpStream,
+    pub socket: TcpStream,
     seat: Seat,
     talk: Talk,
     /// What came and isn't answered yet, from the beginning of a request on.
@@ -90,10 +90,6 @@ impl Connection {
         let talk = Talk { parser, session, output, told, has_more, is_over, is_refused };
         let (input, stuck, lingers, is_readable, is_hung_up, is_queued) = Default::default();
         Connection { socket, seat, talk, input, is_readable, is_hung_up, stuck, lingers, is_queued }
-    }
-
-    pub fn socket(&mut self) -> &mut TcpStream {
-        &mut self.socket
     }
 
     /// Does what it has begun, before it is closed.
@@ -208,7 +204,7 @@ impl Connection {
         if !self.talk.output.is_empty() {
             return false;
         }
-        self.talk.output.reply(&Reply::Error(NoSeat::Memory.to_string()));
+        self.talk.output.reply(&Reply::Error(NO_MEMORY.into()));
         self.send().is_ok() && self.talk.output.is_empty() && self.linger() != After::Over
     }
 

@@ -120,16 +120,14 @@ impl EventLoop {
     fn read_mail(&mut self) -> io::Result<()> {
         let arrivals = mem::take(&mut *lock(&self.mailbox.arrivals));
         for (mut socket, seat) in arrivals {
-            let place = self.free.pop().unwrap_or(self.connections.len());
+            let place = self.free.pop().unwrap_or_else(|| {
+                self.connections.push(None);
+                self.connections.len() - 1
+            });
             let interest = Interest::READABLE | Interest::WRITABLE;
             // A socket that can't be watched is closed.
             let is_watched = self.poll.registry().register(&mut socket, Token(place), interest).is_ok();
-            let connection = is_watched.then(|| Connection::new(socket, seat, &self.shop.desk));
-            if place == self.connections.len() {
-                self.connections.push(connection);
-            } else {
-                self.connections[place] = connection;
-            }
+            self.connections[place] = is_watched.then(|| Connection::new(socket, seat, &self.shop.desk));
             if !is_watched {
                 self.give_back(place);
             }
@@ -141,12 +139,8 @@ impl EventLoop {
         }
         if self.mailbox.is_ending.load(SeqCst) && self.end.is_none() {
             self.end = Some(Instant::now() + LAST_WAIT);
-            for place in 0..self.connections.len() {
-                if let Some(connection) = &mut self.connections[place] {
-                    connection.end();
-                    self.queue(place);
-                }
-            }
+            self.connections.iter_mut().flatten().for_each(Connection::end);
+            (0..self.connections.len()).for_each(|place| self.queue(place));
         }
         Ok(())
     }
@@ -199,14 +193,12 @@ impl EventLoop {
     fn close_largest(&mut self) {
         let burdens = self.connections.iter().enumerate();
         let burdens = burdens.filter_map(|(place, it)| Some((it.as_ref()?.burden(), place)));
-        let largest = burdens.filter(|((_, held), _)| *held >= MUCH).max();
-        if let Some((_, place)) = largest {
-            if self.connections[place].as_mut().is_some_and(Connection::turn_out) {
-                self.stuck.push(place);
-                self.queue(place);
-            } else {
-                self.close(place);
-            }
+        let Some((_, place)) = burdens.filter(|((_, held), _)| *held >= MUCH).max() else { return };
+        if self.connections[place].as_mut().is_some_and(Connection::turn_out) {
+            self.stuck.push(place);
+            self.queue(place);
+        } else {
+            self.close(place);
         }
     }
 
@@ -237,7 +229,7 @@ impl EventLoop {
     fn close(&mut self, place: usize) {
         if let Some(mut connection) = self.connections[place].take() {
             connection.finish(&mut self.shop.desk);
-            let _ = self.poll.registry().deregister(connection.socket());
+            let _ = self.poll.registry().deregister(&mut connection.socket);
         }
         self.give_back(place);
     }

@@ -3,7 +3,6 @@
 use crate::lock;
 use mio::Waker;
 use std::collections::BTreeMap;
-use std::fmt;
 use std::net::SocketAddr;
 use std::sync::atomic::{AtomicBool, AtomicU64, AtomicUsize, Ordering::Relaxed, Ordering::SeqCst};
 use std::sync::{Arc, Mutex, MutexGuard};
@@ -12,6 +11,9 @@ use std::time::{Duration, Instant};
 /// What a connection takes while it waits: its own fields, its place in a table, and what it may keep of its last
 /// request.
 pub const PER_SEAT: usize = 2 << 10;
+/// What is told to those for whom there is no place.
+const NO_SEAT: &str = "ERR max number of clients reached";
+pub const NO_MEMORY: &str = "OOM the memory for connections is used up";
 
 pub struct Seats {
     pub limit: usize,
@@ -79,21 +81,6 @@ impl Guest {
     }
 }
 
-#[derive(Clone, Copy, Debug, PartialEq, Eq)]
-pub enum NoSeat {
-    Clients,
-    Memory,
-}
-
-impl fmt::Display for NoSeat {
-    fn fmt(&self, f: &mut fmt::Formatter<'_>) -> fmt::Result {
-        match self {
-            NoSeat::Clients => write!(f, "ERR max number of clients reached"),
-            NoSeat::Memory => write!(f, "OOM the memory for connections is used up"),
-        }
-    }
-}
-
 impl Seats {
     pub fn new(limit: usize, room: usize) -> Seats {
         let (taken, bytes, last, guests, sent_away, wakers) = Default::default();
@@ -145,16 +132,17 @@ pub struct Seat {
 }
 
 impl Seat {
-    pub fn take(seats: &Arc<Seats>, address: SocketAddr) -> Result<Seat, NoSeat> {
+    /// A place for a new connection, or what its client is told where there is none.
+    pub fn take(seats: &Arc<Seats>, address: SocketAddr) -> Result<Seat, &'static str> {
         // No other connection ever has the number.
         let id = seats.last.fetch_add(1, SeqCst) + 1;
         let seat = Seat { seats: seats.clone(), guest: Guest::new(id, address) };
         if seats.taken.fetch_add(1, SeqCst) >= seats.limit {
-            return Err(NoSeat::Clients);
+            return Err(NO_SEAT);
         }
         seat.hold(PER_SEAT);
         if seats.is_crowded() {
-            return Err(NoSeat::Memory);
+            return Err(NO_MEMORY);
         }
         lock(&seats.guests).insert(id, seat.guest.clone());
         Ok(seat)

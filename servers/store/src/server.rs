@@ -112,9 +112,9 @@ impl Reception<'_> {
     /// Gives a connection to the thread that has the fewest, or refuses it by name.
     fn welcome(&self, mut socket: TcpStream, from: SocketAddr) -> io::Result<()> {
         let seat = match Seat::take(self.seats, from) {
-            Err(no_seat) => {
+            Err(refusal) => {
                 // A new socket has room for a line.
-                let _ = socket.write(format!("-{no_seat}\r\n").as_bytes());
+                let _ = socket.write(format!("-{refusal}\r\n").as_bytes());
                 return Ok(());
             }
             Ok(seat) => seat,

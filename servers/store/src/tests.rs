@@ -66,34 +66,22 @@ fn is_ok(client: &mut Asker, line: &str) {
     assert_eq!(ask(client, line), Reply::Status("OK"), "{line}");
 }
 
+/// Nor does the number of keys, where none is over: it doesn't wait for a shard that somebody changes.
 #[test]
 fn a_later_deadline_takes_no_lock() {
     let keyspace = keyspace();
     let mut client = client(&keyspace);
     is_ok(&mut client, "SET lease ann PX 6000000");
+    is_ok(&mut client, "SET other 1");
     assert_eq!(ask(&mut client, "PEXPIRE lease 7000000 GT"), Reply::Integer(1));
     let (told, heard) = mpsc::channel();
     keyspace.while_held(b"lease", || {
-        thread::spawn(move || {
-            let later = ask(&mut client, "PEXPIRE lease 8000000 GT");
-            told.send((later, ask(&mut client, "PEXPIRE lease 7500000 GT"))).unwrap();
-        });
-        let answers = heard.recv_timeout(Duration::from_millis(LONG));
-        assert_eq!(answers, Ok((Reply::Integer(1), Reply::Integer(0))), "an extend waits for a lock");
-    });
-}
-
-/// Nor does it wait for a shard that somebody changes.
-#[test]
-fn the_number_of_keys_takes_no_lock_where_none_is_over() {
-    let keyspace = keyspace();
-    let mut client = client(&keyspace);
-    is_ok(&mut client, "SET a 1 PX 60000");
-    is_ok(&mut client, "SET b 1");
-    let (told, heard) = mpsc::channel();
-    keyspace.while_held(b"a", || {
-        thread::spawn(move || told.send(ask(&mut client, "DBSIZE")));
-        assert_eq!(heard.recv_timeout(Duration::from_millis(LONG)), Ok(Reply::Integer(2)), "DBSIZE waits for a lock");
+        let requests = [("PEXPIRE lease 8000000 GT", 1), ("PEXPIRE lease 7500000 GT", 0), ("DBSIZE", 2)];
+        thread::spawn(move || requests.map(|(request, _)| told.send(ask(&mut client, request))));
+        for (request, wanted) in requests {
+            let answer = heard.recv_timeout(Duration::from_millis(LONG));
+            assert_eq!(answer, Ok(Reply::Integer(wanted)), "{request} waits for a lock");
+        }
     });
 }
 
@@ -190,9 +178,7 @@ fn extended_until_gone(keyspace: &Arc<Keyspace>, reader: &mut Asker, name: &str,
         });
         while ask(reader, &format!("GET {name}")) != Reply::Nil {}
         is_gone.store(true, SeqCst);
-        for _ in 0..20 {
-            assert_eq!(ask(reader, &format!("GET {name}")), Reply::Nil);
-        }
+        (0..20).for_each(|_| assert_eq!(ask(reader, &format!("GET {name}")), Reply::Nil));
         extender.join().unwrap()
     })
 }
@@ -316,10 +302,8 @@ fn no_key_is_counted_at_its_deadline() {
                     let told = ask(&mut client, request);
                     // The same key was there all the time.
                     if before >= until && deadline.load(SeqCst) == until {
-                        assert!(
-                            matches!(told, Reply::Integer(0) | Reply::Nil),
-                            "{request} at {before}: {told:?}, until {until}"
-                        );
+                        let is_gone = matches!(told, Reply::Integer(0) | Reply::Nil);
+                        assert!(is_gone, "{request} at {before}: {told:?}, until {until}");
                     }
                 }
             });
@@ -339,9 +323,7 @@ fn no_key_is_counted_at_its_deadline() {
 fn keepers_give_back_what_nobody_asks_for() {
     let keyspace = kept();
     let mut client = client(&keyspace);
-    for at in 0..1_000 {
-        is_ok(&mut client, &format!("SET far:{at} value PX 3600000"));
-    }
+    (0..1_000).for_each(|at| is_ok(&mut client, &format!("SET far:{at} value PX 3600000")));
     // The keepers sleep until far ahead now.
     thread::sleep(Duration::from_millis(50));
     let mut last = 0;

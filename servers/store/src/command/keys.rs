@@ -3,20 +3,12 @@
 use super::expiry::Form;
 use super::{count, Answer, Client, Refusal, Words};
 use crate::clock::Tick;
-use crate::keyspace::{Lifetime, Place};
+use crate::keyspace::Lifetime;
 use crate::resp::{integer, Reply};
-
-pub fn change<O>(client: &mut Client<'_>, name: &[u8], change: impl FnOnce(&mut Place<'_, '_>) -> O) -> O {
-    client.desk.keyspace.change(name, change)
-}
 
 pub fn value(client: &mut Client<'_>, name: &[u8]) -> Reply {
     let value = client.desk.keyspace.view(name, |record, _| record.value.clone());
     value.map_or(Reply::Nil, Reply::Bulk)
-}
-
-pub fn get(client: &mut Client<'_>, words: Words<'_>) -> Answer {
-    Ok(value(client, words[1]))
 }
 
 fn is_there(client: &mut Client<'_>, name: &[u8]) -> bool {
@@ -32,23 +24,23 @@ pub fn type_of(client: &mut Client<'_>, words: Words<'_>) -> Answer {
 }
 
 pub fn del(client: &mut Client<'_>, words: Words<'_>) -> Answer {
-    Ok(count(words[1..].iter().filter(|name| change(client, name, |place| place.remove())).count()))
+    Ok(count(words[1..].iter().filter(|name| client.desk.keyspace.change(name, |place| place.remove())).count()))
 }
 
 /// The holder of a lease ends it, by the value that it set.
 pub fn del_if_equal(client: &mut Client<'_>, words: Words<'_>) -> Answer {
-    change(client, words[1], |place| {
+    client.desk.keyspace.change(words[1], |place| {
         let is_its = place.value().is_some_and(|value| **value == *words[2]);
         Ok(count(usize::from(is_its && place.remove())))
     })
 }
 
 pub fn persist(client: &mut Client<'_>, words: Words<'_>) -> Answer {
-    Ok(count(change(client, words[1], |place| place.persist()) as usize))
+    Ok(count(client.desk.keyspace.change(words[1], |place| place.persist()) as usize))
 }
 
 pub fn get_and_remove(client: &mut Client<'_>, words: Words<'_>) -> Answer {
-    change(client, words[1], |place| {
+    client.desk.keyspace.change(words[1], |place| {
         let value = place.value().cloned();
         place.remove();
         Ok(value.map_or(Reply::Nil, Reply::Bulk))
@@ -56,7 +48,7 @@ pub fn get_and_remove(client: &mut Client<'_>, words: Words<'_>) -> Answer {
 }
 
 pub fn add(client: &mut Client<'_>, name: &[u8], by: i64) -> Answer {
-    change(client, name, |place| {
+    client.desk.keyspace.change(name, |place| {
         let old = place.value().map_or(Some(0), |value| integer(value)).ok_or(Refusal::NOT_AN_INTEGER)?;
         let new = old.checked_add(by).ok_or(Refusal::Plain("ERR increment or decrement would overflow"))?;
         place.set(new.to_string().as_bytes(), Lifetime::Kept)?;
@@ -149,7 +141,7 @@ impl<'a> Options<'a> {
 
 pub fn set(client: &mut Client<'_>, words: Words<'_>) -> Answer {
     let options = Options::of(&words[3..], true)?;
-    change(client, words[1], |place| {
+    client.desk.keyspace.change(words[1], |place| {
         let lifetime = options.lifetime(place.now)?;
         let old = place.value().cloned();
         let is_done = options.only.allows(old.as_deref());
@@ -165,7 +157,7 @@ pub fn set(client: &mut Client<'_>, words: Words<'_>) -> Answer {
 }
 
 pub fn set_new(client: &mut Client<'_>, words: Words<'_>) -> Answer {
-    change(client, words[1], |place| {
+    client.desk.keyspace.change(words[1], |place| {
         let is_new = place.value().is_none();
         if is_new {
             place.set(words[2], Lifetime::Endless)?;
@@ -175,7 +167,7 @@ pub fn set_new(client: &mut Client<'_>, words: Words<'_>) -> Answer {
 }
 
 pub fn get_and_set(client: &mut Client<'_>, words: Words<'_>) -> Answer {
-    change(client, words[1], |place| {
+    client.desk.keyspace.change(words[1], |place| {
         let old = place.value().cloned();
         place.set(words[2], Lifetime::Endless)?;
         Ok(old.map_or(Reply::Nil, Reply::Bulk))
@@ -188,14 +180,14 @@ pub fn set_all(client: &mut Client<'_>, words: Words<'_>) -> Answer {
         return Err(Refusal::WordCount);
     }
     for pair in words[1..].chunks(2) {
-        change(client, pair[0], |place| place.set(pair[1], Lifetime::Endless))?;
+        client.desk.keyspace.change(pair[0], |place| place.set(pair[1], Lifetime::Endless))?;
     }
     Ok(Reply::Status("OK"))
 }
 
 /// SETEX or PSETEX: the time stands before the value.
 pub fn set_until(client: &mut Client<'_>, words: Words<'_>, form: Form) -> Answer {
-    change(client, words[1], |place| {
+    client.desk.keyspace.change(words[1], |place| {
         place.set(words[3], Lifetime::Until(form.positive(words[2], place.now)?))?;
         Ok(Reply::Status("OK"))
     })
@@ -203,7 +195,7 @@ pub fn set_until(client: &mut Client<'_>, words: Words<'_>, form: Form) -> Answe
 
 pub fn get_and_expire(client: &mut Client<'_>, words: Words<'_>) -> Answer {
     let options = Options::of(&words[2..], false)?;
-    change(client, words[1], |place| {
+    client.desk.keyspace.change(words[1], |place| {
         let Some(value) = place.value().cloned() else { return Ok(Reply::Nil) };
         if options.is_timeless {
             place.persist();

@@ -49,10 +49,6 @@ struct Running {
 /// sets it, sets another.
 type Seen = Option<(Value, Life)>;
 
-fn seen(desk: &Desk, name: &[u8]) -> Seen {
-    desk.keyspace.view(name, |record, life| (record.value.clone(), life))
-}
-
 /// Whether a key is as it was seen.
 fn is_as_seen(desk: &Desk, name: &[u8], seen: &Seen) -> bool {
     let now = desk.keyspace.view(name, |record, life| (record.value.as_ptr(), life));
@@ -144,15 +140,15 @@ pub fn discard(client: &mut Client<'_>, words: Words<'_>) -> Answer {
 }
 
 pub fn watch(client: &mut Client<'_>, words: Words<'_>) -> Answer {
-    if client.session.transaction.queue.is_some() {
+    let transaction = &mut client.session.transaction;
+    if transaction.queue.is_some() {
         return Err(Refusal::InMulti);
     }
     for name in &words[1..] {
-        let Client { desk, session } = client;
-        if !session.transaction.watched.contains_key(*name) {
-            let seen = seen(desk, name);
-            session.transaction.watched_bytes += name.len() + PER_WATCHED + seen.as_ref().map_or(0, |it| it.0.len());
-            session.transaction.watched.insert(name.to_vec(), seen);
+        if !transaction.watched.contains_key(*name) {
+            let seen = client.desk.keyspace.view(name, |record, life| (record.value.clone(), life));
+            transaction.watched_bytes += name.len() + PER_WATCHED + seen.as_ref().map_or(0, |it| it.0.len());
+            transaction.watched.insert(name.to_vec(), seen);
         }
     }
     Ok(Reply::Status("OK"))
