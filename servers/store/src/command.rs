@@ -108,10 +108,10 @@ impl Names {
 const COMMANDS: &[Command] = &[
     Command("get", 2, false, Names::First, |client, words| Ok(keys::value(client, words[1]))),
     Command("set", 3, true, Names::First, keys::set),
-    Command("pexpire", 3, true, Names::First, |client, words| expiry::expire(client, words, Form::Px)),
-    Command("expire", 3, true, Names::First, |client, words| expiry::expire(client, words, Form::Ex)),
-    Command("setex", 4, false, Names::First, |client, words| keys::set_until(client, words, Form::Ex)),
-    Command("psetex", 4, false, Names::First, |client, words| keys::set_until(client, words, Form::Px)),
+    Command("pexpire", 3, true, Names::First, |client, words| expiry::expire(client, words, Form::PX)),
+    Command("expire", 3, true, Names::First, |client, words| expiry::expire(client, words, Form::EX)),
+    Command("setex", 4, false, Names::First, |client, words| keys::set_until(client, words, Form::EX)),
+    Command("psetex", 4, false, Names::First, |client, words| keys::set_until(client, words, Form::PX)),
     Command("incr", 2, false, Names::First, |client, words| keys::add(client, words[1], 1)),
     Command("incrby", 3, false, Names::First, keys::incr_by),
     Command("decr", 2, false, Names::First, |client, words| keys::add(client, words[1], -1)),
@@ -130,12 +130,12 @@ const COMMANDS: &[Command] = &[
     Command("type", 2, false, Names::First, keys::type_of),
     Command("scan", 2, true, Names::All, scan::scan),
     Command("keys", 2, false, Names::All, scan::keys),
-    Command("pexpireat", 3, true, Names::First, |client, words| expiry::expire(client, words, Form::PxAt)),
-    Command("expireat", 3, true, Names::First, |client, words| expiry::expire(client, words, Form::ExAt)),
-    Command("ttl", 2, false, Names::First, |client, words| expiry::life(client, words, Form::Ex)),
-    Command("pttl", 2, false, Names::First, |client, words| expiry::life(client, words, Form::Px)),
-    Command("expiretime", 2, false, Names::First, |client, words| expiry::life(client, words, Form::ExAt)),
-    Command("pexpiretime", 2, false, Names::First, |client, words| expiry::life(client, words, Form::PxAt)),
+    Command("pexpireat", 3, true, Names::First, |client, words| expiry::expire(client, words, Form::PXAT)),
+    Command("expireat", 3, true, Names::First, |client, words| expiry::expire(client, words, Form::EXAT)),
+    Command("ttl", 2, false, Names::First, |client, words| expiry::life(client, words, Form::EX)),
+    Command("pttl", 2, false, Names::First, |client, words| expiry::life(client, words, Form::PX)),
+    Command("expiretime", 2, false, Names::First, |client, words| expiry::life(client, words, Form::EXAT)),
+    Command("pexpiretime", 2, false, Names::First, |client, words| expiry::life(client, words, Form::PXAT)),
     Command("persist", 2, false, Names::First, keys::persist),
     Command("dbsize", 1, false, Names::All, |client, _| Ok(count(client.desk.keyspace.count()))),
     Command("flushall", 1, true, Names::All, keys::flush),
@@ -277,8 +277,8 @@ impl Client<'_> {
     }
 
     fn answer_by(&mut self, number: Option<usize>, words: Words<'_>) -> Reply {
-        let name = number.map_or("", |it| COMMANDS[it].0);
-        self.run(number, words).unwrap_or_else(|refusal| Reply::Error(refusal.text(name)))
+        let name = || number.map_or("", |it| COMMANDS[it].0);
+        self.run(number, words).unwrap_or_else(|refusal| Reply::Error(refusal.text(name())))
     }
 
     fn run(&mut self, number: Option<usize>, words: Words<'_>) -> Answer {

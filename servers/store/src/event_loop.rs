@@ -95,7 +95,11 @@ impl EventLoop {
                     }
                 }
             }
-            self.give_turns();
+            // Each that waits by now has a turn.
+            for _ in 0..self.queue.len() {
+                let Some(place) = self.queue.pop_front() else { break };
+                self.give_turn(place);
+            }
             self.close_stuck();
         }
         self.connections.iter_mut().flatten().for_each(|it| it.finish(&mut self.shop.desk));
@@ -156,14 +160,6 @@ impl EventLoop {
     fn queue(&mut self, place: usize) {
         if self.connections[place].as_mut().is_some_and(|it| !mem::replace(&mut it.is_queued, true)) {
             self.queue.push_back(place);
-        }
-    }
-
-    /// Gives each that waits by now a turn.
-    fn give_turns(&mut self) {
-        for _ in 0..self.queue.len() {
-            let Some(place) = self.queue.pop_front() else { return };
-            self.give_turn(place);
         }
     }
 

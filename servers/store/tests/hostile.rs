@@ -406,22 +406,19 @@ fn no_room_is_an_error_by_name_and_nothing_is_lost() {
 /// none is refused memory later.
 #[test]
 fn a_start_that_has_to_be_refused_is_so_by_name() {
-    let for_others =
-        "0.0.0.0 is for others too: a --password-file is wanted, or --protected-mode no; --help tells more";
+    let others = "0.0.0.0 is for others too: a --password-file is wanted, or --protected-mode no; --help tells more";
     let starts = [
-        ("\"$@\" --bind 0.0.0.0", for_others),
-        ("\"$@\" --protected-mode yes --bind 0.0.0.0", for_others),
-        ("\"$@\" --password-file /dev/null", "/dev/null has no password in its first line; --help tells more"),
-        ("STORE_PASSWORD= \"$@\"", "STORE_PASSWORD is empty; --help tells more"),
-        (
-            "\"$@\" --memory 64 --keys 0 --most 103",
-            "--most is 105 MiB at least, for what is counted; --help tells more",
-        ),
-        ("ulimit -v 150000 && \"$@\" --keys 4000000", "the deadlines of --keys 4000000: out of memory"),
+        ("", "--bind 0.0.0.0", others),
+        ("", "--protected-mode yes --bind 0.0.0.0", others),
+        ("", "--password-file /dev/null", "/dev/null has no password in its first line; --help tells more"),
+        ("STORE_PASSWORD=", "", "STORE_PASSWORD is empty; --help tells more"),
+        ("", "--memory 64 --keys 0 --most 103", "--most is 105 MiB at least, for what is counted; --help tells more"),
+        ("ulimit -v 150000 &&", "--keys 4000000", "the deadlines of --keys 4000000: out of memory"),
     ];
-    for (start, told) in starts {
+    for (before, options, told) in starts {
+        let start = format!("{before} \"$@\" {options}");
         let mut command = Command::new("sh");
-        command.args(["-c", start, "sh", "timeout", "120", STORE, "--port", "0"]).env_remove("STORE_PASSWORD");
+        command.args(["-c", &start, "sh", "timeout", "120", STORE, "--port", "0"]).env_remove("STORE_PASSWORD");
         let output = command.output().unwrap();
         assert_eq!(String::from_utf8_lossy(&output.stderr), format!("store: {told}\n"), "{start}");
         assert_eq!(output.status.code(), Some(1), "{start}");

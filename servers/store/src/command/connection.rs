@@ -108,6 +108,9 @@ fn set_name(client: &mut Client<'_>, name: &[u8]) -> Result<(), Refusal> {
     Ok(())
 }
 
+/// The parts of CLIENT that have a number of words.
+const PARTS: [&str; 5] = ["id", "getname", "setname", "info", "kill"];
+
 pub fn client(client: &mut Client<'_>, words: Words<'_>) -> Answer {
     match (&words[1].to_ascii_lowercase()[..], &words[2..]) {
         (b"id", []) => Ok(Reply::Integer(client.session.guest.id as i64)),
@@ -120,10 +123,10 @@ pub fn client(client: &mut Client<'_>, words: Words<'_>) -> Answer {
         (b"list", rest) => list(client, rest),
         (b"kill", [address]) => kill_at(client, address),
         (b"kill", [_, _, ..]) => kill(client, &words[2..]),
-        (part @ (b"id" | b"getname" | b"setname" | b"info" | b"kill"), _) => {
-            Err(Refusal::PartWordCount(repeated(part)))
-        }
-        _ => Err(Refusal::UnknownPart(repeated(words[1]))),
+        (part, _) => Err(match PARTS.iter().find(|it| it.as_bytes() == part) {
+            Some(part) => Refusal::PartWordCount(part),
+            None => Refusal::UnknownPart(repeated(words[1])),
+        }),
     }
 }
 
@@ -208,7 +211,7 @@ pub fn config(client: &mut Client<'_>, words: Words<'_>) -> Answer {
         return Err(Refusal::UnknownPart(repeated(words[1])));
     }
     if words.len() < 3 {
-        return Err(Refusal::PartWordCount("get".into()));
+        return Err(Refusal::PartWordCount("get"));
     }
     let bytes = client.desk.keyspace.room.most + client.desk.seats.room;
     let settings = &client.desk.settings;

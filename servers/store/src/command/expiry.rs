@@ -7,40 +7,35 @@ use crate::resp::{integer, Reply};
 use hontkhale::parts::owner::LAST_TICK;
 use hontkhale::Key;
 
-/// What a time counts, in seconds or milliseconds, from now on or since 1970: by the words of SET's options.
+/// What a time counts: seconds or milliseconds, from now on or since 1970.
 #[derive(Clone, Copy, PartialEq, Eq)]
-pub enum Form {
-    Ex,
-    Px,
-    ExAt,
-    PxAt,
+pub struct Form {
+    is_seconds: bool,
+    is_from_now: bool,
 }
 
 impl Form {
-    /// That of an option.
+    pub const EX: Form = Form { is_seconds: true, is_from_now: true };
+    pub const PX: Form = Form { is_seconds: false, is_from_now: true };
+    pub const EXAT: Form = Form { is_seconds: true, is_from_now: false };
+    pub const PXAT: Form = Form { is_seconds: false, is_from_now: false };
+
+    /// That of an option, which has its name.
     pub fn of(word: &[u8]) -> Option<Form> {
         match word {
-            b"ex" => Some(Form::Ex),
-            b"px" => Some(Form::Px),
-            b"exat" => Some(Form::ExAt),
-            b"pxat" => Some(Form::PxAt),
+            b"ex" => Some(Form::EX),
+            b"px" => Some(Form::PX),
+            b"exat" => Some(Form::EXAT),
+            b"pxat" => Some(Form::PXAT),
             _ => None,
         }
-    }
-
-    fn is_seconds(self) -> bool {
-        matches!(self, Form::Ex | Form::ExAt)
-    }
-
-    fn is_from_now(self) -> bool {
-        matches!(self, Form::Ex | Form::Px)
     }
 
     /// What is told, and it in milliseconds since 1970.
     fn time(self, text: &[u8], now: Tick) -> Result<(i64, i64), Refusal> {
         let time = integer(text).ok_or(Refusal::NOT_AN_INTEGER)?;
-        let millis = if self.is_seconds() { time.checked_mul(1000) } else { Some(time) };
-        let instant = millis.and_then(|it| it.checked_add(if self.is_from_now() { now as i64 } else { 0 }));
+        let millis = if self.is_seconds { time.checked_mul(1000) } else { Some(time) };
+        let instant = millis.and_then(|it| it.checked_add(if self.is_from_now { now as i64 } else { 0 }));
         Ok((time, instant.filter(|it| *it <= LAST_TICK as i64).ok_or(Refusal::ExpireTime)?))
     }
 
@@ -72,12 +67,13 @@ impl Conditions {
                 _ => return Err(Refusal::Told(format!("ERR Unsupported option {}", repeated(word)))),
             }
         }
-        let beside = match only {
-            Conditions { nx: true, xx, gt, lt } if xx || gt || lt => "NX and XX, GT or LT",
-            Conditions { gt: true, lt: true, .. } => "GT and LT",
+        Err(Refusal::Plain(match only {
+            Conditions { nx: true, xx, gt, lt } if xx || gt || lt => {
+                "ERR NX and XX, GT or LT options at the same time are not compatible"
+            }
+            Conditions { gt: true, lt: true, .. } => "ERR GT and LT options at the same time are not compatible",
             only => return Ok(only),
-        };
-        Err(Refusal::Told(format!("ERR {beside} options at the same time are not compatible")))
+        }))
     }
 
     /// Whether a key of that life gets this deadline. A life without an end is longer than any.
@@ -136,8 +132,8 @@ pub fn life(client: &mut Client<'_>, words: Words<'_>, form: Form) -> Answer {
     let millis = match keyspace.view(words[1], |_, life| life) {
         None => return Ok(Reply::Integer(-2)),
         Some(Life::Endless) => return Ok(Reply::Integer(-1)),
-        Some(Life::Until(until)) if form.is_from_now() => until.saturating_sub(keyspace.clock.now()),
+        Some(Life::Until(until)) if form.is_from_now => until.saturating_sub(keyspace.clock.now()),
         Some(Life::Until(until)) => until,
     };
-    Ok(Reply::Integer(if form.is_seconds() { (millis + 500) / 1000 } else { millis } as i64))
+    Ok(Reply::Integer(if form.is_seconds { (millis + 500) / 1000 } else { millis } as i64))
 }

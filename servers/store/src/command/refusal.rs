@@ -5,11 +5,11 @@ use crate::keyspace::NoRoom;
 #[derive(Debug, PartialEq, Eq)]
 pub enum Refusal {
     Plain(&'static str),
-    /// It repeats what the client said.
+    /// It repeats a word of the client's, or tells a number.
     Told(String),
     /// These are told with the command's name, and with its part where it has parts.
     WordCount,
-    PartWordCount(String),
+    PartWordCount(&'static str),
     UnknownPart(String),
     ExpireTime,
     WithoutMulti,

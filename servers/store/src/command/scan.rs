@@ -40,8 +40,7 @@ fn cursor(text: &[u8]) -> Option<u64> {
     let (is_negative, digits) = match text {
         [] => return Some(0),
         [b'-', digits @ ..] => (true, digits),
-        [b'+', digits @ ..] => (false, digits),
-        digits => (false, digits),
+        [b'+', digits @ ..] | digits => (false, digits),
     };
     let number: u64 = str::from_utf8(digits).ok().filter(|it| !it.starts_with('+'))?.parse().ok()?;
     Some(if is_negative { number.wrapping_neg() } else { number })

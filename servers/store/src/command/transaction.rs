@@ -92,16 +92,6 @@ impl Transaction {
         self.running.as_ref().is_some_and(|it| it.claim.is_some())
     }
 
-    /// What EXEC does next. Once there is nothing its names are everybody's again.
-    fn next_request(&mut self) -> Option<Request> {
-        let running = self.running.as_mut()?;
-        let next = running.requests.next();
-        if next.is_none() {
-            running.claim = None;
-        }
-        next
-    }
-
     pub fn note_refusal(&mut self) {
         self.queue.iter_mut().for_each(|queue| queue.is_broken = true);
     }
@@ -125,13 +115,12 @@ impl Transaction {
 }
 
 pub fn multi(client: &mut Client<'_>, _: Words<'_>) -> Answer {
-    match &mut client.session.transaction.queue {
-        Some(_) => Err(Refusal::Plain("ERR MULTI calls can not be nested")),
-        queue => {
-            *queue = Some(Queue::default());
-            Ok(Reply::Status("OK"))
-        }
+    let queue = &mut client.session.transaction.queue;
+    if queue.is_some() {
+        return Err(Refusal::Plain("ERR MULTI calls can not be nested"));
     }
+    *queue = Some(Queue::default());
+    Ok(Reply::Status("OK"))
 }
 
 pub fn discard(client: &mut Client<'_>, words: Words<'_>) -> Answer {
@@ -166,7 +155,7 @@ pub fn advance(client: &mut Client<'_>) -> bool {
         return false;
     }
     let begun = Instant::now();
-    while let Some(request) = client.session.transaction.next_request() {
+    while let Some(request) = client.session.transaction.running.as_mut().and_then(|it| it.requests.next()) {
         let words: Vec<&[u8]> = request.iter().map(Vec::as_slice).collect();
         let reply = client.answer(&words);
         client.session.transaction.keep(reply);
@@ -178,6 +167,8 @@ pub fn advance(client: &mut Client<'_>) -> bool {
             return false;
         }
     }
+    // Its names are everybody's again.
+    client.session.transaction.running.iter_mut().for_each(|it| it.claim = None);
     true
 }
 
