@@ -207,9 +207,9 @@ impl Session {
 }
 
 impl Client<'_> {
-    /// Answers a request. The values of an MGET, the replies of an EXEC and the names of KEYS are told one by one: a client that leaves
-    /// them unread holds one value, and not all that it named, which others may have overwritten since. `told` counts
-    /// what is told of a request from one call to the next.
+    /// Answers a request. The values of an MGET, the replies of an EXEC and the names of KEYS are told one by one: a client
+    /// that leaves them unread holds one value, and not all that it named, which others may have overwritten since. `told`
+    /// counts what is told of a request from one call to the next.
     pub fn serve(&mut self, words: Words<'_>, told: &mut usize, output: &mut Output) -> Served {
         if *told == 0 && ATTACKS.iter().any(|it| words[0].eq_ignore_ascii_case(it)) {
             return Served::Attack;

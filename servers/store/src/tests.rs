@@ -52,14 +52,17 @@ fn client_by(keyspace: &Arc<Keyspace>, settings: Settings) -> Asker {
     Asker { session: desk.session(&Guest::new(7, ([127, 0, 0, 1], 7).into())), desk }
 }
 
-fn ask(Asker { desk, session, .. }: &mut Asker, line: &str) -> Reply {
-    Client { desk, session }.answer(&line.split(' ').map(str::as_bytes).collect::<Vec<_>>())
+fn words(line: &str) -> Vec<&[u8]> {
+    line.split(' ').map(str::as_bytes).collect()
+}
+
+fn ask(Asker { desk, session }: &mut Asker, line: &str) -> Reply {
+    Client { desk, session }.answer(&words(line))
 }
 
 /// What becomes of a request in one turn.
-fn served(Asker { desk, session, .. }: &mut Asker, line: &str) -> Served {
-    let words: Vec<_> = line.split(' ').map(str::as_bytes).collect();
-    Client { desk, session }.serve(&words, &mut 0, &mut Output::default())
+fn served(Asker { desk, session }: &mut Asker, line: &str) -> Served {
+    Client { desk, session }.serve(&words(line), &mut 0, &mut Output::default())
 }
 
 fn is_ok(client: &mut Asker, line: &str) {
@@ -380,11 +383,11 @@ fn replies_are_sent_in_pieces_of_any_size() {
     let long = "v".repeat(20_000);
     is_ok(&mut client, &format!("SET long {long}"));
     is_ok(&mut client, "SET short value");
-    let words: Vec<_> = "MGET short long none long short".split(' ').map(str::as_bytes).collect();
+    let words = words("MGET short long none long short");
     let wanted = format!("*5\r\n$5\r\nvalue\r\n{0}$-1\r\n{0}$5\r\nvalue\r\n", format_args!("$20000\r\n{long}\r\n"));
     for size in [1, 2, 3, 1_000, 16_384, 20_000, 100_000] {
         let (mut slow, mut output, mut told) = (Slow(Vec::new(), size, false), Output::default(), 0);
-        let Asker { desk, session, .. } = &mut client;
+        let Asker { desk, session } = &mut client;
         while (Client { desk, session }).serve(&words, &mut told, &mut output) == Served::Begun {
             while output.is_full() {
                 output.send(&mut slow).unwrap();

@@ -402,8 +402,8 @@ fn no_room_is_an_error_by_name_and_nothing_is_lost() {
     says(&mut stream, "SET again v PX 600000 => +OK");
 }
 
-/// One that starts nevertheless is ended, and has another code then. It takes the room of all deadlines as it starts, so that
-/// none is refused memory later.
+/// One that starts nevertheless is ended, and has another code then. The room of all deadlines is taken at the start, so
+/// that none is refused memory later.
 #[test]
 fn a_start_that_has_to_be_refused_is_so_by_name() {
     let others = "0.0.0.0 is for others too: a --password-file is wanted, or --protected-mode no; --help tells more";
@@ -536,8 +536,8 @@ fn whoever_sends_too_much_reads_why() {
     wait_until("its seat isn't given back", || !ask(&mut store.connect(), "INFO").contains("connected_clients:2\r"));
 }
 
-/// How much a process with 64 MiB for its memory may hold: the program, its threads, and what the allocator keeps for itself
-/// beside it.
+/// How much a process may hold whose `--memory` is 64 MiB: beside it the program, its threads, and what the allocator
+/// keeps for itself.
 const MOST: u64 = (64 + 24) << 10;
 
 #[test]

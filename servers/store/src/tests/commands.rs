@@ -1,7 +1,7 @@
 //! What each command says and does, where a slip would pass by unseen: no keeper runs here, so that what is over stays
 //! until somebody asks.
 
-use super::{ask, client, client_by, is_ok, keyspace, Asker, LONG};
+use super::{ask, client, client_by, is_ok, keyspace, words, Asker, LONG};
 use crate::command::{Client, Served};
 use crate::keyspace::{Keyspace, SHARDS, SMALL_TABLE};
 use crate::output::Output;
@@ -17,10 +17,9 @@ use std::thread;
 use std::time::Duration;
 
 /// What a reply is written as.
-fn said(Asker { desk, session, .. }: &mut Asker, line: &str) -> String {
+fn said(Asker { desk, session }: &mut Asker, line: &str) -> String {
     let (mut output, mut written) = (Output::default(), Vec::new());
-    let words: Vec<_> = line.split(' ').map(str::as_bytes).collect();
-    while (Client { desk, session }).serve(&words, &mut 0, &mut output) == Served::Later {}
+    while (Client { desk, session }).serve(&words(line), &mut 0, &mut output) == Served::Later {}
     output.send(&mut written).unwrap();
     String::from_utf8(written).unwrap().replace("\r\n", " ")
 }
