@@ -106,17 +106,18 @@ struct Options<'a> {
 }
 
 impl<'a> Options<'a> {
-    fn of(words: Words<'a>, is_set: bool) -> Result<Options<'a>, Refusal> {
+    /// Compiled for each command by itself, which takes fewer instructions.
+    fn of<const IS_SET: bool>(words: Words<'a>) -> Result<Options<'a>, Refusal> {
         let mut options = Options::default();
         let mut rest = words.iter().copied();
         while let Some(word) = rest.next() {
             match (&word.to_ascii_lowercase()[..], &options.only) {
-                (b"nx", Only::Any | Only::None) if is_set => options.only = Only::None,
-                (b"xx", Only::Any | Only::Some) if is_set => options.only = Only::Some,
-                (b"ifeq", Only::Any) if is_set => options.only = Only::Equal(rest.next().ok_or(Refusal::SYNTAX)?),
-                (b"get", _) if is_set => options.is_get = true,
-                (b"keepttl", _) if is_set && options.time.is_none() => options.is_timeless = true,
-                (b"persist", _) if !is_set && options.time.is_none() => options.is_timeless = true,
+                (b"nx", Only::Any | Only::None) if IS_SET => options.only = Only::None,
+                (b"xx", Only::Any | Only::Some) if IS_SET => options.only = Only::Some,
+                (b"ifeq", Only::Any) if IS_SET => options.only = Only::Equal(rest.next().ok_or(Refusal::SYNTAX)?),
+                (b"get", _) if IS_SET => options.is_get = true,
+                (b"keepttl", _) if IS_SET && options.time.is_none() => options.is_timeless = true,
+                (b"persist", _) if !IS_SET && options.time.is_none() => options.is_timeless = true,
                 _ if options.is_timeless => return Err(Refusal::SYNTAX),
                 (word, _) => {
                     // Of two times in one form the last counts.
@@ -140,7 +141,7 @@ impl<'a> Options<'a> {
 }
 
 pub fn set(client: &mut Client<'_>, words: Words<'_>) -> Answer {
-    let options = Options::of(&words[3..], true)?;
+    let options = Options::of::<true>(&words[3..])?;
     client.desk.keyspace.change(words[1], |place| {
         let lifetime = options.lifetime(place.now)?;
         let old = place.value().cloned();
@@ -194,7 +195,7 @@ pub fn set_until(client: &mut Client<'_>, words: Words<'_>, form: Form) -> Answe
 }
 
 pub fn get_and_expire(client: &mut Client<'_>, words: Words<'_>) -> Answer {
-    let options = Options::of(&words[2..], false)?;
+    let options = Options::of::<false>(&words[2..])?;
     client.desk.keyspace.change(words[1], |place| {
         let Some(value) = place.value().cloned() else { return Ok(Reply::Nil) };
         if options.is_timeless {
