@@ -75,12 +75,9 @@ impl Options {
             options.take(&name, args.next())?;
         }
         options.settings.password = options.settings.password.or(password_of_environment()?);
-        let is_open = !options.bind.is_loopback() && options.settings.password.is_none();
-        if is_open && options.is_protected {
-            return Err(format!(
-                "{} is for others too: a --password-file is wanted, or --protected-mode no",
-                options.bind
-            ));
+        let bind = options.bind;
+        if options.is_protected && !bind.is_loopback() && options.settings.password.is_none() {
+            return Err(format!("{bind} is for others too: a --password-file is wanted, or --protected-mode no"));
         }
         options.most()?;
         Ok(Some(options))

@@ -125,7 +125,7 @@ pub fn client(client: &mut Client<'_>, words: Words<'_>) -> Answer {
         (b"kill", [_, _, ..]) => kill(client, &words[2..]),
         (part, _) => Err(match PARTS.iter().find(|it| it.as_bytes() == part) {
             Some(part) => Refusal::PartWordCount(part),
-            None => Refusal::UnknownPart(repeated(words[1])),
+            None => Refusal::UnknownPart("CLIENT", repeated(words[1])),
         }),
     }
 }
@@ -208,7 +208,7 @@ fn kill(client: &Client<'_>, mut words: Words<'_>) -> Answer {
 /// What is set and can't be changed, by the names of Redis.
 pub fn config(client: &mut Client<'_>, words: Words<'_>) -> Answer {
     if !words[1].eq_ignore_ascii_case(b"get") {
-        return Err(Refusal::UnknownPart(repeated(words[1])));
+        return Err(Refusal::UnknownPart("CONFIG", repeated(words[1])));
     }
     if words.len() < 3 {
         return Err(Refusal::PartWordCount("get"));

@@ -7,12 +7,11 @@ pub enum Refusal {
     Plain(&'static str),
     /// It repeats a word of the client's, or tells a number.
     Told(String),
-    /// These are told with the command's name, and with its part where it has parts.
+    UnknownPart(&'static str, String),
+    /// These are told with the command's name, and one with its part.
     WordCount,
     PartWordCount(&'static str),
-    UnknownPart(String),
     ExpireTime,
-    WithoutMulti,
     InMulti,
     AbortedExec(Box<Refusal>),
 }
@@ -34,16 +33,14 @@ impl Refusal {
 
     /// What the client of a command is told.
     pub fn text(self, command: &str) -> String {
-        let upper = || command.to_ascii_uppercase();
         match self {
             Refusal::Plain(text) => text.into(),
             Refusal::Told(text) => text,
+            Refusal::UnknownPart(of, part) => format!("ERR unknown subcommand '{part}'. Try {of} HELP."),
             Refusal::WordCount => format!("ERR wrong number of arguments for '{command}' command"),
             Refusal::PartWordCount(part) => format!("ERR wrong number of arguments for '{command}|{part}' command"),
-            Refusal::UnknownPart(part) => format!("ERR unknown subcommand '{part}'. Try {} HELP.", upper()),
             Refusal::ExpireTime => format!("ERR invalid expire time in '{command}' command"),
-            Refusal::WithoutMulti => format!("ERR {} without MULTI", upper()),
-            Refusal::InMulti => format!("ERR {} inside MULTI is not allowed", upper()),
+            Refusal::InMulti => format!("ERR {} inside MULTI is not allowed", command.to_ascii_uppercase()),
             Refusal::AbortedExec(why) => {
                 let why = why.text(command);
                 let why = why.strip_prefix("ERR ").unwrap_or(&why);

@@ -92,7 +92,8 @@ fn one<'a, 'b>(pattern: &'a [u8], text: &'b [u8]) -> Option<(&'a [u8], &'b [u8])
         [] => return None,
         [b'?', rest @ ..] => (true, rest),
         [b'[', rest @ ..] => class(rest, *byte),
-        [b'\\', it, rest @ ..] | [it, rest @ ..] => (it == byte, rest),
+        [b'\\', it, rest @ ..] => (it == byte, rest),
+        [it, rest @ ..] => (it == byte, rest),
     };
     Some((rest, left)).filter(|_| is_fit)
 }
@@ -103,14 +104,14 @@ fn class(pattern: &[u8], byte: u8) -> (bool, &[u8]) {
     let mut rest = &pattern[is_negated as usize..];
     let mut is_in = false;
     loop {
-        let (from, to, others) = match rest {
+        let (is_fit, others) = match rest {
             [] => return (is_in != is_negated, rest),
             [b']', others @ ..] => return (is_in != is_negated, others),
-            [b'\\', it, others @ ..] => (it, it, others),
-            [from, b'-', to, others @ ..] => (from.min(to), from.max(to), others),
-            [it, others @ ..] => (it, it, others),
+            [b'\\', it, others @ ..] => (*it == byte, others),
+            [from, b'-', to, others @ ..] => ((*from.min(to)..=*from.max(to)).contains(&byte), others),
+            [it, others @ ..] => (*it == byte, others),
         };
-        is_in |= (*from..=*to).contains(&byte);
+        is_in |= is_fit;
         rest = others;
     }
 }

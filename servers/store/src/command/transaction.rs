@@ -124,7 +124,7 @@ pub fn multi(client: &mut Client<'_>, _: Words<'_>) -> Answer {
 }
 
 pub fn discard(client: &mut Client<'_>, words: Words<'_>) -> Answer {
-    client.session.transaction.queue.take().ok_or(Refusal::WithoutMulti)?;
+    client.session.transaction.queue.take().ok_or(Refusal::Plain("ERR DISCARD without MULTI"))?;
     unwatch(client, words)
 }
 
@@ -198,7 +198,7 @@ pub fn exec(client: &mut Client<'_>, _: Words<'_>) -> Answer {
     match (transaction.running.take(), transaction.queue.take()) {
         (Some(Running { count: Some(count), .. }), _) => Ok(Reply::Begun(count)),
         (Some(_), _) => Ok(Reply::NilArray),
-        (None, None) => Err(Refusal::WithoutMulti),
+        (None, None) => Err(Refusal::Plain("ERR EXEC without MULTI")),
         (None, Some(_)) => {
             transaction.unwatch();
             Err(Refusal::Plain("EXECABORT Transaction discarded because of previous errors."))
