@@ -134,6 +134,8 @@ fn a_transaction_of_a_client_that_reads_nothing_is_done() {
     let mut met = 0;
     for round in 0..100 {
         let mut peer = TcpStream::connect(listener.local_addr().unwrap()).unwrap();
+        // What it writes has come by the next turn.
+        peer.set_nodelay(true).unwrap();
         let (socket, address) = listener.accept().unwrap();
         SockRef::from(&socket).set_send_buffer_size(16 << 10).unwrap();
         socket.set_nonblocking(true).unwrap();
