@@ -42,6 +42,8 @@ const KEPT_WORDS: usize = 64;
 #[derive(Debug, PartialEq, Eq)]
 pub struct Broken(&'static str, Option<u8>);
 
+const UNBALANCED: Broken = Broken("unbalanced quotes in request", None);
+
 impl fmt::Display for Broken {
     fn fmt(&self, f: &mut fmt::Formatter<'_>) -> fmt::Result {
         write!(f, "{}", self.0)?;
@@ -114,11 +116,8 @@ impl Parser {
     /// The line that begins a request: a number of words, or the request itself.
     fn begin(&mut self, bytes: &[u8]) -> Result<bool, Broken> {
         let is_inline = bytes.first() != Some(&b'*');
-        let Some(line) =
-            self.line(bytes, if is_inline { "too big inline request" } else { "too big mbulk count string" })?
-        else {
-            return Ok(false);
-        };
+        let too_long = if is_inline { "too big inline request" } else { "too big mbulk count string" };
+        let Some(line) = self.line(bytes, too_long)? else { return Ok(false) };
         if is_inline {
             self.is_inline = true;
             self.split(line)?;
@@ -137,11 +136,10 @@ impl Parser {
     /// The line that announces a bulk string.
     fn announce(&mut self, bytes: &[u8]) -> Result<bool, Broken> {
         let Some(line) = self.line(bytes, "too big bulk count string")? else { return Ok(false) };
-        match line.first() {
-            Some(b'$') => {}
-            other => return Err(Broken("expected '$'", Some(*other.unwrap_or(&b' ')))),
-        }
-        let length = integer(&line[1..]).and_then(|it| usize::try_from(it).ok());
+        let Some(length) = line.strip_prefix(b"$") else {
+            return Err(Broken("expected '$'", Some(*line.first().unwrap_or(&b' '))));
+        };
+        let length = integer(length).and_then(|it| usize::try_from(it).ok());
         let length = length.filter(|it| *it <= self.limits.bulk).ok_or(Broken("invalid bulk length", None))?;
         if self.is_narrow && length > NARROW_BULK {
             return Err(Broken("unauthenticated bulk length", None));
@@ -212,12 +210,9 @@ impl Parser {
         while let Some((first, others)) = rest.split_first() {
             match first {
                 b'"' | b'\'' => {
-                    rest = self.quoted(others, *first)?;
-                    return if rest.first().map_or(true, |it| is_blank(*it)) {
-                        Ok(rest)
-                    } else {
-                        Err(Broken("unbalanced quotes in request", None))
-                    };
+                    let rest = self.quoted(others, *first)?;
+                    let is_end = rest.first().map_or(true, |it| is_blank(*it));
+                    return is_end.then_some(rest).ok_or(UNBALANCED);
                 }
                 blank if is_blank(*blank) => return Ok(rest),
                 byte => self.inline.push(*byte),
@@ -230,28 +225,20 @@ impl Parser {
     /// Takes what stands in quotes, and answers what follows the closing one.
     fn quoted<'a>(&mut self, mut rest: &'a [u8], quote: u8) -> Result<&'a [u8], Broken> {
         loop {
-            rest = match (quote, rest) {
-                (_, []) => return Err(Broken("unbalanced quotes in request", None)),
+            let (byte, others) = match (quote, rest) {
+                (_, []) => return Err(UNBALANCED),
                 (_, [byte, others @ ..]) if *byte == quote => return Ok(others),
-                (b'\'', [b'\\', b'\'', others @ ..]) => {
-                    self.inline.push(b'\'');
-                    others
-                }
+                (b'\'', [b'\\', b'\'', others @ ..]) => (b'\'', others),
                 (b'"', [b'\\', b'x', high, low, others @ ..])
                     if high.is_ascii_hexdigit() && low.is_ascii_hexdigit() =>
                 {
-                    self.inline.push(digit(*high) << 4 | digit(*low));
-                    others
+                    (digit(*high) << 4 | digit(*low), others)
                 }
-                (b'"', [b'\\', byte, others @ ..]) => {
-                    self.inline.push(escaped(*byte));
-                    others
-                }
-                (_, [byte, others @ ..]) => {
-                    self.inline.push(*byte);
-                    others
-                }
-            }
+                (b'"', [b'\\', byte, others @ ..]) => (escaped(*byte), others),
+                (_, [byte, others @ ..]) => (*byte, others),
+            };
+            self.inline.push(byte);
+            rest = others;
         }
     }
 }

@@ -8,15 +8,17 @@ mod scan;
 mod transaction;
 
 use crate::keyspace::{Claim, Claimed, Keyspace, Turn};
+use crate::lock;
 use crate::output::Output;
 use crate::resp::{Protocol, Reply};
 use crate::seats::{Guest, Seats};
 use crate::settings::Settings;
+use expiry::Form;
 use hontkhale::Key;
 use refusal::Refusal;
 use std::collections::HashMap;
 use std::net::SocketAddr;
-use std::sync::{Arc, PoisonError};
+use std::sync::Arc;
 use std::thread;
 use std::time::{Duration, Instant};
 use transaction::Transaction;
@@ -41,7 +43,8 @@ pub struct Desk {
 pub struct Session {
     guest: Arc<Guest>,
     protocol: Protocol,
-    is_admitted: bool,
+    /// Whether it told the password, or needs none.
+    pub is_admitted: bool,
     transaction: Transaction,
 }
 
@@ -103,12 +106,12 @@ impl Names {
 }
 
 const COMMANDS: &[Command] = &[
-    Command("get", 2, false, Names::First, keys::get),
+    Command("get", 2, false, Names::First, |client, words| Ok(keys::value(client, words[1]))),
     Command("set", 3, true, Names::First, keys::set),
-    Command("pexpire", 3, true, Names::First, |client, words| expiry::expire(client, words, &expiry::PEXPIRE)),
-    Command("expire", 3, true, Names::First, |client, words| expiry::expire(client, words, &expiry::EXPIRE)),
-    Command("setex", 4, false, Names::First, |client, words| keys::set_until(client, words, "setex")),
-    Command("psetex", 4, false, Names::First, |client, words| keys::set_until(client, words, "psetex")),
+    Command("pexpire", 3, true, Names::First, |client, words| expiry::expire(client, words, Form::PX)),
+    Command("expire", 3, true, Names::First, |client, words| expiry::expire(client, words, Form::EX)),
+    Command("setex", 4, false, Names::First, |client, words| keys::set_until(client, words, Form::EX)),
+    Command("psetex", 4, false, Names::First, |client, words| keys::set_until(client, words, Form::PX)),
     Command("incr", 2, false, Names::First, |client, words| keys::add(client, words[1], 1)),
     Command("incrby", 3, false, Names::First, keys::incr_by),
     Command("decr", 2, false, Names::First, |client, words| keys::add(client, words[1], -1)),
@@ -116,7 +119,7 @@ const COMMANDS: &[Command] = &[
     Command("del", 2, true, Names::Rest, keys::del),
     Command("unlink", 2, true, Names::Rest, keys::del),
     Command(MGET, 2, true, Names::Rest, |_, words| Ok(Reply::Begun(words.len() - 1))),
-    Command(MSET, 3, true, Names::Pairs, keys::set_all),
+    Command("mset", 3, true, Names::Pairs, keys::set_all),
     Command("setnx", 3, false, Names::First, keys::set_new),
     Command("getset", 3, false, Names::First, keys::get_and_set),
     Command("exists", 2, true, Names::Rest, keys::exists),
@@ -127,16 +130,12 @@ const COMMANDS: &[Command] = &[
     Command("type", 2, false, Names::First, keys::type_of),
     Command("scan", 2, true, Names::All, scan::scan),
     Command("keys", 2, false, Names::All, scan::keys),
-    Command("pexpireat", 3, true, Names::First, |client, words| expiry::expire(client, words, &expiry::PEXPIREAT)),
-    Command("expireat", 3, true, Names::First, |client, words| expiry::expire(client, words, &expiry::EXPIREAT)),
-    Command("ttl", 2, false, Names::First, |client, words| {
-        expiry::life(client, words, |until, now| (until - now + 500) / 1000)
-    }),
-    Command("pttl", 2, false, Names::First, |client, words| expiry::life(client, words, |until, now| until - now)),
-    Command("expiretime", 2, false, Names::First, |client, words| {
-        expiry::life(client, words, |until, _| (until + 500) / 1000)
-    }),
-    Command("pexpiretime", 2, false, Names::First, |client, words| expiry::life(client, words, |until, _| until)),
+    Command("pexpireat", 3, true, Names::First, |client, words| expiry::expire(client, words, Form::PXAT)),
+    Command("expireat", 3, true, Names::First, |client, words| expiry::expire(client, words, Form::EXAT)),
+    Command("ttl", 2, false, Names::First, |client, words| expiry::life(client, words, Form::EX)),
+    Command("pttl", 2, false, Names::First, |client, words| expiry::life(client, words, Form::PX)),
+    Command("expiretime", 2, false, Names::First, |client, words| expiry::life(client, words, Form::EXAT)),
+    Command("pexpiretime", 2, false, Names::First, |client, words| expiry::life(client, words, Form::PXAT)),
     Command("persist", 2, false, Names::First, keys::persist),
     Command("dbsize", 1, false, Names::All, |client, _| Ok(count(client.desk.keyspace.count()))),
     Command("flushall", 1, true, Names::All, keys::flush),
@@ -159,7 +158,6 @@ const COMMANDS: &[Command] = &[
     Command(QUIT, 1, true, Names::None, |_, _| Ok(Reply::Status("OK"))),
 ];
 const MGET: &str = "mget";
-const MSET: &str = "mset";
 const QUIT: &str = "quit";
 const EXEC: &str = "exec";
 /// What is answered before the password is told.
@@ -198,16 +196,6 @@ impl Desk {
 }
 
 impl Session {
-    /// Whether it told the password, or needs none.
-    pub fn is_admitted(&self) -> bool {
-        self.is_admitted
-    }
-
-    /// What a transaction is answered and isn't written yet, one reply.
-    pub fn next_reply(&mut self) -> Option<Reply> {
-        self.transaction.next_reply()
-    }
-
     /// Whether a transaction has begun that isn't done.
     pub fn is_running(&self) -> bool {
         self.transaction.is_running()
@@ -219,9 +207,9 @@ impl Session {
 }
 
 impl Client<'_> {
-    /// Answers a request. The values of an MGET, the replies of an EXEC and the names of KEYS are told one by one: a client that leaves
-    /// them unread holds one value, and not all that it named, which others may have overwritten since. `told` counts
-    /// what is told of a request from one call to the next.
+    /// Answers a request. The values of an MGET, the replies of an EXEC and the names of KEYS are told one by one: a client
+    /// that leaves them unread holds one value, and not all that it named, which others may have overwritten since. `told`
+    /// counts what is told of a request from one call to the next.
     pub fn serve(&mut self, words: Words<'_>, told: &mut usize, output: &mut Output) -> Served {
         if *told == 0 && ATTACKS.iter().any(|it| words[0].eq_ignore_ascii_case(it)) {
             return Served::Attack;
@@ -238,7 +226,7 @@ impl Client<'_> {
             },
             _ => {
                 turn = self.desk.turn.clone();
-                _taken = turn.lock().unwrap_or_else(PoisonError::into_inner);
+                _taken = lock(&turn);
                 if self.desk.keyspace.is_claimed(names.of(words), names == Names::All) {
                     return later();
                 }
@@ -260,7 +248,7 @@ impl Client<'_> {
     /// Tells what follows the beginning of a reply.
     fn tell(&mut self, words: Words<'_>, told: &mut usize, output: &mut Output) -> Served {
         while !output.is_full() {
-            let next = self.session.next_reply();
+            let next = self.session.transaction.next_reply();
             match next.or_else(|| named(words).get(*told - 1).map(|name| keys::value(self, name))) {
                 None => return Served::Done,
                 Some(reply) => output.reply(&reply),
@@ -289,7 +277,8 @@ impl Client<'_> {
     }
 
     fn answer_by(&mut self, number: Option<usize>, words: Words<'_>) -> Reply {
-        self.run(number, words).unwrap_or_else(|refusal| refusal.reply())
+        let name = || number.map_or("", |it| COMMANDS[it].0);
+        self.run(number, words).unwrap_or_else(|refusal| Reply::Error(refusal.text(name())))
     }
 
     fn run(&mut self, number: Option<usize>, words: Words<'_>) -> Answer {
@@ -297,9 +286,11 @@ impl Client<'_> {
         number.into_iter().for_each(|it| self.session.guest.note_command(it));
         let transaction = &mut self.session.transaction;
         let refusal = match command {
-            None => Refusal::Unknown(told(words)),
-            Some(it) if words.len() < it.1 || words.len() > it.1 && !it.2 => Refusal::WordCount(it.0),
-            Some(it) if !self.session.is_admitted && !OPEN.contains(&it.0) => Refusal::NO_AUTH,
+            None => Refusal::Told(unknown(words)),
+            Some(it) if words.len() < it.1 || words.len() > it.1 && !it.2 => Refusal::WordCount,
+            Some(it) if !self.session.is_admitted && !OPEN.contains(&it.0) => {
+                Refusal::Plain("NOAUTH Authentication required.")
+            }
             Some(it) if transaction.takes(it.0) => match transaction.queue(it.0, words) {
                 Ok(reply) => return Ok(reply),
                 Err(refusal) => refusal,
@@ -348,7 +339,7 @@ fn repeated(word: &[u8]) -> String {
 }
 
 /// An unknown request as Redis tells it, at most 128 bytes of its name and of its other words.
-fn told(words: Words<'_>) -> String {
+fn unknown(words: Words<'_>) -> String {
     let (mut rest, mut count) = (String::new(), 0);
     for word in &words[1..] {
         if count >= 128 {
@@ -358,5 +349,5 @@ fn told(words: Words<'_>) -> String {
         count += word.chars().count() + 3;
         rest += &format!("'{word}' ");
     }
-    format!("'{}', with args beginning with: {rest}", repeated(words[0]))
+    format!("ERR unknown command '{}', with args beginning with: {rest}", repeated(words[0]))
 }

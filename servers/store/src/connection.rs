@@ -3,7 +3,7 @@
 use crate::command::{Client, Desk, Served, Session};
 use crate::output::Output;
 use crate::resp::{Parser, Reply};
-use crate::seats::{NoSeat, Seat, PER_SEAT};
+use crate::seats::{Seat, NO_MEMORY, PER_SEAT};
 use mio::event::Event;
 use mio::net::TcpStream;
 use std::io::{self, ErrorKind, Read};
@@ -53,13 +53,11 @@ pub enum After {
 }
 
 pub struct Connection {
-    socket: TcpStream,
+    pub socket: TcpStream,
     seat: Seat,
     talk: Talk,
     /// What came and isn't answered yet, from the beginning of a request on.
     input: Vec<u8>,
-    /// Whether the input has more than the beginning of a request.
-    has_more: bool,
     is_readable: bool,
     is_hung_up: bool,
     /// Since when the client takes no reply.
@@ -77,6 +75,8 @@ struct Talk {
     output: Output,
     /// How many values of the present request are told.
     told: usize,
+    /// Whether what came is more than the beginning of a request.
+    has_more: bool,
     /// Nothing more is answered.
     is_over: bool,
     /// The last reply is the reason why.
@@ -85,16 +85,11 @@ struct Talk {
 
 impl Connection {
     pub fn new(socket: TcpStream, seat: Seat, desk: &Desk) -> Connection {
-        let (parser, output) = Default::default();
-        let talk =
-            Talk { parser, session: desk.session(&seat.guest), output, told: 0, is_over: false, is_refused: false };
-        let (input, stuck, lingers) = Default::default();
-        let (has_more, is_readable, is_hung_up, is_queued) = Default::default();
-        Connection { socket, seat, talk, input, has_more, is_readable, is_hung_up, stuck, lingers, is_queued }
-    }
-
-    pub fn socket(&mut self) -> &mut TcpStream {
-        &mut self.socket
+        let session = desk.session(&seat.guest);
+        let (parser, output, told, has_more, is_over, is_refused) = Default::default();
+        let talk = Talk { parser, session, output, told, has_more, is_over, is_refused };
+        let (input, stuck, lingers, is_readable, is_hung_up, is_queued) = Default::default();
+        Connection { socket, seat, talk, input, is_readable, is_hung_up, stuck, lingers, is_queued }
     }
 
     /// Does what it has begun, before it is closed.
@@ -130,7 +125,7 @@ impl Connection {
 
     /// Whether nothing came of its client for so long, and nothing waits for it.
     pub fn is_silent(&self, timeout: Duration) -> bool {
-        self.talk.output.is_empty() && !self.has_more && self.seat.guest.idle() >= timeout
+        self.talk.output.is_empty() && !self.talk.has_more && self.seat.guest.idle() >= timeout
     }
 
     /// Whether its client left its replies unread for too long, or sends on for too long.
@@ -151,7 +146,7 @@ impl Connection {
             return Ok(if self.talk.session.is_running() { After::Again } else { After::Waits });
         }
         self.talk.output.swap_room(&mut shop.room);
-        if self.has_more {
+        if self.talk.has_more {
             self.serve_input(&mut shop.desk)?;
         } else if self.is_readable && !self.talk.is_over && !self.read(shop)? {
             return Ok(After::Over);
@@ -172,7 +167,7 @@ impl Connection {
             false => After::Waits,
             true if self.talk.is_refused => self.linger(),
             true if *is_over => After::Over,
-            true if self.has_more || self.is_readable => After::Again,
+            true if self.talk.has_more || self.is_readable => After::Again,
             true => After::Waits,
         }
     }
@@ -180,7 +175,7 @@ impl Connection {
     /// Ends what is said, and keeps nothing.
     fn linger(&mut self) -> After {
         self.lingers = Some(Instant::now());
-        (self.input, self.talk.parser, self.has_more) = Default::default();
+        (self.input, self.talk.parser, self.talk.has_more) = Default::default();
         self.seat.hold(PER_SEAT);
         match self.socket.shutdown(Shutdown::Write) {
             Ok(()) => After::Again,
@@ -209,7 +204,7 @@ impl Connection {
         if !self.talk.output.is_empty() {
             return false;
         }
-        self.talk.output.reply(&Reply::Error(NoSeat::Memory.to_string()));
+        self.talk.output.reply(&Reply::Error(NO_MEMORY.into()));
         self.send().is_ok() && self.talk.output.is_empty() && self.linger() != After::Over
     }
 
@@ -243,7 +238,7 @@ impl Connection {
         // Less than was asked for: nothing is left, and what comes next is an event again.
         self.is_readable = count == most || self.is_hung_up;
         if self.input.is_empty() {
-            let used = self.talk.serve(&shop.piece[..count], &mut shop.desk, &mut self.socket, &mut self.has_more)?;
+            let used = self.talk.serve(&shop.piece[..count], &mut shop.desk, &mut self.socket)?;
             if !self.talk.is_over {
                 self.keep(&shop.piece[used..count]);
             }
@@ -256,7 +251,7 @@ impl Connection {
 
     fn serve_input(&mut self, desk: &mut Desk) -> io::Result<()> {
         let mut input = mem::take(&mut self.input);
-        let used = self.talk.serve(&input, desk, &mut self.socket, &mut self.has_more)?;
+        let used = self.talk.serve(&input, desk, &mut self.socket)?;
         if used < input.len() && !self.talk.is_over {
             input.drain(..used);
             self.input = input;
@@ -277,36 +272,30 @@ impl Connection {
 impl Talk {
     /// Answers the requests of these bytes, and says how much of them that was. What is left is the beginning of a
     /// request, or more, where the socket takes no more replies or others have their turn.
-    fn serve(
-        &mut self,
-        bytes: &[u8],
-        desk: &mut Desk,
-        socket: &mut TcpStream,
-        has_more: &mut bool,
-    ) -> io::Result<usize> {
+    fn serve(&mut self, bytes: &[u8], desk: &mut Desk, socket: &mut TcpStream) -> io::Result<usize> {
         let (mut used, mut sends, mut count, begun) = (0, 0, 0, Instant::now());
-        *has_more = false;
+        self.has_more = false;
         while !self.is_over {
             count += 1;
             if count % UNLOOKED == 0 && begun.elapsed() >= SLICE && self.told == 0 {
-                *has_more = true;
+                self.has_more = true;
                 break;
             }
             if self.output.is_full() {
                 self.output.send(socket)?;
                 sends += 1;
-                *has_more = sends == SENDS || self.output.is_full();
-                if *has_more {
+                self.has_more = sends == SENDS || self.output.is_full();
+                if self.has_more {
                     break;
                 }
             }
-            self.parser.is_narrow = !self.session.is_admitted();
+            self.parser.is_narrow = !self.session.is_admitted;
             match self.parser.parse(&bytes[used..]) {
                 Ok(None) => break,
                 Ok(Some(length)) => match self.answer(&bytes[used..], desk, socket) {
                     Served::Begun => {}
                     Served::Later => {
-                        *has_more = true;
+                        self.has_more = true;
                         break;
                     }
                     _ => {
@@ -315,7 +304,10 @@ impl Talk {
                         self.told = 0;
                     }
                 },
-                Err(broken) => self.end_with(&Reply::Error(format!("ERR Protocol error: {broken}"))),
+                Err(broken) => {
+                    self.output.reply(&Reply::Error(format!("ERR Protocol error: {broken}")));
+                    (self.is_over, self.is_refused) = (true, true);
+                }
             }
         }
         Ok(used)
@@ -341,20 +333,11 @@ impl Talk {
         };
         let mut client = Client { desk, session: &mut self.session };
         let served = client.serve(words, &mut self.told, &mut self.output);
-        match served {
-            Served::Done | Served::Begun | Served::Later => {}
-            Served::Last => self.is_over = true,
-            Served::Attack => {
-                client.desk.warn(socket.peer_addr().ok());
-                self.output.clear();
-                self.is_over = true;
-            }
+        self.is_over = matches!(served, Served::Last | Served::Attack);
+        if served == Served::Attack {
+            client.desk.warn(socket.peer_addr().ok());
+            self.output.clear();
         }
         served
-    }
-
-    fn end_with(&mut self, reply: &Reply) {
-        self.output.reply(reply);
-        (self.is_over, self.is_refused) = (true, true);
     }
 }

@@ -2,6 +2,7 @@
 
 use crate::command::Desk;
 use crate::connection::{After, Connection, Shop};
+use crate::lock;
 use crate::seats::Seat;
 use mio::net::TcpStream;
 use mio::{Events, Interest, Poll, Token, Waker};
@@ -9,7 +10,7 @@ use std::collections::VecDeque;
 use std::io::{self, ErrorKind};
 use std::mem;
 use std::sync::atomic::{AtomicBool, AtomicUsize, Ordering::SeqCst};
-use std::sync::{Arc, Mutex, PoisonError};
+use std::sync::{Arc, Mutex};
 use std::time::{Duration, Instant};
 
 const WAKE: Token = Token(usize::MAX);
@@ -38,7 +39,7 @@ impl Mailbox {
 
     pub fn hand(&self, socket: TcpStream, seat: Seat) -> io::Result<()> {
         self.count.fetch_add(1, SeqCst);
-        self.arrivals.lock().unwrap_or_else(PoisonError::into_inner).push((socket, seat));
+        lock(&self.arrivals).push((socket, seat));
         self.waker.wake()
     }
 
@@ -51,7 +52,7 @@ impl Mailbox {
 
 pub struct EventLoop {
     poll: Poll,
-    mailbox: Arc<Mailbox>,
+    pub mailbox: Arc<Mailbox>,
     shop: Shop,
     connections: Vec<Option<Connection>>,
     free: Vec<usize>,
@@ -71,23 +72,9 @@ impl EventLoop {
         desk.seats.wakes(&waker);
         let (arrivals, is_ending, count) = Default::default();
         let mailbox = Arc::new(Mailbox { arrivals, waker, is_ending, count });
+        let (shop, looked) = (Shop::new(desk), Instant::now());
         let (connections, free, queue, stuck, seen_away, end) = Default::default();
-        Ok(EventLoop {
-            poll,
-            mailbox,
-            shop: Shop::new(desk),
-            connections,
-            free,
-            queue,
-            stuck,
-            looked: Instant::now(),
-            seen_away,
-            end,
-        })
-    }
-
-    pub fn mailbox(&self) -> Arc<Mailbox> {
-        self.mailbox.clone()
+        Ok(EventLoop { poll, mailbox, shop, connections, free, queue, stuck, looked, seen_away, end })
     }
 
     pub fn run(mut self) -> io::Result<()> {
@@ -108,7 +95,11 @@ impl EventLoop {
                     }
                 }
             }
-            self.give_turns();
+            // Each that waits by now has a turn.
+            for _ in 0..self.queue.len() {
+                let Some(place) = self.queue.pop_front() else { break };
+                self.give_turn(place);
+            }
             self.close_stuck();
         }
         self.connections.iter_mut().flatten().for_each(|it| it.finish(&mut self.shop.desk));
@@ -131,60 +122,44 @@ impl EventLoop {
     }
 
     fn read_mail(&mut self) -> io::Result<()> {
-        let arrivals = mem::take(&mut *self.mailbox.arrivals.lock().unwrap_or_else(PoisonError::into_inner));
+        let arrivals = mem::take(&mut *lock(&self.mailbox.arrivals));
         for (mut socket, seat) in arrivals {
-            let place = self.free.pop().unwrap_or(self.connections.len());
+            let place = self.free.pop().unwrap_or_else(|| {
+                self.connections.push(None);
+                self.connections.len() - 1
+            });
             let interest = Interest::READABLE | Interest::WRITABLE;
             // A socket that can't be watched is closed.
             let is_watched = self.poll.registry().register(&mut socket, Token(place), interest).is_ok();
-            let connection = is_watched.then(|| Connection::new(socket, seat, &self.shop.desk));
-            if place == self.connections.len() {
-                self.connections.push(connection);
-            } else {
-                self.connections[place] = connection;
-            }
+            self.connections[place] = is_watched.then(|| Connection::new(socket, seat, &self.shop.desk));
             if !is_watched {
                 self.give_back(place);
             }
         }
-        self.close_sent_away();
+        let times = self.shop.desk.seats.times_sent_away();
+        if mem::replace(&mut self.seen_away, times) != times {
+            // One that sent itself away was answered in its turn.
+            self.close_all(Connection::is_sent_away);
+        }
         if self.mailbox.is_ending.load(SeqCst) && self.end.is_none() {
             self.end = Some(Instant::now() + LAST_WAIT);
-            for place in 0..self.connections.len() {
-                if let Some(connection) = &mut self.connections[place] {
-                    connection.end();
-                    self.queue(place);
-                }
-            }
+            self.connections.iter_mut().flatten().for_each(Connection::end);
+            (0..self.connections.len()).for_each(|place| self.queue(place));
         }
         Ok(())
     }
 
-    fn close_sent_away(&mut self) {
-        let times = self.shop.desk.seats.times_sent_away();
-        if mem::replace(&mut self.seen_away, times) != times {
-            for place in 0..self.connections.len() {
-                // One that sent itself away was answered in its turn.
-                if self.connections[place].as_ref().is_some_and(Connection::is_sent_away) {
-                    self.close(place);
-                }
+    fn close_all(&mut self, is_over: impl Fn(&Connection) -> bool) {
+        for place in 0..self.connections.len() {
+            if self.connections[place].as_ref().is_some_and(&is_over) {
+                self.close(place);
             }
         }
     }
 
     fn queue(&mut self, place: usize) {
-        if let Some(connection) = &mut self.connections[place] {
-            if !mem::replace(&mut connection.is_queued, true) {
-                self.queue.push_back(place);
-            }
-        }
-    }
-
-    /// Gives each that waits by now a turn.
-    fn give_turns(&mut self) {
-        for _ in 0..self.queue.len() {
-            let Some(place) = self.queue.pop_front() else { return };
-            self.give_turn(place);
+        if self.connections[place].as_mut().is_some_and(|it| !mem::replace(&mut it.is_queued, true)) {
+            self.queue.push_back(place);
         }
     }
 
@@ -214,24 +189,19 @@ impl EventLoop {
     fn close_largest(&mut self) {
         let burdens = self.connections.iter().enumerate();
         let burdens = burdens.filter_map(|(place, it)| Some((it.as_ref()?.burden(), place)));
-        let largest = burdens.filter(|((_, held), _)| *held >= MUCH).max();
-        if let Some((_, place)) = largest {
-            if self.connections[place].as_mut().is_some_and(Connection::turn_out) {
-                self.stuck.push(place);
-                self.queue(place);
-            } else {
-                self.close(place);
-            }
+        let Some((_, place)) = burdens.filter(|((_, held), _)| *held >= MUCH).max() else { return };
+        if self.connections[place].as_mut().is_some_and(Connection::turn_out) {
+            self.stuck.push(place);
+            self.queue(place);
+        } else {
+            self.close(place);
         }
     }
 
     /// Whether there is somebody who may be given up for lack of time.
     fn is_looking(&self) -> bool {
-        !self.stuck.is_empty() || self.timeout().is_some() && self.connections.len() > self.free.len()
-    }
-
-    fn timeout(&self) -> Option<Duration> {
-        self.shop.desk.settings.timeout
+        let has_timeout = self.shop.desk.settings.timeout.is_some();
+        !self.stuck.is_empty() || has_timeout && self.connections.len() > self.free.len()
     }
 
     /// Now and then closes those whose clients left their replies unread for too long, or are silent for too long.
@@ -247,19 +217,15 @@ impl EventLoop {
                 _ => {}
             }
         }
-        if let Some(timeout) = self.timeout() {
-            for place in 0..self.connections.len() {
-                if self.connections[place].as_ref().is_some_and(|it| it.is_silent(timeout)) {
-                    self.close(place);
-                }
-            }
+        if let Some(timeout) = self.shop.desk.settings.timeout {
+            self.close_all(|it| it.is_silent(timeout));
         }
     }
 
     fn close(&mut self, place: usize) {
         if let Some(mut connection) = self.connections[place].take() {
             connection.finish(&mut self.shop.desk);
-            let _ = self.poll.registry().deregister(connection.socket());
+            let _ = self.poll.registry().deregister(&mut connection.socket);
         }
         self.give_back(place);
     }

@@ -17,6 +17,7 @@ pub use shard::SMALL_TABLE;
 pub use walk::Held;
 
 use crate::clock::{Clock, Tick};
+use crate::lock;
 use crate::room::Room;
 use claims::Claims;
 use hontkhale::{Builder, DelayQueue, Expired, InsertErrorKind, Key, KeyError, Receiver};
@@ -24,7 +25,7 @@ use shard::{Shard, Writer};
 use std::alloc::{handle_alloc_error, Layout};
 use std::collections::hash_map::RandomState;
 use std::hash::{BuildHasher, Hasher};
-use std::sync::{Arc, Mutex, MutexGuard, PoisonError};
+use std::sync::{Arc, Mutex};
 use std::task::Poll;
 
 pub const SHARDS: usize = 64;
@@ -68,15 +69,11 @@ pub struct Keyspace {
     /// The deadlines, each with its name.
     queue: DelayQueue<Name>,
     hasher: RandomState,
-    room: Arc<Room>,
+    pub room: Arc<Room>,
     claims: Claims,
     /// Who takes entries out of the queue, and then their names off: each keeper, and after them anybody else.
     takers: [Mutex<()>; KEEPERS + 1],
     pub clock: Clock,
-}
-
-fn lock(one: &Mutex<()>) -> MutexGuard<'_, ()> {
-    one.lock().unwrap_or_else(PoisonError::into_inner)
 }
 
 impl Keyspace {
@@ -100,10 +97,6 @@ impl Keyspace {
         })
     }
 
-    pub fn room(&self) -> &Room {
-        &self.room
-    }
-
     fn hash(&self, name: &[u8]) -> u64 {
         let mut hasher = self.hasher.build_hasher();
         hasher.write(name);
@@ -112,10 +105,6 @@ impl Keyspace {
 
     pub fn shard_of(&self, name: &[u8]) -> usize {
         (self.hash(name) >> 32) as usize % SHARDS
-    }
-
-    fn write(&self, shard: usize) -> Writer<'_> {
-        self.shards[shard].write()
     }
 
     /// The deadline of an entry, none where it is over.
@@ -151,7 +140,7 @@ impl Keyspace {
             return Some(read(record, life));
         }
         drop(names);
-        let mut names = self.write(shard);
+        let mut names = self.shards[shard].write();
         let life = self.settle(&mut names, name, now)?;
         names.records.get(name).map(|record| read(record, life))
     }
@@ -175,7 +164,7 @@ impl Keyspace {
     /// Changes a key, or makes it, while nobody else reads or changes its shard.
     pub fn change<O>(&self, name: &[u8], change: impl FnOnce(&mut Place<'_, '_>) -> O) -> O {
         let (shard, now) = (self.shard_of(name), self.clock.now());
-        let mut names = self.write(shard);
+        let mut names = self.shards[shard].write();
         let life = self.settle(&mut names, name, now);
         change(&mut Place { keyspace: self, names: &mut names, name, now, life })
     }
@@ -209,7 +198,7 @@ impl Keyspace {
     /// Takes off the name of an entry that came out, unless it has another one since. The memory is given back once the
     /// shard is let go.
     fn lose(&self, out: &Expired<Name>) {
-        let mut names = self.write(self.shard_of(&out.value));
+        let mut names = self.shards[self.shard_of(&out.value)].write();
         let is_its = names.records.get(&out.value).is_some_and(|it| it.entry == Some(out.key));
         let _gone = is_its.then(|| names.expire(&out.value));
         drop(names);
@@ -217,7 +206,7 @@ impl Keyspace {
 
     /// Takes all keys out, while nobody reads or changes any.
     pub fn clear(&self) {
-        let mut all: Vec<_> = (0..SHARDS).map(|shard| self.write(shard)).collect();
+        let mut all: Vec<_> = self.shards.iter().map(Shard::write).collect();
         all.iter().for_each(|names| names.begin_end());
         let old: Vec<_> = all.iter_mut().map(|names| names.clear()).collect();
         self.queue.clear();
@@ -235,12 +224,12 @@ impl Keyspace {
 
     /// Calls `f` while the shard of a name is locked.
     pub fn while_held(&self, name: &[u8], f: impl FnOnce()) {
-        let _names = self.write(self.shard_of(name));
+        let _names = self.shards[self.shard_of(name)].write();
         f();
     }
 
     /// For how many keys the tables have room.
     pub fn table_room(&self) -> usize {
-        (0..SHARDS).map(|shard| self.shards[shard].read().records.capacity()).sum()
+        self.shards.iter().map(|it| it.read().records.capacity()).sum()
     }
 }

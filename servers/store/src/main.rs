@@ -24,7 +24,7 @@ use servers::resp;
 use std::io::{self, Write};
 use std::net::SocketAddr;
 use std::process::ExitCode;
-use std::sync::Arc;
+use std::sync::{Arc, Mutex, MutexGuard, PoisonError};
 
 /// Of the memory, a part of so many is for connections.
 const PARTS: usize = 4;
@@ -32,6 +32,11 @@ const PARTS: usize = 4;
 const SLACK: usize = 8 << 20;
 /// The files that are open beside connections.
 const OWN_FILES: usize = 64;
+
+/// Takes a lock, of a thread that panicked too: what it has locked is whole at each step.
+fn lock<T>(one: &Mutex<T>) -> MutexGuard<'_, T> {
+    one.lock().unwrap_or_else(PoisonError::into_inner)
+}
 
 /// For how many clients there are files, after the process's limit is raised as far as the machine allows.
 fn clients_with_files(wanted: usize) -> Result<usize, Box<dyn std::error::Error>> {
@@ -75,15 +80,12 @@ fn run(options: Options) -> Result<(), Box<dyn std::error::Error>> {
 }
 
 fn main() -> ExitCode {
-    let refusal = match Options::of(std::env::args().skip(1)) {
-        Ok(None) => {
-            let _ = writeln!(io::stdout(), "{HELP}");
-            return ExitCode::SUCCESS;
-        }
-        Ok(Some(options)) => run(options).err().map(|error| error.to_string()),
-        Err(wrong) => Some(format!("{wrong}; --help tells more")),
+    let done = match Options::of(std::env::args().skip(1)) {
+        Ok(None) => writeln!(io::stdout(), "{HELP}").or(Ok(())),
+        Ok(Some(options)) => run(options),
+        Err(wrong) => Err(format!("{wrong}; --help tells more").into()),
     };
-    if let Some(refusal) = refusal {
+    if let Err(refusal) = done {
         eprintln!("store: {refusal}");
         return ExitCode::FAILURE;
     }

@@ -53,10 +53,11 @@ pub struct Options {
     pub settings: Settings,
 }
 
-/// Those of a command line that tells none.
-impl Default for Options {
-    fn default() -> Options {
-        Options {
+impl Options {
+    /// None where help is asked for.
+    pub fn of(mut args: impl Iterator<Item = String>) -> Result<Option<Options>, String> {
+        // Those of a command line that tells none.
+        let mut options = Options {
             bind: Ipv4Addr::LOCALHOST.into(),
             port: 6400,
             keys: 1_000_000,
@@ -66,14 +67,7 @@ impl Default for Options {
             threads: 4,
             is_protected: true,
             settings: Settings::default(),
-        }
-    }
-}
-
-impl Options {
-    /// None where help is asked for.
-    pub fn of(mut args: impl Iterator<Item = String>) -> Result<Option<Options>, String> {
-        let mut options = Options::default();
+        };
         while let Some(name) = args.next() {
             if name == "--help" || name == "-h" {
                 return Ok(None);
@@ -81,12 +75,9 @@ impl Options {
             options.take(&name, args.next())?;
         }
         options.settings.password = options.settings.password.or(password_of_environment()?);
-        let is_open = !options.bind.is_loopback() && options.settings.password.is_none();
-        if is_open && options.is_protected {
-            return Err(format!(
-                "{} is for others too: a --password-file is wanted, or --protected-mode no",
-                options.bind
-            ));
+        let bind = options.bind;
+        if options.is_protected && !bind.is_loopback() && options.settings.password.is_none() {
+            return Err(format!("{bind} is for others too: a --password-file is wanted, or --protected-mode no"));
         }
         options.most()?;
         Ok(Some(options))

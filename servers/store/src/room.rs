@@ -83,8 +83,7 @@ impl Resident {
         let mut text = [0; 2048];
         let length = self.told.read_at(&mut text, 0)?;
         let text = String::from_utf8_lossy(&text[..length]);
-        let kibibytes =
-            text.lines().find_map(|line| line.strip_prefix("VmRSS:")?.split_whitespace().next()?.parse().ok());
+        let kibibytes = text.lines().find_map(|it| it.strip_prefix("VmRSS:")?.split_whitespace().next()?.parse().ok());
         kibibytes.map(|it: usize| it << 10).ok_or_else(|| io::ErrorKind::InvalidData.into())
     }
 

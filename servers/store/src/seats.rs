@@ -1,16 +1,19 @@
 //! The places of connections, and the memory that all of them may hold together.
 
+use crate::lock;
 use mio::Waker;
 use std::collections::BTreeMap;
-use std::fmt;
 use std::net::SocketAddr;
 use std::sync::atomic::{AtomicBool, AtomicU64, AtomicUsize, Ordering::Relaxed, Ordering::SeqCst};
-use std::sync::{Arc, Mutex, MutexGuard, PoisonError};
+use std::sync::{Arc, Mutex, MutexGuard};
 use std::time::{Duration, Instant};
 
 /// What a connection takes while it waits: its own fields, its place in a table, and what it may keep of its last
 /// request.
 pub const PER_SEAT: usize = 2 << 10;
+/// What is told to those for whom there is no place.
+const NO_SEAT: &str = "ERR max number of clients reached";
+pub const NO_MEMORY: &str = "OOM the memory for connections is used up";
 
 pub struct Seats {
     pub limit: usize,
@@ -29,7 +32,7 @@ pub struct Seats {
 pub struct Guest {
     pub id: u64,
     pub address: SocketAddr,
-    since: Instant,
+    pub since: Instant,
     /// The milliseconds of its age at which something came last, and the number of its last command. They are told, and
     /// nothing is ordered by them.
     heard: AtomicU64,
@@ -57,10 +60,6 @@ impl Guest {
         Duration::from_millis(self.millis().saturating_sub(self.heard.load(Relaxed)))
     }
 
-    pub fn age(&self) -> Duration {
-        self.since.elapsed()
-    }
-
     pub fn note_command(&self, number: usize) {
         self.command.store(number, Relaxed);
     }
@@ -74,26 +73,11 @@ impl Guest {
     }
 
     pub fn name(&self) -> MutexGuard<'_, Vec<u8>> {
-        self.name.lock().unwrap_or_else(PoisonError::into_inner)
+        lock(&self.name)
     }
 
     pub fn is_sent_away(&self) -> bool {
         self.is_sent_away.load(SeqCst)
-    }
-}
-
-#[derive(Clone, Copy, Debug, PartialEq, Eq)]
-pub enum NoSeat {
-    Clients,
-    Memory,
-}
-
-impl fmt::Display for NoSeat {
-    fn fmt(&self, f: &mut fmt::Formatter<'_>) -> fmt::Result {
-        match self {
-            NoSeat::Clients => write!(f, "ERR max number of clients reached"),
-            NoSeat::Memory => write!(f, "OOM the memory for connections is used up"),
-        }
     }
 }
 
@@ -103,25 +87,21 @@ impl Seats {
         Seats { limit, room, taken, bytes, last, guests, sent_away, wakers }
     }
 
-    fn enter(&self) -> MutexGuard<'_, BTreeMap<u64, Arc<Guest>>> {
-        self.guests.lock().unwrap_or_else(PoisonError::into_inner)
-    }
-
     /// Who is connected and isn't sent away, by number.
     pub fn guests(&self) -> Vec<Arc<Guest>> {
-        self.enter().values().filter(|it| !it.is_sent_away()).cloned().collect()
+        lock(&self.guests).values().filter(|it| !it.is_sent_away()).cloned().collect()
     }
 
     /// This thread is woken where guests are sent away.
     pub fn wakes(&self, waker: &Arc<Waker>) {
-        self.wakers.lock().unwrap_or_else(PoisonError::into_inner).push(waker.clone());
+        lock(&self.wakers).push(waker.clone());
     }
 
     /// Has some guests closed by the threads that serve them.
     pub fn send_away(&self, guests: &[Arc<Guest>]) {
         guests.iter().for_each(|it| it.is_sent_away.store(true, SeqCst));
         self.sent_away.fetch_add(1, SeqCst);
-        for waker in self.wakers.lock().unwrap_or_else(PoisonError::into_inner).iter() {
+        for waker in lock(&self.wakers).iter() {
             // A thread that can't be woken sees it at its next event.
             let _ = waker.wake();
         }
@@ -152,39 +132,36 @@ pub struct Seat {
 }
 
 impl Seat {
-    pub fn take(seats: &Arc<Seats>, address: SocketAddr) -> Result<Seat, NoSeat> {
+    /// A place for a new connection, or what its client is told where there is none.
+    pub fn take(seats: &Arc<Seats>, address: SocketAddr) -> Result<Seat, &'static str> {
         // No other connection ever has the number.
         let id = seats.last.fetch_add(1, SeqCst) + 1;
         let seat = Seat { seats: seats.clone(), guest: Guest::new(id, address) };
         if seats.taken.fetch_add(1, SeqCst) >= seats.limit {
-            return Err(NoSeat::Clients);
+            return Err(NO_SEAT);
         }
         seat.hold(PER_SEAT);
         if seats.is_crowded() {
-            return Err(NoSeat::Memory);
+            return Err(NO_MEMORY);
         }
-        seats.enter().insert(id, seat.guest.clone());
+        lock(&seats.guests).insert(id, seat.guest.clone());
         Ok(seat)
     }
 
     /// Says how much the connection holds from now on.
     pub fn hold(&self, bytes: usize) {
         let held = self.guest.held();
-        if bytes == held {
-            return;
+        if bytes != held {
+            // What is less than before wraps around, and so does the sum.
+            self.seats.bytes.fetch_add(bytes.wrapping_sub(held), SeqCst);
+            self.guest.bytes.store(bytes, SeqCst);
         }
-        if bytes > held {
-            self.seats.bytes.fetch_add(bytes - held, SeqCst);
-        } else {
-            self.seats.bytes.fetch_sub(held - bytes, SeqCst);
-        }
-        self.guest.bytes.store(bytes, SeqCst);
     }
 }
 
 impl Drop for Seat {
     fn drop(&mut self) {
-        self.seats.enter().remove(&self.guest.id);
+        lock(&self.seats.guests).remove(&self.guest.id);
         self.seats.bytes.fetch_sub(self.guest.held(), SeqCst);
         self.seats.taken.fetch_sub(1, SeqCst);
     }

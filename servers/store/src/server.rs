@@ -4,7 +4,7 @@ use crate::command::Desk;
 use crate::event_loop::{EventLoop, Mailbox};
 use crate::keeper::keep;
 use crate::keyspace::{Keyspace, KEEPERS};
-use crate::seats::{NoSeat, Seat, Seats};
+use crate::seats::{Seat, Seats};
 use crate::settings::Settings;
 use mio::net::{TcpListener, TcpStream, UnixStream};
 use mio::{Events, Interest, Poll, Token};
@@ -60,7 +60,7 @@ pub fn serve(
 
 fn server(at: usize, desk: Desk) -> Result<Server, Failure> {
     let event_loop = EventLoop::new(desk)?;
-    let mailbox = event_loop.mailbox();
+    let mailbox = event_loop.mailbox.clone();
     let thread = thread::Builder::new().name(format!("server {at}")).spawn(move || event_loop.run())?;
     Ok(Server { mailbox, thread })
 }
@@ -112,8 +112,9 @@ impl Reception<'_> {
     /// Gives a connection to the thread that has the fewest, or refuses it by name.
     fn welcome(&self, mut socket: TcpStream, from: SocketAddr) -> io::Result<()> {
         let seat = match Seat::take(self.seats, from) {
-            Err(no_seat) => {
-                refuse(&mut socket, no_seat);
+            Err(refusal) => {
+                // A new socket has room for a line.
+                let _ = socket.write(format!("-{refusal}\r\n").as_bytes());
                 return Ok(());
             }
             Ok(seat) => seat,
@@ -126,9 +127,4 @@ impl Reception<'_> {
         let server = self.servers.iter().min_by_key(|it| it.mailbox.count()).expect("there is a thread");
         server.mailbox.hand(socket, seat)
     }
-}
-
-/// A new socket has room for a line.
-fn refuse(socket: &mut TcpStream, no_seat: NoSeat) {
-    let _ = socket.write(format!("-{no_seat}\r\n").as_bytes());
 }

@@ -52,48 +52,39 @@ fn client_by(keyspace: &Arc<Keyspace>, settings: Settings) -> Asker {
     Asker { session: desk.session(&Guest::new(7, ([127, 0, 0, 1], 7).into())), desk }
 }
 
-fn ask(Asker { desk, session, .. }: &mut Asker, line: &str) -> Reply {
-    Client { desk, session }.answer(&line.split(' ').map(str::as_bytes).collect::<Vec<_>>())
+fn words(line: &str) -> Vec<&[u8]> {
+    line.split(' ').map(str::as_bytes).collect()
+}
+
+fn ask(Asker { desk, session }: &mut Asker, line: &str) -> Reply {
+    Client { desk, session }.answer(&words(line))
 }
 
 /// What becomes of a request in one turn.
-fn served(Asker { desk, session, .. }: &mut Asker, line: &str) -> Served {
-    let words: Vec<_> = line.split(' ').map(str::as_bytes).collect();
-    Client { desk, session }.serve(&words, &mut 0, &mut Output::default())
+fn served(Asker { desk, session }: &mut Asker, line: &str) -> Served {
+    Client { desk, session }.serve(&words(line), &mut 0, &mut Output::default())
 }
 
 fn is_ok(client: &mut Asker, line: &str) {
     assert_eq!(ask(client, line), Reply::Status("OK"), "{line}");
 }
 
+/// Nor does the number of keys, where none is over: it doesn't wait for a shard that somebody changes.
 #[test]
 fn a_later_deadline_takes_no_lock() {
     let keyspace = keyspace();
     let mut client = client(&keyspace);
     is_ok(&mut client, "SET lease ann PX 6000000");
+    is_ok(&mut client, "SET other 1");
     assert_eq!(ask(&mut client, "PEXPIRE lease 7000000 GT"), Reply::Integer(1));
     let (told, heard) = mpsc::channel();
     keyspace.while_held(b"lease", || {
-        thread::spawn(move || {
-            let later = ask(&mut client, "PEXPIRE lease 8000000 GT");
-            told.send((later, ask(&mut client, "PEXPIRE lease 7500000 GT"))).unwrap();
-        });
-        let answers = heard.recv_timeout(Duration::from_millis(LONG));
-        assert_eq!(answers, Ok((Reply::Integer(1), Reply::Integer(0))), "an extend waits for a lock");
-    });
-}
-
-/// Nor does it wait for a shard that somebody changes.
-#[test]
-fn the_number_of_keys_takes_no_lock_where_none_is_over() {
-    let keyspace = keyspace();
-    let mut client = client(&keyspace);
-    is_ok(&mut client, "SET a 1 PX 60000");
-    is_ok(&mut client, "SET b 1");
-    let (told, heard) = mpsc::channel();
-    keyspace.while_held(b"a", || {
-        thread::spawn(move || told.send(ask(&mut client, "DBSIZE")));
-        assert_eq!(heard.recv_timeout(Duration::from_millis(LONG)), Ok(Reply::Integer(2)), "DBSIZE waits for a lock");
+        let requests = [("PEXPIRE lease 8000000 GT", 1), ("PEXPIRE lease 7500000 GT", 0), ("DBSIZE", 2)];
+        thread::spawn(move || requests.map(|(request, _)| told.send(ask(&mut client, request))));
+        for (request, wanted) in requests {
+            let answer = heard.recv_timeout(Duration::from_millis(LONG));
+            assert_eq!(answer, Ok(Reply::Integer(wanted)), "{request} waits for a lock");
+        }
     });
 }
 
@@ -143,6 +134,8 @@ fn a_transaction_of_a_client_that_reads_nothing_is_done() {
     let mut met = 0;
     for round in 0..100 {
         let mut peer = TcpStream::connect(listener.local_addr().unwrap()).unwrap();
+        // What it writes has come by the next turn.
+        peer.set_nodelay(true).unwrap();
         let (socket, address) = listener.accept().unwrap();
         SockRef::from(&socket).set_send_buffer_size(16 << 10).unwrap();
         socket.set_nonblocking(true).unwrap();
@@ -190,9 +183,7 @@ fn extended_until_gone(keyspace: &Arc<Keyspace>, reader: &mut Asker, name: &str,
         });
         while ask(reader, &format!("GET {name}")) != Reply::Nil {}
         is_gone.store(true, SeqCst);
-        for _ in 0..20 {
-            assert_eq!(ask(reader, &format!("GET {name}")), Reply::Nil);
-        }
+        (0..20).for_each(|_| assert_eq!(ask(reader, &format!("GET {name}")), Reply::Nil));
         extender.join().unwrap()
     })
 }
@@ -316,10 +307,8 @@ fn no_key_is_counted_at_its_deadline() {
                     let told = ask(&mut client, request);
                     // The same key was there all the time.
                     if before >= until && deadline.load(SeqCst) == until {
-                        assert!(
-                            matches!(told, Reply::Integer(0) | Reply::Nil),
-                            "{request} at {before}: {told:?}, until {until}"
-                        );
+                        let is_gone = matches!(told, Reply::Integer(0) | Reply::Nil);
+                        assert!(is_gone, "{request} at {before}: {told:?}, until {until}");
                     }
                 }
             });
@@ -339,9 +328,7 @@ fn no_key_is_counted_at_its_deadline() {
 fn keepers_give_back_what_nobody_asks_for() {
     let keyspace = kept();
     let mut client = client(&keyspace);
-    for at in 0..1_000 {
-        is_ok(&mut client, &format!("SET far:{at} value PX 3600000"));
-    }
+    (0..1_000).for_each(|at| is_ok(&mut client, &format!("SET far:{at} value PX 3600000")));
     // The keepers sleep until far ahead now.
     thread::sleep(Duration::from_millis(50));
     let mut last = 0;
@@ -369,7 +356,7 @@ fn memory_is_counted_back_to_nothing() {
     (0..50).for_each(|at| drop(ask(&mut client, &format!("DEL key:{at} count:{at}"))));
     let held = keyspace.held();
     assert_eq!((ask(&mut client, "DBSIZE"), held.bytes, held.expires), (Reply::Integer(0), 0, 0));
-    assert!(keyspace.room().take(0, 64 << 20).is_ok(), "all of the room is free");
+    assert!(keyspace.room.take(0, 64 << 20).is_ok(), "all of the room is free");
 }
 
 /// Takes so many bytes at a time, and nothing every other time.
@@ -398,11 +385,11 @@ fn replies_are_sent_in_pieces_of_any_size() {
     let long = "v".repeat(20_000);
     is_ok(&mut client, &format!("SET long {long}"));
     is_ok(&mut client, "SET short value");
-    let words: Vec<_> = "MGET short long none long short".split(' ').map(str::as_bytes).collect();
+    let words = words("MGET short long none long short");
     let wanted = format!("*5\r\n$5\r\nvalue\r\n{0}$-1\r\n{0}$5\r\nvalue\r\n", format_args!("$20000\r\n{long}\r\n"));
     for size in [1, 2, 3, 1_000, 16_384, 20_000, 100_000] {
         let (mut slow, mut output, mut told) = (Slow(Vec::new(), size, false), Output::default(), 0);
-        let Asker { desk, session, .. } = &mut client;
+        let Asker { desk, session } = &mut client;
         while (Client { desk, session }).serve(&words, &mut told, &mut output) == Served::Begun {
             while output.is_full() {
                 output.send(&mut slow).unwrap();

@@ -14,7 +14,7 @@ pub fn ping(_: &mut Client<'_>, words: Words<'_>) -> Answer {
     match words {
         [_] => Ok(Reply::Status("PONG")),
         [_, text] => Ok(Reply::bulk(text)),
-        _ => Err(Refusal::WordCount("ping")),
+        _ => Err(Refusal::WordCount),
     }
 }
 
@@ -29,24 +29,20 @@ pub fn time(_: &mut Client<'_>, _: Words<'_>) -> Answer {
 pub fn select(_: &mut Client<'_>, words: Words<'_>) -> Answer {
     match integer(words[1]) {
         Some(0) => Ok(Reply::Status("OK")),
-        Some(number) if i32::try_from(number).is_ok() => Err(Refusal::DATABASE),
-        Some(_) => Err(Refusal::OutOfRange(i32::MIN.into(), i32::MAX.into())),
+        Some(number) if i32::try_from(number).is_ok() => Err(Refusal::Plain("ERR DB index is out of range")),
+        Some(_) => Err(Refusal::Plain("ERR value is out of range, value must between -2147483648 and 2147483647")),
         None => Err(Refusal::NOT_AN_INTEGER),
     }
-}
-
-fn is_plain(name: &[u8]) -> bool {
-    name.iter().all(|it| (b'!'..=b'~').contains(it))
 }
 
 /// Tells the protocol, its client's name and a password, all at once.
 pub fn hello(client: &mut Client<'_>, words: Words<'_>) -> Answer {
     let protocol = match words.get(1).map(|it| integer(it)) {
         None => client.session.protocol,
-        Some(None) => return Err(Refusal::PROTOCOL_NUMBER),
+        Some(None) => return Err(Refusal::Plain("ERR Protocol version is not an integer or out of range")),
         Some(Some(2)) => Protocol::Two,
         Some(Some(3)) => Protocol::Three,
-        Some(Some(_)) => return Err(Refusal::PROTOCOL),
+        Some(Some(_)) => return Err(Refusal::Plain("NOPROTO unsupported protocol version")),
     };
     let (mut rest, mut name, mut is_admitted) = (words.get(2..).unwrap_or(&[]), None, client.session.is_admitted);
     while let Some((option, others)) = rest.split_first() {
@@ -59,7 +55,7 @@ pub fn hello(client: &mut Client<'_>, words: Words<'_>) -> Answer {
                 name = Some(*new);
                 others
             }
-            _ => return Err(Refusal::HelloOption(repeated(option))),
+            _ => return Err(Refusal::Told(format!("ERR Syntax error in HELLO option '{}'", repeated(option)))),
         };
     }
     if !is_admitted {
@@ -105,40 +101,40 @@ fn about(client: &Client<'_>) -> Reply {
 }
 
 fn set_name(client: &mut Client<'_>, name: &[u8]) -> Result<(), Refusal> {
-    if !is_plain(name) {
-        return Err(Refusal::CLIENT_NAME);
+    if !name.iter().all(u8::is_ascii_graphic) {
+        return Err(Refusal::Plain("ERR Client names cannot contain spaces, newlines or special characters."));
     }
     *client.session.guest.name() = name.to_vec();
     Ok(())
 }
 
+/// The parts of CLIENT that have a number of words.
+const PARTS: [&str; 5] = ["id", "getname", "setname", "info", "kill"];
+
 pub fn client(client: &mut Client<'_>, words: Words<'_>) -> Answer {
-    let of = |part| Refusal::PartWordCount("client", part);
     match (&words[1].to_ascii_lowercase()[..], &words[2..]) {
         (b"id", []) => Ok(Reply::Integer(client.session.guest.id as i64)),
-        (b"id", _) => Err(of("id")),
         (b"getname", []) => match &client.session.guest.name()[..] {
             [] => Ok(Reply::Nil),
             name => Ok(Reply::bulk(name)),
         },
-        (b"getname", _) => Err(of("getname")),
         (b"setname", [name]) => set_name(client, name).map(|()| Reply::Status("OK")),
-        (b"setname", _) => Err(of("setname")),
         (b"info", []) => Ok(Reply::Text(told_of(&client.session.guest))),
-        (b"info", _) => Err(of("info")),
         (b"list", rest) => list(client, rest),
         (b"kill", [address]) => kill_at(client, address),
         (b"kill", [_, _, ..]) => kill(client, &words[2..]),
-        (b"kill", _) => Err(of("kill")),
-        _ => Err(Refusal::UnknownPart("CLIENT", repeated(words[1]))),
+        (part, _) => Err(match PARTS.iter().find(|it| it.as_bytes() == part) {
+            Some(part) => Refusal::PartWordCount(part),
+            None => Refusal::UnknownPart("CLIENT", repeated(words[1])),
+        }),
     }
 }
 
 /// A connection in a line, by Redis's words, as far as there is something to say.
 fn told_of(guest: &Guest) -> String {
     let (id, address, held) = (guest.id, guest.address, guest.held());
-    let (name, age, idle) = (String::from_utf8_lossy(&guest.name()).into_owned(), guest.age(), guest.idle());
-    let (age, idle, command) = (age.as_secs(), idle.as_secs(), COMMANDS[guest.command()].0);
+    let (age, idle) = (guest.since.elapsed().as_secs(), guest.idle().as_secs());
+    let (name, command) = (String::from_utf8_lossy(&guest.name()).into_owned(), COMMANDS[guest.command()].0);
     format!(
         "id={id} addr={address} name={name} age={age} idle={idle} flags=N db=0 sub=0 psub=0 tot-mem={held} \
          cmd={command} user=default\n"
@@ -147,31 +143,28 @@ fn told_of(guest: &Guest) -> String {
 
 /// All connections, or those of some numbers. Each is of the one kind that there is.
 fn list(client: &Client<'_>, words: Words<'_>) -> Answer {
-    let is_asked: Box<dyn Fn(&Guest) -> bool> = match words {
-        [] => Box::new(|_| true),
-        [word, kind] if word.eq_ignore_ascii_case(b"type") => {
-            let is_normal = is_normal(kind)?;
-            Box::new(move |_| is_normal)
-        }
+    let ids: Option<Vec<u64>> = match words {
+        [] => None,
+        [word, kind] if word.eq_ignore_ascii_case(b"type") => (!is_normal(kind)?).then(Vec::new),
         [word, ids @ ..] if word.eq_ignore_ascii_case(b"id") && !ids.is_empty() => {
-            let ids = ids.iter().map(|it| client_id(it, Refusal::CLIENT_ID)).collect::<Result<Vec<_>, _>>()?;
-            Box::new(move |guest| ids.contains(&guest.id))
+            Some(ids.iter().map(|it| client_id(it, "ERR Invalid client ID")).collect::<Result<_, _>>()?)
         }
         _ => return Err(Refusal::SYNTAX),
     };
     let guests = client.desk.seats.guests();
-    Ok(Reply::Text(guests.iter().filter(|it| is_asked(it)).map(|it| told_of(it)).collect()))
+    let asked = guests.iter().filter(|it| ids.as_ref().map_or(true, |ids| ids.contains(&it.id)));
+    Ok(Reply::Text(asked.map(|it| told_of(it)).collect()))
 }
 
-fn client_id(word: &[u8], refusal: Refusal) -> Result<u64, Refusal> {
-    integer(word).filter(|it| *it > 0).map(|it| it as u64).ok_or(refusal)
+fn client_id(word: &[u8], refusal: &'static str) -> Result<u64, Refusal> {
+    integer(word).filter(|it| *it > 0).map(|it| it as u64).ok_or(Refusal::Plain(refusal))
 }
 
 fn is_normal(kind: &[u8]) -> Result<bool, Refusal> {
     match &kind.to_ascii_lowercase()[..] {
         b"normal" => Ok(true),
         b"master" | b"replica" | b"slave" | b"pubsub" => Ok(false),
-        _ => Err(Refusal::ClientType(repeated(kind))),
+        _ => Err(Refusal::Told(format!("ERR Unknown client type '{}'", repeated(kind)))),
     }
 }
 
@@ -180,7 +173,7 @@ fn kill_at(client: &Client<'_>, address: &[u8]) -> Answer {
     let mut guests = client.desk.seats.guests();
     guests.retain(|it| it.address.to_string().as_bytes() == address);
     if guests.is_empty() {
-        return Err(Refusal::NO_CLIENT);
+        return Err(Refusal::Plain("ERR No such client"));
     }
     client.desk.seats.send_away(&guests);
     Ok(Reply::Status("OK"))
@@ -192,7 +185,7 @@ fn kill(client: &Client<'_>, mut words: Words<'_>) -> Answer {
     while let [word, value, rest @ ..] = words {
         match &word.to_ascii_lowercase()[..] {
             b"id" => {
-                let id = client_id(value, Refusal::KILLED_ID)?;
+                let id = client_id(value, "ERR client-id should be greater than 0")?;
                 guests.retain(|it| it.id == id);
             }
             b"addr" => guests.retain(|it| it.address.to_string().as_bytes() == *value),
@@ -218,9 +211,9 @@ pub fn config(client: &mut Client<'_>, words: Words<'_>) -> Answer {
         return Err(Refusal::UnknownPart("CONFIG", repeated(words[1])));
     }
     if words.len() < 3 {
-        return Err(Refusal::PartWordCount("config", "get"));
+        return Err(Refusal::PartWordCount("get"));
     }
-    let bytes = client.desk.keyspace.room().most + client.desk.seats.room;
+    let bytes = client.desk.keyspace.room.most + client.desk.seats.room;
     let settings = &client.desk.settings;
     let seconds = |time: Option<Duration>| time.map_or(0, |it| it.as_secs()).to_string();
     let settings = [
@@ -256,8 +249,8 @@ pub fn command(_: &mut Client<'_>, words: Words<'_>) -> Answer {
 pub fn info(client: &mut Client<'_>, _: Words<'_>) -> Answer {
     let (keyspace, seats) = (&client.desk.keyspace, &client.desk.seats);
     let Held { keys, expires, bytes, expired, late } = keyspace.held();
-    let (version, held, room) = (env!("CARGO_PKG_VERSION"), seats.bytes(), keyspace.room().most + seats.room);
-    let (clients, resident) = (seats.taken(), keyspace.room().resident().unwrap_or(0));
+    let (version, held, room) = (env!("CARGO_PKG_VERSION"), seats.bytes(), keyspace.room.most + seats.room);
+    let (clients, resident) = (seats.taken(), keyspace.room.resident().unwrap_or(0));
     Ok(Reply::Text(format!(
         "# Server\r\nredis_version:{REDIS_VERSION}\r\nstore_version:{version}\r\nredis_mode:standalone\r\n\r\n\
          # Clients\r\nconnected_clients:{clients}\r\n\r\n\

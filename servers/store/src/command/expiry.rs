@@ -7,60 +7,44 @@ use crate::resp::{integer, Reply};
 use hontkhale::parts::owner::LAST_TICK;
 use hontkhale::Key;
 
+/// What a time counts: seconds or milliseconds, from now on or since 1970.
 #[derive(Clone, Copy, PartialEq, Eq)]
-pub enum Unit {
-    Seconds,
-    Millis,
+pub struct Form {
+    is_seconds: bool,
+    is_from_now: bool,
 }
 
-/// A time that a request tells, from now on or since 1970.
-pub struct Time<'a> {
-    pub text: &'a [u8],
-    pub unit: Unit,
-    pub is_from_now: bool,
-}
+impl Form {
+    pub const EX: Form = Form { is_seconds: true, is_from_now: true };
+    pub const PX: Form = Form { is_seconds: false, is_from_now: true };
+    pub const EXAT: Form = Form { is_seconds: true, is_from_now: false };
+    pub const PXAT: Form = Form { is_seconds: false, is_from_now: false };
 
-impl<'a> Time<'a> {
-    pub fn from_now(text: &'a [u8], is_seconds: bool) -> Time<'a> {
-        Time { text, unit: if is_seconds { Unit::Seconds } else { Unit::Millis }, is_from_now: true }
-    }
-
-    /// The unit that an option has, and whether its time counts from now.
-    pub fn option(word: &[u8]) -> Option<(Unit, bool)> {
+    /// That of an option, which has its name.
+    pub fn of(word: &[u8]) -> Option<Form> {
         match word {
-            b"ex" => Some((Unit::Seconds, true)),
-            b"px" => Some((Unit::Millis, true)),
-            b"exat" => Some((Unit::Seconds, false)),
-            b"pxat" => Some((Unit::Millis, false)),
+            b"ex" => Some(Form::EX),
+            b"px" => Some(Form::PX),
+            b"exat" => Some(Form::EXAT),
+            b"pxat" => Some(Form::PXAT),
             _ => None,
         }
     }
 
-    /// It in milliseconds since 1970.
-    fn instant(&self, now: Tick, command: &'static str) -> Result<i64, Refusal> {
-        let time = integer(self.text).ok_or(Refusal::NOT_AN_INTEGER)?;
-        let millis = if self.unit == Unit::Seconds { time.checked_mul(1000) } else { Some(time) };
+    /// What is told, and it in milliseconds since 1970.
+    fn time(self, text: &[u8], now: Tick) -> Result<(i64, i64), Refusal> {
+        let time = integer(text).ok_or(Refusal::NOT_AN_INTEGER)?;
+        let millis = if self.is_seconds { time.checked_mul(1000) } else { Some(time) };
         let instant = millis.and_then(|it| it.checked_add(if self.is_from_now { now as i64 } else { 0 }));
-        instant.filter(|it| *it <= LAST_TICK as i64).ok_or(Refusal::ExpireTime(command))
+        Ok((time, instant.filter(|it| *it <= LAST_TICK as i64).ok_or(Refusal::ExpireTime)?))
     }
 
     /// The same, of a command that takes no time that is nothing or less.
-    pub fn positive(&self, now: Tick, command: &'static str) -> Result<Tick, Refusal> {
-        let instant = self.instant(now, command)?;
-        if integer(self.text).map_or(true, |time| time <= 0) {
-            return Err(Refusal::ExpireTime(command));
-        }
-        Ok(instant as Tick)
+    pub fn positive(self, text: &[u8], now: Tick) -> Result<Tick, Refusal> {
+        let (time, instant) = self.time(text, now)?;
+        Some(instant as Tick).filter(|_| time > 0).ok_or(Refusal::ExpireTime)
     }
 }
-
-/// A command that gives a key a deadline: its name, the unit of its time, and whether that counts from now.
-pub struct Expire(&'static str, Unit, bool);
-
-pub const EXPIRE: Expire = Expire("expire", Unit::Seconds, true);
-pub const PEXPIRE: Expire = Expire("pexpire", Unit::Millis, true);
-pub const EXPIREAT: Expire = Expire("expireat", Unit::Seconds, false);
-pub const PEXPIREAT: Expire = Expire("pexpireat", Unit::Millis, false);
 
 /// Which keys get another deadline.
 #[derive(Default)]
@@ -80,14 +64,16 @@ impl Conditions {
                 b"xx" => only.xx = true,
                 b"gt" => only.gt = true,
                 b"lt" => only.lt = true,
-                _ => return Err(Refusal::Option(repeated(word))),
+                _ => return Err(Refusal::Told(format!("ERR Unsupported option {}", repeated(word)))),
             }
         }
-        match only {
-            Conditions { nx: true, xx, gt, lt } if xx || gt || lt => Err(Refusal::NX_BESIDE),
-            Conditions { gt: true, lt: true, .. } => Err(Refusal::GT_BESIDE_LT),
-            only => Ok(only),
-        }
+        Err(Refusal::Plain(match only {
+            Conditions { nx: true, xx, gt, lt } if xx || gt || lt => {
+                "ERR NX and XX, GT or LT options at the same time are not compatible"
+            }
+            Conditions { gt: true, lt: true, .. } => "ERR GT and LT options at the same time are not compatible",
+            only => return Ok(only),
+        }))
     }
 
     /// Whether a key of that life gets this deadline. A life without an end is longer than any.
@@ -99,12 +85,10 @@ impl Conditions {
     }
 }
 
-pub fn expire(client: &mut Client<'_>, words: Words<'_>, how: &Expire) -> Answer {
+pub fn expire(client: &mut Client<'_>, words: Words<'_>, form: Form) -> Answer {
     let only = Conditions::of(&words[3..])?;
-    let Expire(command, unit, is_from_now) = *how;
-    let now = client.desk.keyspace.clock.now();
-    let when = Time { text: words[2], unit, is_from_now }.instant(now, command)?;
-    let name = words[1];
+    let (name, now) = (words[1], client.desk.keyspace.clock.now());
+    let (_, when) = form.time(words[2], now)?;
     if only.gt && when > now as i64 {
         return Ok(count(extend(client.desk, name, when as Tick) as usize));
     }
@@ -143,11 +127,13 @@ fn extend_entry(desk: &Desk, entry: &Key, when: Tick) -> Option<bool> {
 }
 
 /// What is left of a key's life, or when it ends: -1 where it has no end, -2 where there is no key.
-pub fn life(client: &mut Client<'_>, words: Words<'_>, tell: fn(Tick, Tick) -> Tick) -> Answer {
+pub fn life(client: &mut Client<'_>, words: Words<'_>, form: Form) -> Answer {
     let keyspace = &client.desk.keyspace;
-    Ok(Reply::Integer(match keyspace.view(words[1], |_, life| life) {
-        None => -2,
-        Some(Life::Endless) => -1,
-        Some(Life::Until(until)) => tell(until, keyspace.clock.now().min(until)) as i64,
-    }))
+    let millis = match keyspace.view(words[1], |_, life| life) {
+        None => return Ok(Reply::Integer(-2)),
+        Some(Life::Endless) => return Ok(Reply::Integer(-1)),
+        Some(Life::Until(until)) if form.is_from_now => until.saturating_sub(keyspace.clock.now()),
+        Some(Life::Until(until)) => until,
+    };
+    Ok(Reply::Integer(if form.is_seconds { (millis + 500) / 1000 } else { millis } as i64))
 }

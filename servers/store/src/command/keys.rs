@@ -1,22 +1,14 @@
 //! Keys and their values.
 
-use super::expiry::Time;
+use super::expiry::Form;
 use super::{count, Answer, Client, Refusal, Words};
 use crate::clock::Tick;
-use crate::keyspace::{Lifetime, Place};
+use crate::keyspace::Lifetime;
 use crate::resp::{integer, Reply};
-
-pub fn change<O>(client: &mut Client<'_>, name: &[u8], change: impl FnOnce(&mut Place<'_, '_>) -> O) -> O {
-    client.desk.keyspace.change(name, change)
-}
 
 pub fn value(client: &mut Client<'_>, name: &[u8]) -> Reply {
     let value = client.desk.keyspace.view(name, |record, _| record.value.clone());
     value.map_or(Reply::Nil, Reply::Bulk)
-}
-
-pub fn get(client: &mut Client<'_>, words: Words<'_>) -> Answer {
-    Ok(value(client, words[1]))
 }
 
 fn is_there(client: &mut Client<'_>, name: &[u8]) -> bool {
@@ -32,23 +24,23 @@ pub fn type_of(client: &mut Client<'_>, words: Words<'_>) -> Answer {
 }
 
 pub fn del(client: &mut Client<'_>, words: Words<'_>) -> Answer {
-    Ok(count(words[1..].iter().filter(|name| change(client, name, |place| place.remove())).count()))
+    Ok(count(words[1..].iter().filter(|name| client.desk.keyspace.change(name, |place| place.remove())).count()))
 }
 
 /// The holder of a lease ends it, by the value that it set.
 pub fn del_if_equal(client: &mut Client<'_>, words: Words<'_>) -> Answer {
-    change(client, words[1], |place| {
+    client.desk.keyspace.change(words[1], |place| {
         let is_its = place.value().is_some_and(|value| **value == *words[2]);
         Ok(count(usize::from(is_its && place.remove())))
     })
 }
 
 pub fn persist(client: &mut Client<'_>, words: Words<'_>) -> Answer {
-    Ok(count(change(client, words[1], |place| place.persist()) as usize))
+    Ok(count(client.desk.keyspace.change(words[1], |place| place.persist()) as usize))
 }
 
 pub fn get_and_remove(client: &mut Client<'_>, words: Words<'_>) -> Answer {
-    change(client, words[1], |place| {
+    client.desk.keyspace.change(words[1], |place| {
         let value = place.value().cloned();
         place.remove();
         Ok(value.map_or(Reply::Nil, Reply::Bulk))
@@ -56,9 +48,9 @@ pub fn get_and_remove(client: &mut Client<'_>, words: Words<'_>) -> Answer {
 }
 
 pub fn add(client: &mut Client<'_>, name: &[u8], by: i64) -> Answer {
-    change(client, name, |place| {
+    client.desk.keyspace.change(name, |place| {
         let old = place.value().map_or(Some(0), |value| integer(value)).ok_or(Refusal::NOT_AN_INTEGER)?;
-        let new = old.checked_add(by).ok_or(Refusal::OVERFLOW)?;
+        let new = old.checked_add(by).ok_or(Refusal::Plain("ERR increment or decrement would overflow"))?;
         place.set(new.to_string().as_bytes(), Lifetime::Kept)?;
         Ok(Reply::Integer(new))
     })
@@ -70,7 +62,7 @@ pub fn incr_by(client: &mut Client<'_>, words: Words<'_>) -> Answer {
 
 pub fn decr_by(client: &mut Client<'_>, words: Words<'_>) -> Answer {
     let by = integer(words[2]).ok_or(Refusal::NOT_AN_INTEGER)?;
-    add(client, words[1], by.checked_neg().ok_or(Refusal::DECR_OVERFLOW)?)
+    add(client, words[1], by.checked_neg().ok_or(Refusal::Plain("ERR decrement would overflow"))?)
 }
 
 pub fn flush(client: &mut Client<'_>, words: Words<'_>) -> Answer {
@@ -108,74 +100,50 @@ impl Only<'_> {
 struct Options<'a> {
     only: Only<'a>,
     is_get: bool,
-    is_kept: bool,
-    is_endless: bool,
-    time: Option<Time<'a>>,
+    /// KEEPTTL of a SET, or PERSIST of a GETEX: no time stands beside it.
+    is_timeless: bool,
+    time: Option<(Form, &'a [u8])>,
 }
 
 impl<'a> Options<'a> {
-    fn of_set(words: Words<'a>) -> Result<Options<'a>, Refusal> {
-        Options::of(words, |options, word, rest| {
-            match (word, &options.only) {
-                (b"nx", Only::Any | Only::None) => options.only = Only::None,
-                (b"xx", Only::Any | Only::Some) => options.only = Only::Some,
-                (b"ifeq", Only::Any) => options.only = Only::Equal(rest.next()?),
-                (b"get", _) => options.is_get = true,
-                (b"keepttl", _) if options.time.is_none() => options.is_kept = true,
-                _ => return None,
-            }
-            Some(())
-        })
-    }
-
-    fn of_getex(words: Words<'a>) -> Result<Options<'a>, Refusal> {
-        Options::of(words, |options, word, _| {
-            let is_known = word == b"persist" && options.time.is_none();
-            options.is_endless |= is_known;
-            is_known.then_some(())
-        })
-    }
-
-    /// The options that a command takes, `take` says whether a word is one and takes what belongs to it, and a time
-    /// beside them.
-    fn of(
-        words: Words<'a>,
-        take: impl Fn(&mut Options<'a>, &[u8], &mut dyn Iterator<Item = &'a [u8]>) -> Option<()>,
-    ) -> Result<Options<'a>, Refusal> {
+    /// Compiled for each command by itself, which takes fewer instructions.
+    fn of<const IS_SET: bool>(words: Words<'a>) -> Result<Options<'a>, Refusal> {
         let mut options = Options::default();
         let mut rest = words.iter().copied();
         while let Some(word) = rest.next() {
-            let word = word.to_ascii_lowercase();
-            if take(&mut options, &word, &mut rest).is_some() {
-                continue;
+            match (&word.to_ascii_lowercase()[..], &options.only) {
+                (b"nx", Only::Any | Only::None) if IS_SET => options.only = Only::None,
+                (b"xx", Only::Any | Only::Some) if IS_SET => options.only = Only::Some,
+                (b"ifeq", Only::Any) if IS_SET => options.only = Only::Equal(rest.next().ok_or(Refusal::SYNTAX)?),
+                (b"get", _) if IS_SET => options.is_get = true,
+                (b"keepttl", _) if IS_SET && options.time.is_none() => options.is_timeless = true,
+                (b"persist", _) if !IS_SET && options.time.is_none() => options.is_timeless = true,
+                _ if options.is_timeless => return Err(Refusal::SYNTAX),
+                (word, _) => {
+                    // Of two times in one form the last counts.
+                    let is_first = |form: &Form| options.time.map_or(true, |(other, _)| other == *form);
+                    let form = Form::of(word).filter(is_first).ok_or(Refusal::SYNTAX)?;
+                    options.time = Some((form, rest.next().ok_or(Refusal::SYNTAX)?));
+                }
             }
-            if options.is_kept || options.is_endless {
-                return Err(Refusal::SYNTAX);
-            }
-            let (unit, is_from_now) = Time::option(&word).ok_or(Refusal::SYNTAX)?;
-            // Of two times in one form the last counts.
-            if options.time.as_ref().is_some_and(|it| (it.unit, it.is_from_now) != (unit, is_from_now)) {
-                return Err(Refusal::SYNTAX);
-            }
-            options.time = Some(Time { text: rest.next().ok_or(Refusal::SYNTAX)?, unit, is_from_now });
         }
         Ok(options)
     }
 
     /// What becomes of the deadline: one that is told, the old one, or none.
-    fn lifetime(&self, now: Tick, command: &'static str) -> Result<Lifetime, Refusal> {
-        match &self.time {
-            None if self.is_kept => Ok(Lifetime::Kept),
+    fn lifetime(&self, now: Tick) -> Result<Lifetime, Refusal> {
+        match self.time {
+            None if self.is_timeless => Ok(Lifetime::Kept),
             None => Ok(Lifetime::Endless),
-            Some(time) => Ok(Lifetime::Until(time.positive(now, command)?)),
+            Some((form, time)) => form.positive(time, now).map(Lifetime::Until),
         }
     }
 }
 
 pub fn set(client: &mut Client<'_>, words: Words<'_>) -> Answer {
-    let options = Options::of_set(&words[3..])?;
-    change(client, words[1], |place| {
-        let lifetime = options.lifetime(place.now, "set")?;
+    let options = Options::of::<true>(&words[3..])?;
+    client.desk.keyspace.change(words[1], |place| {
+        let lifetime = options.lifetime(place.now)?;
         let old = place.value().cloned();
         let is_done = options.only.allows(old.as_deref());
         if is_done {
@@ -190,7 +158,7 @@ pub fn set(client: &mut Client<'_>, words: Words<'_>) -> Answer {
 }
 
 pub fn set_new(client: &mut Client<'_>, words: Words<'_>) -> Answer {
-    change(client, words[1], |place| {
+    client.desk.keyspace.change(words[1], |place| {
         let is_new = place.value().is_none();
         if is_new {
             place.set(words[2], Lifetime::Endless)?;
@@ -200,7 +168,7 @@ pub fn set_new(client: &mut Client<'_>, words: Words<'_>) -> Answer {
 }
 
 pub fn get_and_set(client: &mut Client<'_>, words: Words<'_>) -> Answer {
-    change(client, words[1], |place| {
+    client.desk.keyspace.change(words[1], |place| {
         let old = place.value().cloned();
         place.set(words[2], Lifetime::Endless)?;
         Ok(old.map_or(Reply::Nil, Reply::Bulk))
@@ -210,32 +178,30 @@ pub fn get_and_set(client: &mut Client<'_>, words: Words<'_>) -> Answer {
 /// Sets each key. What was set before one that is refused stays.
 pub fn set_all(client: &mut Client<'_>, words: Words<'_>) -> Answer {
     if words.len() % 2 == 0 {
-        return Err(Refusal::WordCount("mset"));
+        return Err(Refusal::WordCount);
     }
     for pair in words[1..].chunks(2) {
-        change(client, pair[0], |place| place.set(pair[1], Lifetime::Endless))?;
+        client.desk.keyspace.change(pair[0], |place| place.set(pair[1], Lifetime::Endless))?;
     }
     Ok(Reply::Status("OK"))
 }
 
 /// SETEX or PSETEX: the time stands before the value.
-pub fn set_until(client: &mut Client<'_>, words: Words<'_>, command: &'static str) -> Answer {
-    let time = Time::from_now(words[2], command == "setex");
-    change(client, words[1], |place| {
-        let until = time.positive(place.now, command)?;
-        place.set(words[3], Lifetime::Until(until))?;
+pub fn set_until(client: &mut Client<'_>, words: Words<'_>, form: Form) -> Answer {
+    client.desk.keyspace.change(words[1], |place| {
+        place.set(words[3], Lifetime::Until(form.positive(words[2], place.now)?))?;
         Ok(Reply::Status("OK"))
     })
 }
 
 pub fn get_and_expire(client: &mut Client<'_>, words: Words<'_>) -> Answer {
-    let options = Options::of_getex(&words[2..])?;
-    change(client, words[1], |place| {
+    let options = Options::of::<false>(&words[2..])?;
+    client.desk.keyspace.change(words[1], |place| {
         let Some(value) = place.value().cloned() else { return Ok(Reply::Nil) };
-        if options.is_endless {
+        if options.is_timeless {
             place.persist();
-        } else if let Some(time) = &options.time {
-            if !place.expire(time.positive(place.now, "getex")?)? {
+        } else if let Some((form, time)) = options.time {
+            if !place.expire(form.positive(time, place.now)?)? {
                 return Ok(Reply::Nil);
             }
         }

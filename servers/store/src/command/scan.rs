@@ -11,7 +11,7 @@ const MOST: usize = 1_024;
 const MOST_KEYS: usize = 1 << 16;
 
 pub fn scan(client: &mut Client<'_>, words: Words<'_>) -> Answer {
-    let cursor = cursor(words[1]).ok_or(Refusal::CURSOR)?;
+    let cursor = cursor(words[1]).ok_or(Refusal::Plain("ERR invalid cursor"))?;
     let (mut pattern, mut asked, mut is_strings) = (&b"*"[..], ASKED, true);
     for option in words[2..].chunks(2) {
         let (name, value) = match option {
@@ -40,8 +40,7 @@ fn cursor(text: &[u8]) -> Option<u64> {
     let (is_negative, digits) = match text {
         [] => return Some(0),
         [b'-', digits @ ..] => (true, digits),
-        [b'+', digits @ ..] => (false, digits),
-        digits => (false, digits),
+        [b'+', digits @ ..] | digits => (false, digits),
     };
     let number: u64 = str::from_utf8(digits).ok().filter(|it| !it.starts_with('+'))?.parse().ok()?;
     Some(if is_negative { number.wrapping_neg() } else { number })
@@ -50,7 +49,7 @@ fn cursor(text: &[u8]) -> Option<u64> {
 /// The names of all keys that fit a pattern, which are told one by one.
 pub fn keys(client: &mut Client<'_>, words: Words<'_>) -> Answer {
     let names = client.desk.keyspace.names(|name| is_match(words[1], name), MOST_KEYS);
-    let names = names.ok_or(Refusal::ManyNames(MOST_KEYS))?;
+    let names = names.ok_or_else(|| Refusal::Told(format!("ERR more than {MOST_KEYS} names fit: SCAN tells them")))?;
     let count = names.len();
     names.into_iter().for_each(|name| client.session.transaction.keep(Reply::Bulk(name)));
     Ok(Reply::Begun(count))
@@ -105,25 +104,14 @@ fn class(pattern: &[u8], byte: u8) -> (bool, &[u8]) {
     let mut rest = &pattern[is_negated as usize..];
     let mut is_in = false;
     loop {
-        rest = match rest {
-            [] => break,
-            [b']', others @ ..] => {
-                rest = others;
-                break;
-            }
-            [b'\\', it, others @ ..] => {
-                is_in |= *it == byte;
-                others
-            }
-            [from, b'-', to, others @ ..] => {
-                is_in |= (*from.min(to)..=*from.max(to)).contains(&byte);
-                others
-            }
-            [it, others @ ..] => {
-                is_in |= *it == byte;
-                others
-            }
+        let (is_fit, others) = match rest {
+            [] => return (is_in != is_negated, rest),
+            [b']', others @ ..] => return (is_in != is_negated, others),
+            [b'\\', it, others @ ..] => (*it == byte, others),
+            [from, b'-', to, others @ ..] => ((*from.min(to)..=*from.max(to)).contains(&byte), others),
+            [it, others @ ..] => (*it == byte, others),
         };
+        is_in |= is_fit;
+        rest = others;
     }
-    (is_in != is_negated, rest)
 }

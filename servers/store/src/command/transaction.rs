@@ -49,16 +49,10 @@ struct Running {
 /// sets it, sets another.
 type Seen = Option<(Value, Life)>;
 
-fn seen(desk: &Desk, name: &[u8]) -> Seen {
-    desk.keyspace.view(name, |record, life| (record.value.clone(), life))
-}
-
-fn is_same(one: &Seen, other: &Seen) -> bool {
-    match (one, other) {
-        (None, None) => true,
-        (Some((value, life)), Some((now, life_now))) => Value::ptr_eq(value, now) && *life == *life_now,
-        _ => false,
-    }
+/// Whether a key is as it was seen.
+fn is_as_seen(desk: &Desk, name: &[u8], seen: &Seen) -> bool {
+    let now = desk.keyspace.view(name, |record, life| (record.value.as_ptr(), life));
+    now == seen.as_ref().map(|(value, life)| (value.as_ptr(), *life))
 }
 
 /// What a watched key takes beside its name and its value.
@@ -82,12 +76,12 @@ impl Transaction {
 
     pub fn queue(&mut self, command: &str, words: Words<'_>) -> Answer {
         if MANY_NAMES.contains(&command) {
-            return Err(Refusal::InMulti(command.to_ascii_uppercase()));
+            return Err(Refusal::InMulti);
         }
         let queue = self.queue.get_or_insert_with(Queue::default);
         queue.bytes += words.iter().map(|word| word.len() + PER_WORD).sum::<usize>();
         if queue.bytes > Limits::MOST.request {
-            return Err(Refusal::LONG_TRANSACTION);
+            return Err(Refusal::Plain("ERR the transaction is too long"));
         }
         queue.requests.push(words.iter().map(|word| word.to_vec()).collect());
         Ok(Reply::Status("QUEUED"))
@@ -96,16 +90,6 @@ impl Transaction {
     /// Whether EXEC has done some of it and not all.
     pub fn is_running(&self) -> bool {
         self.running.as_ref().is_some_and(|it| it.claim.is_some())
-    }
-
-    /// What EXEC does next. Once there is nothing its names are everybody's again.
-    fn next_request(&mut self) -> Option<Request> {
-        let running = self.running.as_mut()?;
-        let next = running.requests.next();
-        if next.is_none() {
-            running.claim = None;
-        }
-        next
     }
 
     pub fn note_refusal(&mut self) {
@@ -133,28 +117,27 @@ impl Transaction {
 pub fn multi(client: &mut Client<'_>, _: Words<'_>) -> Answer {
     let queue = &mut client.session.transaction.queue;
     if queue.is_some() {
-        return Err(Refusal::NESTED);
+        return Err(Refusal::Plain("ERR MULTI calls can not be nested"));
     }
     *queue = Some(Queue::default());
     Ok(Reply::Status("OK"))
 }
 
-pub fn discard(client: &mut Client<'_>, _: Words<'_>) -> Answer {
-    client.session.transaction.queue.take().ok_or(Refusal::WithoutMulti("DISCARD"))?;
-    client.session.transaction.unwatch();
-    Ok(Reply::Status("OK"))
+pub fn discard(client: &mut Client<'_>, words: Words<'_>) -> Answer {
+    client.session.transaction.queue.take().ok_or(Refusal::Plain("ERR DISCARD without MULTI"))?;
+    unwatch(client, words)
 }
 
 pub fn watch(client: &mut Client<'_>, words: Words<'_>) -> Answer {
-    if client.session.transaction.queue.is_some() {
-        return Err(Refusal::InMulti("WATCH".into()));
+    let transaction = &mut client.session.transaction;
+    if transaction.queue.is_some() {
+        return Err(Refusal::InMulti);
     }
     for name in &words[1..] {
-        let Client { desk, session } = client;
-        if !session.transaction.watched.contains_key(*name) {
-            let seen = seen(desk, name);
-            session.transaction.watched_bytes += name.len() + PER_WATCHED + seen.as_ref().map_or(0, |it| it.0.len());
-            session.transaction.watched.insert(name.to_vec(), seen);
+        if !transaction.watched.contains_key(*name) {
+            let seen = client.desk.keyspace.view(name, |record, life| (record.value.clone(), life));
+            transaction.watched_bytes += name.len() + PER_WATCHED + seen.as_ref().map_or(0, |it| it.0.len());
+            transaction.watched.insert(name.to_vec(), seen);
         }
     }
     Ok(Reply::Status("OK"))
@@ -172,7 +155,7 @@ pub fn advance(client: &mut Client<'_>) -> bool {
         return false;
     }
     let begun = Instant::now();
-    while let Some(request) = client.session.transaction.next_request() {
+    while let Some(request) = client.session.transaction.running.as_mut().and_then(|it| it.requests.next()) {
         let words: Vec<&[u8]> = request.iter().map(Vec::as_slice).collect();
         let reply = client.answer(&words);
         client.session.transaction.keep(reply);
@@ -184,6 +167,8 @@ pub fn advance(client: &mut Client<'_>) -> bool {
             return false;
         }
     }
+    // Its names are everybody's again.
+    client.session.transaction.running.iter_mut().for_each(|it| it.claim = None);
     true
 }
 
@@ -200,7 +185,7 @@ fn begin(client: &mut Client<'_>) -> bool {
     let Some(claim) = desk.keyspace.claim(claimed) else { return false };
     let queue = session.transaction.queue.take().unwrap_or_default();
     let watched = session.transaction.unwatch();
-    let is_as_seen = watched.iter().all(|(name, then)| is_same(then, &seen(desk, name)));
+    let is_as_seen = watched.iter().all(|(name, seen)| is_as_seen(desk, name, seen));
     let requests = if is_as_seen { queue.requests } else { Vec::new() };
     let count = is_as_seen.then_some(requests.len());
     session.transaction.running =
@@ -213,10 +198,10 @@ pub fn exec(client: &mut Client<'_>, _: Words<'_>) -> Answer {
     match (transaction.running.take(), transaction.queue.take()) {
         (Some(Running { count: Some(count), .. }), _) => Ok(Reply::Begun(count)),
         (Some(_), _) => Ok(Reply::NilArray),
-        (None, None) => Err(Refusal::WithoutMulti("EXEC")),
+        (None, None) => Err(Refusal::Plain("ERR EXEC without MULTI")),
         (None, Some(_)) => {
             transaction.unwatch();
-            Err(Refusal::ABORTED)
+            Err(Refusal::Plain("EXECABORT Transaction discarded because of previous errors."))
         }
     }
 }

@@ -1,10 +1,11 @@
 //! Names that one client has for itself, so that what it does with them in many steps is one step to all others. Whoever
 //! asks for other names is served meanwhile.
 
-use super::{lock, Keyspace};
+use super::Keyspace;
+use crate::lock;
 use std::collections::HashSet;
 use std::sync::atomic::{AtomicBool, Ordering::SeqCst};
-use std::sync::{Arc, Mutex, PoisonError, RwLock};
+use std::sync::{Arc, Mutex};
 
 /// A thread's turn, which it has while it serves a request.
 pub type Turn = Arc<Mutex<()>>;
@@ -18,7 +19,7 @@ pub struct Claimed {
 
 #[derive(Default)]
 pub struct Claims {
-    turns: RwLock<Vec<Turn>>,
+    turns: Mutex<Vec<Turn>>,
     claimed: Mutex<Option<Claimed>>,
     is_any: AtomicBool,
 }
@@ -29,22 +30,21 @@ pub struct Claim(Arc<Keyspace>);
 impl Keyspace {
     pub fn turn(&self) -> Turn {
         let turn = Turn::default();
-        self.claims.turns.write().unwrap_or_else(PoisonError::into_inner).push(turn.clone());
+        lock(&self.claims.turns).push(turn.clone());
         turn
     }
 
     /// Claims names, none where another has claimed some. Whoever claims has no turn, for it waits until each thread's is
     /// over: no request that began before goes on then.
     pub fn claim(self: &Arc<Self>, claimed: Claimed) -> Option<Claim> {
-        let mut now = self.claims.claimed.lock().unwrap_or_else(PoisonError::into_inner);
+        let mut now = lock(&self.claims.claimed);
         if now.is_some() {
             return None;
         }
         *now = Some(claimed);
         self.claims.is_any.store(true, SeqCst);
         drop(now);
-        let turns = self.claims.turns.read().unwrap_or_else(PoisonError::into_inner);
-        turns.iter().for_each(|it| drop(lock(it)));
+        lock(&self.claims.turns).iter().for_each(|it| drop(lock(it)));
         Some(Claim(self.clone()))
     }
 
@@ -54,7 +54,7 @@ impl Keyspace {
         if !self.claims.is_any.load(SeqCst) {
             return false;
         }
-        let claimed = self.claims.claimed.lock().unwrap_or_else(PoisonError::into_inner);
+        let claimed = lock(&self.claims.claimed);
         claimed.as_ref().is_some_and(|it| is_all || names.any(|name| it.is_all || it.hashes.contains(&self.hash(name))))
     }
 
@@ -65,7 +65,7 @@ impl Keyspace {
 
 impl Drop for Claim {
     fn drop(&mut self) {
-        let mut claimed = self.0.claims.claimed.lock().unwrap_or_else(PoisonError::into_inner);
+        let mut claimed = lock(&self.0.claims.claimed);
         self.0.claims.is_any.store(false, SeqCst);
         *claimed = None;
     }

@@ -1,6 +1,6 @@
 //! What is asked of all shards: how many keys there are, their names, and what they take.
 
-use super::{Keyspace, Name, SHARDS};
+use super::{Keyspace, Name, Shard, SHARDS};
 use crate::clock::Tick;
 
 /// How many bytes of names a call tells: more only of one name.
@@ -26,7 +26,7 @@ impl Keyspace {
     /// The number of live keys. Each shard is counted by itself, without its lock where no key ends in it.
     pub fn count(&self) -> usize {
         self.take_off_all();
-        self.shards.iter().map(|shard| shard.count()).sum()
+        self.shards.iter().map(Shard::count).sum()
     }
 
     /// The names of live keys that fit, each shard's by themselves, none where there are too many.
@@ -35,9 +35,8 @@ impl Keyspace {
         self.take_off_all();
         for shard in &self.shards {
             let names = shard.read();
-            let fitting =
-                names.records.iter().filter(|(name, record)| is_fit(name) && self.life(record, now).is_some());
-            all.extend(fitting.map(|(name, _)| name.clone()).take(most + 1 - all.len()));
+            let told = names.records.iter().filter(|(name, record)| is_fit(name) && self.life(record, now).is_some());
+            all.extend(told.map(|(name, _)| name.clone()).take(most + 1 - all.len()));
             if all.len() > most {
                 return None;
             }
@@ -75,15 +74,12 @@ impl Keyspace {
     /// What the shards hold, each told by itself. It takes nothing out.
     pub fn held(&self) -> Held {
         let stats = self.queue.stats();
-        let held = Held { expires: stats.waiting, late: stats.late.as_millis() as Tick, ..Held::default() };
-        self.shards.iter().fold(held, |sum, shard| {
-            let names = shard.read();
-            Held {
-                keys: sum.keys + names.records.len(),
-                bytes: sum.bytes + names.bytes,
-                expired: sum.expired + names.expired,
-                ..sum
-            }
-        })
+        let mut held = Held { expires: stats.waiting, late: stats.late.as_millis() as Tick, ..Held::default() };
+        for names in self.shards.iter().map(Shard::read) {
+            held.keys += names.records.len();
+            held.bytes += names.bytes;
+            held.expired += names.expired;
+        }
+        held
     }
 }

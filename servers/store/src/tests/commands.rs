@@ -1,7 +1,7 @@
 //! What each command says and does, where a slip would pass by unseen: no keeper runs here, so that what is over stays
 //! until somebody asks.
 
-use super::{ask, client, client_by, is_ok, keyspace, Asker, LONG};
+use super::{ask, client, client_by, is_ok, keyspace, words, Asker, LONG};
 use crate::command::{Client, Served};
 use crate::keyspace::{Keyspace, SHARDS, SMALL_TABLE};
 use crate::output::Output;
@@ -17,10 +17,9 @@ use std::thread;
 use std::time::Duration;
 
 /// What a reply is written as.
-fn said(Asker { desk, session, .. }: &mut Asker, line: &str) -> String {
+fn said(Asker { desk, session }: &mut Asker, line: &str) -> String {
     let (mut output, mut written) = (Output::default(), Vec::new());
-    let words: Vec<_> = line.split(' ').map(str::as_bytes).collect();
-    while (Client { desk, session }).serve(&words, &mut 0, &mut output) == Served::Later {}
+    while (Client { desk, session }).serve(&words(line), &mut 0, &mut output) == Served::Later {}
     output.send(&mut written).unwrap();
     String::from_utf8(written).unwrap().replace("\r\n", " ")
 }
@@ -125,10 +124,8 @@ fn a_process_that_is_too_large_takes_little_and_never_nothing() {
         (0..6).for_each(|at| is_ok(&mut client, &format!("SET key:{at} {value} PXAT 4000000000000")));
         assert_eq!(ask(&mut client, &format!("SET key:6 {value}")), refused);
         assert_eq!(ask(&mut client, &format!("SET key:0 {value}")), refused);
-        says(
-            &mut client,
-            "GET key:6 => $-1\nPEXPIRETIME key:0 => :4000000000000\nDEL key:0 key:1 key:2 key:3 key:4 key:5 => :6",
-        );
+        says(&mut client, "GET key:6 => $-1\nPEXPIRETIME key:0 => :4000000000000");
+        says(&mut client, "DEL key:0 key:1 key:2 key:3 key:4 key:5 => :6");
     }
 }
 
@@ -266,21 +263,6 @@ fn a_password_lets_in_whoever_tells_it() {
     says(&mut client, "CLIENT GETNAME => $3 eve");
 }
 
-/// The next cursor of a SCAN, and the names that it tells.
-fn scanned(client: &mut Asker, line: &str) -> (String, Vec<String>) {
-    let text = |reply: &Reply| match reply {
-        Reply::Bulk(text) => String::from_utf8(text.to_vec()).unwrap(),
-        other => panic!("{other:?}"),
-    };
-    match ask(client, line) {
-        Reply::Array(parts) => match &parts[..] {
-            [cursor, Reply::Array(names)] => (text(cursor), names.iter().map(text).collect()),
-            other => panic!("{other:?}"),
-        },
-        other => panic!("{other:?}"),
-    }
-}
-
 #[test]
 fn a_scan_tells_each_name_that_stays() {
     let keyspace = keyspace();
@@ -290,18 +272,18 @@ fn a_scan_tells_each_name_that_stays() {
         is_ok(&mut client, &format!("SET key:{at} 1"));
     }
     let (mut cursor, mut seen, mut calls) = ("0".to_string(), HashSet::new(), 0);
-    loop {
-        let (next, names) = scanned(&mut client, &format!("SCAN {cursor} COUNT 7"));
-        assert!(names.len() <= 7, "a call tells no more than it is asked for");
+    while calls == 0 || cursor != "0" {
+        let told = said(&mut client, &format!("SCAN {cursor} COUNT 7"));
+        // The next cursor and the names, each after its length.
+        let words: Vec<_> = told.split_whitespace().collect();
+        cursor = words[2].into();
+        assert!(words[3][1..].parse::<usize>().unwrap() <= 7, "a call tells no more than it is asked for");
+        seen.extend(words.iter().skip(5).step_by(2).filter(|it| it.starts_with("key:")).map(ToString::to_string));
         // Others come and go meanwhile, and the last of a shard moves to the place of what goes.
         (5 * calls..5 * calls + 5).for_each(|at| drop(ask(&mut client, &format!("DEL gone:{at}"))));
         is_ok(&mut client, &format!("SET other:{calls} 1 PX {}", 1 + calls % 3));
         ask(&mut client, &format!("DEL other:{}", calls / 2));
-        seen.extend(names.into_iter().filter(|it| it.starts_with("key:")));
-        (cursor, calls) = (next, calls + 1);
-        if cursor == "0" {
-            break;
-        }
+        calls += 1;
     }
     assert_eq!(seen.len(), 5_000);
     assert!(calls > 100, "{calls} calls");
