@@ -104,6 +104,13 @@ impl Counts {
     }
 }
 
+/// A reading of the clock, by which what is timed begins and ends. `bench/count` knows it by its name, whatever else reads the
+/// clock meanwhile.
+#[inline(never)]
+pub fn reading() -> Instant {
+    Instant::now()
+}
+
 /// One round of a row.
 #[derive(Clone, Copy, Debug, Default)]
 pub struct Sample {
@@ -166,7 +173,7 @@ impl<'a, Q: Queue> Load<'a, Q> {
     }
 
     fn spend(&mut self, since: Instant, operations: usize) {
-        self.sample.spent += since.elapsed();
+        self.sample.spent += reading() - since;
         self.sample.operations += operations as u64;
     }
 
@@ -225,14 +232,14 @@ impl<'a, Q: Queue> Load<'a, Q> {
     /// Polls at a tick until nothing is given, and adds the time to that of the calls before.
     fn poll_within(&mut self, tick: u64) {
         self.clock.moment(tick);
-        let since = Instant::now();
+        let since = reading();
         self.poll_all(tick);
         self.spend(since, 0);
     }
 
     fn insert(&mut self, row: Row) {
         let deadlines = self.draws.deadlines(self.now, self.entries);
-        let since = Instant::now();
+        let since = reading();
         let keys = self.insert_all(&deadlines);
         self.spend(since, keys.len());
         self.poll_after(row);
@@ -244,7 +251,7 @@ impl<'a, Q: Queue> Load<'a, Q> {
         let touched: Vec<Q::Key> = picks.iter().map(|pick| keys[*pick]).collect();
         let later = self.now + IDLE + 1;
         let mut deadlines = 0u64;
-        let since = Instant::now();
+        let since = reading();
         for (step, key) in touched.iter().enumerate() {
             deadlines = deadlines.wrapping_add(self.queue.extend(*key, later + step as u64));
         }
@@ -258,7 +265,7 @@ impl<'a, Q: Queue> Load<'a, Q> {
         let mut keys = self.fill();
         let picks = self.draws.picks(self.entries, self.entries);
         let deadlines = self.draws.deadlines(self.now, self.entries);
-        let since = Instant::now();
+        let since = reading();
         for (pick, deadline) in picks.iter().zip(&deadlines) {
             keys[*pick] = self.queue.reset(keys[*pick], *deadline);
         }
@@ -270,7 +277,7 @@ impl<'a, Q: Queue> Load<'a, Q> {
     fn remove(&mut self, row: Row) {
         let ended = self.fill_shuffled();
         let mut values = 0u64;
-        let since = Instant::now();
+        let since = reading();
         for key in &ended {
             values = values.wrapping_add(self.queue.remove(*key));
         }
@@ -286,7 +293,7 @@ impl<'a, Q: Queue> Load<'a, Q> {
         let ended = self.fill_shuffled();
         let tick = self.now + IDLE;
         self.clock.moment(tick);
-        let since = Instant::now();
+        let since = reading();
         for key in &ended {
             self.queue.cancel(*key);
         }
@@ -299,7 +306,7 @@ impl<'a, Q: Queue> Load<'a, Q> {
         let keys = self.fill();
         let tick = self.now + IDLE;
         self.clock.moment(tick);
-        let since = Instant::now();
+        let since = reading();
         self.poll_all(tick);
         self.spend(since, keys.len());
     }
@@ -318,7 +325,7 @@ impl<'a, Q: Queue> Load<'a, Q> {
         let ended: Vec<Q::Key> = order.iter().filter(|index| **index % KEPT != 0).map(|index| keys[*index]).collect();
         let tick = self.now + (BEATS + 1) * BEAT + IDLE;
         self.clock.moment(tick);
-        let since = Instant::now();
+        let since = reading();
         for key in &ended {
             self.queue.cancel(*key);
         }
@@ -330,7 +337,7 @@ impl<'a, Q: Queue> Load<'a, Q> {
     /// Begins a session at each step, to expire by the idle limit.
     fn begin(&mut self, steps: &[u64]) -> Vec<Q::Key> {
         let begun: Vec<u64> = steps.iter().map(|step| self.now + step + IDLE).collect();
-        let since = Instant::now();
+        let since = reading();
         let keys = self.insert_all(&begun);
         self.spend(since, keys.len());
         keys
@@ -355,7 +362,7 @@ impl<'a, Q: Queue> Load<'a, Q> {
             *deadline += step;
         }
         let mut values = 0u64;
-        let since = Instant::now();
+        let since = reading();
         for (index, deadline) in order.iter().zip(&deadlines) {
             values = values.wrapping_add(self.queue.remove(keys[*index]));
             keys[*index] = self.queue.insert(*index as u64, *deadline);
@@ -382,7 +389,7 @@ impl<'a, Q: Queue> Load<'a, Q> {
     fn heart_beat(&mut self, keys: &mut [Q::Key], steps: &[u64], begin: u64) {
         let order = self.draws.shuffled(self.entries);
         let later = self.now + begin + IDLE;
-        let since = Instant::now();
+        let since = reading();
         for (index, step) in order.iter().zip(steps) {
             keys[*index] = self.queue.reset(keys[*index], later + step);
         }
@@ -400,7 +407,7 @@ impl<'a, Q: Queue> Load<'a, Q> {
         let tick = self.now + begin + BEAT;
         self.clock.moment(tick);
         let mut deadlines = 0u64;
-        let since = Instant::now();
+        let since = reading();
         for (key, deadline) in &touches {
             deadlines = deadlines.wrapping_add(self.queue.extend(*key, *deadline));
         }
@@ -470,12 +477,12 @@ impl<Q: Shared> Load<'_, Q> {
 /// Goes over a caller's list, each time to later deadlines.
 fn extend_list<K: Copy>(mut extend: impl Extends<K>, list: &[K], later: u64) -> Duration {
     let mut when = later;
-    let since = Instant::now();
+    let since = reading();
     for _ in 0..TURNS {
         for key in list {
             assert!(extend(*key, when) >= when, "an extend is never below what it asked");
             when += 1;
         }
     }
-    since.elapsed()
+    reading() - since
 }

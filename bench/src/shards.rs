@@ -4,11 +4,11 @@
 use std::mem;
 use std::sync::atomic::{AtomicUsize, Ordering};
 use std::thread;
-use std::time::{Duration, Instant};
+use std::time::Duration;
 
 use crate::plan::{part, shard_pass, shard_passes, SplitMix64, BURST, IDLE, SEED};
 use crate::queue::{Locked, Queue, Sharded};
-use crate::rows::{Clock, Sample};
+use crate::rows::{reading, Clock, Sample};
 
 /// What is timed of a queue in shards.
 #[derive(Clone, Copy, Debug, PartialEq, Eq)]
@@ -289,9 +289,9 @@ impl<'a, S: Sharded> ShardLoad<'a, S> {
         let queue = &self.queue;
         let (spent, done) = match work {
             [alone] => {
-                let since = Instant::now();
+                let since = reading();
                 let done = call(queue, alone);
-                (since.elapsed(), vec![done])
+                (reading() - since, vec![done])
             }
             _ => at_once(self.clock, work, &|work| call(queue, work)),
         };
@@ -420,9 +420,9 @@ fn at_once<W: Send, R: Send>(
             while ready.load(Ordering::SeqCst) < threads {
                 thread::yield_now();
             }
-            let since = Instant::now();
+            let since = reading();
             let result = call(part);
-            done = Some((since.elapsed(), result));
+            done = Some((reading() - since, result));
         });
         done.expect("the clock runs what it is given")
     };

@@ -182,6 +182,7 @@ impl<A: Allocator + Clone> FreeSlots<A> {
 
 impl<A: Allocator> FreeSlots<A> {
     /// Frees an index, to be given in its order.
+    #[inline]
     pub fn set(&mut self, index: usize)
         requires room { index < room_of self.old }
         requires held { free_times self.old index ≡ 0 }
@@ -191,7 +192,7 @@ impl<A: Allocator> FreeSlots<A> {
     }
 
     /// Frees an index, to be given soon.
-    #[inline]
+    #[inline(always)]
     pub fn give(&mut self, index: usize)
         requires room { index < room_of self.old }
         requires held { free_times self.old index ≡ 0 }

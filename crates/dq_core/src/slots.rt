@@ -529,7 +529,7 @@ impl<T, A: Allocator> Slots<T, A> {
     }
 
     /// Takes out what a slot holds.
-    #[inline]
+    #[inline(always)]
     pub fn vacate(&mut self, index: usize) -> Held<T>
         requires { is_held (row_at self.old.rows index) ≡ true }
         ensures held { (row_at self.old.rows index).held ≡ Some result }

@@ -1,12 +1,13 @@
 -- Ids that are found by their numbers.
 use Rattle.std.proofs.Common.{◌≡◌, ◌≢◌, ◌⊎◌, ℕ, Bool, true, false, ◌&&◌, nat_eq, List, length, Option, Some, None, refl, sym, ap, ◌∙◌, subst, inl, inr, ⊎_elim}
 use Rattle.std.proofs.lemmas.Bool.{eqb-true}
-use Rattle.std.proofs.lemmas.List.{nil_from_length}
+use Rattle.std.proofs.lemmas.List.{nil_from_length, get_or-set_same, get_or-set_other}
+use Rattle.std.specs.Prelude.{◌<◌, slice_index_or, slice_set}
 use Rattle.std.specs.Map.{lookup}
 use Rattle.dq_ticks.specs.declared.keys.EntryId.{EntryId}
 use mathlib.Core.Logic.{dite}
 use native.Mathlib.Decide.{ℕ_discrete}
-use Rattle.dq_growing.specs.Notes.{Pairs, Book, AreNotes, HasNone, Forgets, numbers_of, same_numbers, with_id, or_own, user_at, place_by, meant_place, SetsPair, TakesPair}
+use Rattle.dq_growing.specs.Notes.{Pairs, Book, AreNotes, AreMarked, HasNone, Forgets, mark_of, numbers_of, same_numbers, with_id, or_own, user_at, place_by, meant_place, SetsPair, TakesPair}
 use Rattle.dq_growing.proofs.Standing.{same_id, some_is}
 use Rattle.dq_growing.proofs.Leasts.{some_not_none}
 
@@ -110,3 +111,26 @@ module _ (n : Book) (law : AreNotes n) (none : HasNone n.places) where
 
   pub nothing_to_forget : (p : EntryId) → Forgets n p None n
   nothing_to_forget p = (no_users p, ((λ k. refl), (λ k. refl)))
+
+-- the marks of a table
+module _ (p q : Pairs) (id : EntryId) (marks : List Bool) (marked : AreMarked p marks) where
+  pub marks_stay : SetsPair p id None q → AreMarked q marks
+  marks_stay s k o at =
+      ⊎_elim
+      (λ (e : k ≡ id). let P : EntryId → Type 0 = λ x. with_id q x ≡ Some o in absurd (some_not_none o (sym (subst P e at) ∙ s.here)))
+      (λ (n : k ≢ id). marked k o (sym (s.else k n) ∙ at))
+      (one_or_two k id)
+
+  kept_mark : (m : ℕ) → m < length marks → (j : ℕ) → slice_index_or marks j false ≡ true → slice_index_or (slice_set marks m true) j false ≡ true
+  kept_mark m inside j was =
+      dite (ℕ_discrete j m)
+      (λ e. let P : ℕ → Type 0 = λ x. slice_index_or (slice_set marks m true) x false ≡ true in subst P (sym e) (get_or-set_same marks m true false inside))
+      (λ n. get_or-set_other marks m j true false n ∙ was)
+
+  pub marks_more : (o : EntryId) (m : ℕ) → m ≡ mark_of id → m < length marks → SetsPair p id (Some o) q → AreMarked q (slice_set marks m true)
+  marks_more other m is inside s k o at =
+      ⊎_elim
+      (λ (e : k ≡ id). let P : ℕ → Type 0 = λ x. slice_index_or (slice_set marks m true) x false ≡ true in
+      subst P (is ∙ ap mark_of (sym e)) (get_or-set_same marks m true false inside))
+      (λ (n : k ≢ id). kept_mark m inside (mark_of k) (marked k o (sym (s.else k n) ∙ at)))
+      (one_or_two k id)

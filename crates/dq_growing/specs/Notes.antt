@@ -1,5 +1,5 @@
 -- Where moved entries are, by the ids that their users have.
-use Rattle.std.specs.Prelude.{◌≡◌, ◌≢◌, ℕ, ◌<◌, ◌≤◌, Bool, ◌&&◌, nat_eq, List, Option, Some, None}
+use Rattle.std.specs.Prelude.{◌≡◌, ◌≢◌, ℕ, ◌%◌, ◌<◌, ◌≤◌, Bool, true, false, ◌&&◌, nat_eq, List, slice_index_or, Option, Some, None}
 use Rattle.std.specs.Map.{lookup}
 use Rattle.dq_ticks.specs.declared.keys.EntryId.{EntryId}
 use Rattle.dq_core.specs.Core.{Core, machine}
@@ -21,6 +21,15 @@ pub record Pairs : Type 0 where
 -- what an id has with it
 abbrev pub with_id : Pairs → EntryId → Option EntryId
 with_id p id = lookup (same_numbers (numbers_of id)) p.entries
+
+-- the mark of an id
+abbrev pub mark_of : EntryId → ℕ
+mark_of id = id.index % 128
+
+-- each id that has another has its mark
+abbrev pub AreMarked : Pairs → List Bool → Type 0
+AreMarked p marks =
+    (k o : EntryId) → with_id p k ≡ Some o → slice_index_or marks (mark_of k) false ≡ true
 
 -- an id has that with it, or nothing, and every other has what it had
 pub record SetsPair (p : Pairs) (id : EntryId) (o : Option EntryId) (q : Pairs) : Type 0 where

@@ -75,6 +75,7 @@ fn is_foldable<T, W: Words, A: Allocator>(core: &DelayCore<T, W, A>) -> bool
 }
 
 // Takes a live entry out of a core.
+#[inline(always)]
 fn remove_from<T, W: Words, A: Allocator>(
     core: &mut DelayCore<T, W, A>,
     entry: &EntryId,
@@ -208,6 +209,7 @@ impl<T, W: Words, A: Allocator> Cores<T, W, A> {
     }
 
     // The place of the core of that number.
+    #[inline(always)]
     pub(crate) fn place_of(&self, number: u32) -> Option<usize>
         ensures found { IfSome result (λ i. (c : Core T W) × HasAt self.now.cores number i c) }
         ensures none { IfNone result (HasNo self.now.cores number) }
@@ -240,6 +242,7 @@ impl<T, W: Words, A: Allocator> Cores<T, W, A> {
     /// In this order:
     /// - `Missing` if the entry isn't in the store any more, or never was.
     /// - `WasCancelled` if the entry was cancelled.
+    #[inline(always)]
     pub fn remove(&mut self, entry: &EntryId) -> Result<Removed<T>, CoreError>
         // What was held under that number, index and birth stamp comes out. A missing entry is told
         // exactly.
@@ -275,6 +278,7 @@ impl<T, W: Words, A: Allocator> Cores<T, W, A> {
     /// - `Missing` if the entry isn't in the store any more, or never was.
     /// - `WasCancelled` if the entry was cancelled.
     /// - `Worn` if the entry's slot has no stamp left for another key.
+    #[inline(always)]
     pub fn reset(&mut self, entry: &EntryId, when: u64) -> Result<Key, CoreError>
         // A deadline beyond the last tick is refused first, and exactly.
         ensures too_far { IsErrOf result (TooFar LAST_TICK) ↔ (LAST_TICK < when) }

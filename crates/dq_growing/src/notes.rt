@@ -2,7 +2,7 @@
 
 ghost use Rattle.std.specs.Prelude.{◌≡◌, true, false, ◌<◌, ◌≤◌, IfOk, OnOk, None, Some};
 ghost use Rattle.dq_ticks.specs.Keys.{EntryName};
-ghost use Rattle.dq_growing.specs.Notes.{numbers_of, with_id, HasNone, ArePastBy, ArePastIn, AllArePast, user_at, meant_place, SetsPair, SamePairs, TakesPair, AreNotes, HasNoteRoom, SameNotes, IsNoted, Forgets};
+ghost use Rattle.dq_growing.specs.Notes.{numbers_of, mark_of, with_id, HasNone, ArePastBy, ArePastIn, AllArePast, user_at, meant_place, SetsPair, SamePairs, TakesPair, AreNotes, HasNoteRoom, SameNotes, IsNoted, Forgets};
 
 use dq_core::{DelayCore, Words};
 use dq_ticks::EntryId;
@@ -32,19 +32,34 @@ fn is_past_in<T, W: Words, A: Allocator>(
     core.is_past(&EntryId::new(numbers.0, numbers.1, numbers.2))
 }
 
+// How many marks a table has.
+const MARKS: usize = 128;
+
+// The mark of an id.
+#[inline(always)]
+fn mark_of(id: &EntryId) -> usize
+    ensures { result ≡ mark_of id.now }
+{
+    id.index() as usize % MARKS
+}
+
 // Ids, each with another.
 #[derive(Drop)]
 pub(crate) struct PairTable<A: Allocator = Global> {
     map: HashMap<(u32, u32, u32), EntryId, BuildHasherDefault<FoldHasher>, A>,
+    // Which marks ids have that have another, and perhaps more: so of most that have none it is told without the map.
+    marks: [bool; 128],
 }
 
 impl<A: Allocator> Model for PairTable<A> {
     ghost use Rattle.std.specs.HashMap.{spare};
-    ghost use Rattle.dq_growing.specs.Notes.{Pairs};
+    ghost use Rattle.dq_growing.specs.Notes.{Pairs, AreMarked};
 
     ghost Value = { Pairs };
 
     ghost view = { λ t. record { entries = t.map.entries; room = spare t.map } };
+
+    ghost invariant = { λ t. AreMarked (record { entries = t.map.entries; room = spare t.map }) t.marks };
 }
 
 impl<A: Allocator + Clone> PairTable<A> {
@@ -54,6 +69,7 @@ impl<A: Allocator + Clone> PairTable<A> {
     {
         PairTable {
             map: HashMap::new(alloc),
+            marks: [false; 128],
         }
     }
 
@@ -65,9 +81,20 @@ impl<A: Allocator + Clone> PairTable<A> {
         self.map.is_empty()
     }
 
-    // What an id has with it. Most stores have no note, and don't come here.
-    #[inline(never)]
+    // What an id has with it.
+    #[inline]
     pub(crate) fn find(&self, id: &EntryId) -> Option<EntryId>
+        ensures { result ≡ with_id self.now id.now }
+    {
+        if !self.marks[mark_of(id)] {
+            return None;
+        }
+        self.look_up(id)
+    }
+
+    // The same by the map. Most calls don't come here.
+    #[inline(never)]
+    fn look_up(&self, id: &EntryId) -> Option<EntryId>
         ensures { result ≡ with_id self.now id.now }
     {
         let found = self.map.get(&numbers_of(id)).copied();
@@ -101,6 +128,7 @@ impl<A: Allocator + Clone> PairTable<A> {
         requires { 0 < self.old.room }
         ensures { SetsPair self.old id.now (Some other) self.new }
     {
+        self.marks[mark_of(id)] = true;
         let Ok(_) = self.map.insert(numbers_of(id), other) else {
             unreachable!();
         };
@@ -109,6 +137,17 @@ impl<A: Allocator + Clone> PairTable<A> {
     // Takes from an id what it has.
     #[inline(never)]
     pub(crate) fn take(&mut self, id: &EntryId)
+        ensures at { SetsPair self.old id.now None self.new }
+        ensures room { self.old.room ≤ self.new.room }
+    {
+        self.remove(id);
+        if self.is_empty() {
+            self.marks = [false; 128];
+        }
+    }
+
+    // The same, with its mark.
+    fn remove(&mut self, id: &EntryId)
         ensures at { SetsPair self.old id.now None self.new }
         ensures room { self.old.room ≤ self.new.room }
     {

@@ -220,6 +220,7 @@ impl<T, W: Words, A: Allocator + Clone> Store<T, W, A> {
     /// In this order:
     /// - `Missing` if the entry isn't in the store any more, or never was.
     /// - `WasCancelled` if the entry was cancelled.
+    #[inline(always)]
     pub fn remove(&mut self, entry: &EntryId) -> Result<Removed<T>, CoreError>
         // That entry leaves with its value, and no other. Refused, none does.
         ensures leaves { IfOk result
@@ -395,6 +396,7 @@ impl<T, W: Words, A: Allocator + Clone> Store<T, W, A> {
     /// - `Missing` if the entry isn't in the store any more, or never was.
     /// - `WasCancelled` if the entry was cancelled.
     /// - `Worn` if the entry's slot has no stamp left for another key.
+    #[inline(always)]
     pub fn reset_in_place(&mut self, entry: &EntryId, when: u64) -> Result<Key, CoreError>
         // Exactly: a reset at the place that the notes tell.
         ensures resets { ResetsThere W.shared self.old entry.now when result self.new }

@@ -206,6 +206,7 @@ impl<A: Allocator> Lists<A> {
     }
 
     /// Takes an index out of its list.
+    #[inline]
     pub fn unlink(&mut self, index: usize)
         requires index_in { index < length self.old.homes }
         requires linked { 0 < slice_index self.old.homes index }

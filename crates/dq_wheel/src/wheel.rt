@@ -330,6 +330,7 @@ impl<A: Allocator> Wheel<A> {
     }
 
     /// Takes a linked index out, wherever it stands.
+    #[inline]
     pub fn unlink(&mut self, index: usize)
         requires index_in { index < length self.old.filing.filed }
         requires linked { filed_at self.old.filing.filed index ≢ None }

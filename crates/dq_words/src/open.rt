@@ -53,6 +53,7 @@ impl<A: Allocator> OpenWords<A> {
     /// - `Unknown` if no slot has the key.
     /// - `Stale` if the slot has a later stamp: the entry was reset, or the slot has another entry.
     /// - `Ended` if the entry came out, was removed or was cancelled. It tells which.
+    #[inline]
     pub fn extend(
         &self,
         key: &Key,
@@ -123,6 +124,7 @@ impl<A: Allocator> OpenWords<A> {
     /// In this order:
     /// - `Unknown` if no slot has the key.
     /// - `Stale` if the slot has a later stamp: the entry was reset, or the slot has another entry.
+    #[inline]
     pub fn look(&self, key: &Key) -> Result<(Look, Receipt), (CallError, Option<Receipt>)>
         // Shown: the receipt's load saw it.
         ensures shows { IfOk result (λ r. ShowsLook self.now key.now r.0 r.1) }

@@ -137,6 +137,7 @@ impl FreeSlots {
 
 impl FreeSlots {
     /// Frees an index, to be given in its order.
+    #[inline]
     pub fn set(&mut self, index: usize) {
         // requires index < room_of self.old
         // requires free_times self.old index ≡ 0
@@ -144,7 +145,7 @@ impl FreeSlots {
     }
 
     /// Frees an index, to be given soon.
-    #[inline]
+    #[inline(always)]
     pub fn give(&mut self, index: usize) {
         // requires index < room_of self.old
         // requires free_times self.old index ≡ 0

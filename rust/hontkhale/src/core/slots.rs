@@ -364,7 +364,7 @@ impl<T> Slots<T> {
     }
 
     /// Takes out what a slot holds.
-    #[inline]
+    #[inline(always)]
     pub fn vacate(&mut self, index: usize) -> Held<T> {
         // requires is_held (row_at self.old.rows index) ≡ true
         let cell = nth_mut(&mut self.cells, index);

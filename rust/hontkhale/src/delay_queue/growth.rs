@@ -96,7 +96,8 @@ impl<T> Shared<T> {
         for _ in 0..STEPS {
             // A program's clock isn't read under a lock.
             let now = self.front.time.tick();
-            let work = self.lock(at).work(now);
+            let cancels = self.front.seen[at].cancels();
+            let work = self.lock(at).work(now, cancels);
             match work {
                 Work::Fold(core) => self.fold(at, core),
                 Work::Make if self.make_ahead(at, now) => {}
@@ -125,8 +126,9 @@ impl<T> Shared<T> {
     fn make_ahead(&self, at: usize, now: u64) -> bool {
         let mut clerk = self.makes.lock();
         let wanted = {
+            let cancels = self.front.seen[at].cancels();
             let mut store = self.lock(at);
-            store.wanted().filter(|_| store.prepare(1).is_ok())
+            store.wanted(cancels).filter(|_| store.prepare(1).is_ok())
         };
         // Another thread may have made it meanwhile.
         let Some(capacity) = wanted else { return false };

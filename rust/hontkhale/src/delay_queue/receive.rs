@@ -142,9 +142,11 @@ impl<T> Shared<T> {
             return Step::Rests;
         };
         let mut store = self.lock(at);
-        let Polled::Out(key, deadline, value) = store.poll(now, whole) else {
+        let is_whole = store.is_small(whole);
+        let Polled::Out(key, deadline, value) = store.poll(now, is_whole) else {
             return Step::Works;
         };
+        store.note_next();
         self.leave(store, 1);
         Step::Took(Expired {
             key,
@@ -176,12 +178,16 @@ impl<T> Shared<T> {
             let room = TAKEN_AT_ONCE.min(most - (first - before));
             row.reserve(room);
             let mut store = self.lock(at);
+            let is_whole = store.is_small(POLLED_WHOLE);
             while row.len() < first + room {
-                let Polled::Out(key, tick, value) = store.poll(now, POLLED_WHOLE) else {
+                let Polled::Out(key, tick, value) = store.poll(now, is_whole) else {
                     break;
                 };
                 let deadline = self.front.time.moment(tick);
                 row.push(Expired { key, deadline, value });
+            }
+            if row.len() == first + room {
+                store.note_next();
             }
             self.leave(store, row.len() - first);
         }

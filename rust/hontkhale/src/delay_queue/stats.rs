@@ -155,7 +155,7 @@ impl<T> Shared<T> {
         Stats {
             inserted: sum.inserted,
             expired: sum.expired,
-            removed: sum.removed,
+            removed: sum.removed(),
             cancels,
             waiting,
             cancelled: cancels.saturating_sub(freed) as usize,

@@ -61,7 +61,8 @@ pub(crate) struct ShardStore<T> {
 pub(crate) struct Counts {
     pub inserted: u64,
     pub expired: u64,
-    pub removed: u64,
+    /// Those that came in, less those that came out or were removed: the cancelled ones count.
+    left: u64,
     pub moved: u64,
     /// By how many ticks one was late at most as it came out, how many were late by which power of two of ticks, and how many
     /// had come out as these were counted anew.
@@ -145,6 +146,7 @@ impl<T> ShardStore<T> {
         let key = inserted.map_err(|(refused, _)| refused).expect("a free slot");
         self.hint = self.hint.min(tick);
         self.counts.inserted += 1;
+        self.counts.left += 1;
         if self.counts.inserted % INSERTS == 0 {
             self.sizing.note_work();
         }
@@ -164,7 +166,7 @@ impl<T> ShardStore<T> {
     /// How many entries came in, less those that came out or were removed: the cancelled ones count.
     #[inline(always)]
     pub fn left(&self) -> u64 {
-        self.counts.inserted - self.counts.expired - self.counts.removed
+        self.counts.left
     }
 
     /// Whether values were set aside when that was asked last, and whether some are.
@@ -202,7 +204,7 @@ impl<T> ShardStore<T> {
 
     #[inline(always)]
     fn note_removed(&mut self) {
-        self.counts.removed += 1;
+        self.counts.left -= 1;
         self.note_left();
     }
 
@@ -238,19 +240,28 @@ impl<T> ShardStore<T> {
     #[inline(always)]
     pub fn reset(&mut self, key: &Key, tick: u64) -> (Result<Key, KeyError>, Option<T>) {
         let entry = key.entry();
-        let place = self.store.place(&entry);
-        let (renamed, beside) = self.store.reset(&entry, tick);
-        let place_now = self.store.place(&entry);
-        if renamed.is_ok() {
-            self.hint = self.hint.min(tick);
-            if place_now != place {
-                self.note_moved();
+        match self.store.reset_in_place(&entry, tick) {
+            Ok(renamed) => {
+                self.hint = self.hint.min(tick);
+                // The stamp of another slot would reach whoever is in the first one by then.
+                let is_first = self.store.place(&entry) == Some(entry);
+                (Ok(if is_first { self.named(&renamed) } else { *key }), None)
             }
+            Err(CoreError::Worn) => self.reset_elsewhere(key, tick),
+            Err(error) => (Err(refused(error)), None),
+        }
+    }
+
+    /// The same of an entry whose slot has no stamp left.
+    #[cold]
+    fn reset_elsewhere(&mut self, key: &Key, tick: u64) -> (Result<Key, KeyError>, Option<T>) {
+        let (moved, beside) = self.store.reset(&key.entry(), tick);
+        if moved.is_ok() {
+            self.hint = self.hint.min(tick);
+            self.note_moved();
         }
         // The stamp of another slot would reach whoever is in the first one by then.
-        let is_first = place_now == Some(entry);
-        let renamed = renamed.map(|renamed| if is_first { self.named(&renamed) } else { *key });
-        (renamed.map_err(refused), beside)
+        (moved.map(|_| *key).map_err(refused), beside)
     }
 
     #[cold]
@@ -298,11 +309,17 @@ impl<T> ShardStore<T> {
 
 /// How entries come out.
 impl<T> ShardStore<T> {
-    /// What a poll comes to at a tick: as a whole where no core has more than so many entries, or else by 256 steps.
+    /// Whether no core has more than so many entries.
     #[inline(always)]
-    pub fn poll(&mut self, now: u64, whole: usize) -> Polled<T> {
+    pub fn is_small(&self, most: usize) -> bool {
+        self.rows().all(|core| core.len() <= most)
+    }
+
+    /// What a poll comes to at a tick, as a whole or by 256 steps.
+    #[inline(always)]
+    pub fn poll(&mut self, now: u64, is_whole: bool) -> Polled<T> {
         self.may_have_aside |= needs_drop::<T>();
-        let piece = if self.rows().all(|core| core.len() <= whole) {
+        let piece = if is_whole {
             self.store.poll(now)
         } else {
             self.store.poll_some(now, STEPS)
@@ -310,15 +327,12 @@ impl<T> ShardStore<T> {
         match piece.expect("a tick that isn't beyond the last") {
             Piece::Answer(Turn::Out(out)) => {
                 self.counts.expired += 1;
+                self.counts.left -= 1;
                 let late = now.saturating_sub(out.deadline);
                 if late > 0 {
                     self.counts.late(late);
                 }
                 self.note_left();
-                if self.store.cores().count() == 1 {
-                    // So that whoever finds nothing due needs no lock to tell. Of several cores it takes as long as a poll.
-                    self.hint = self.store.cores().next_wake().unwrap_or(NEVER);
-                }
                 Polled::Out(self.named_at_birth(&out.key), out.deadline, out.value)
             }
             Piece::Answer(Turn::Waiting { next }) => {
@@ -330,6 +344,15 @@ impl<T> ShardStore<T> {
                 Polled::Rests
             }
             Piece::Working => Polled::Works,
+        }
+    }
+
+    /// Looks when the next entry is due, once one came out, so that whoever finds nothing due needs no lock to tell. Of several
+    /// cores that takes as long as a poll.
+    #[inline(always)]
+    pub fn note_next(&mut self) {
+        if self.store.cores().count() == 1 {
+            self.hint = self.store.cores().next_wake().unwrap_or(NEVER);
         }
     }
 
@@ -400,18 +423,21 @@ impl<T> ShardStore<T> {
         self.sizing.is_busy(&self.store)
     }
 
-    /// What is to be done next so that it keeps the right size.
-    pub fn work(&mut self, now: u64) -> Work<T> {
+    /// What is to be done next so that it keeps the right size, once so many cancels were accepted.
+    pub fn work(&mut self, now: u64, cancels: u64) -> Work<T> {
         match self.sizing.take_needless(&mut self.store) {
             Some(core) => Work::Fold(core),
-            None if self.wanted().is_some() => Work::Make,
+            None if self.wanted(cancels).is_some() => Work::Make,
             None => Work::Moved(self.move_stragglers(now)),
         }
     }
 
-    /// The capacity of a core that is to be made though an insert has room.
-    pub fn wanted(&self) -> Option<usize> {
-        self.sizing.capacity_ahead(&self.store)
+    /// The capacity of a core that is to be made though an insert has room, once so many cancels were accepted. None is made for
+    /// cancelled entries: where they are the most, they are freed once there is no room.
+    pub fn wanted(&self, cancels: u64) -> Option<usize> {
+        let cancelled = cancels.saturating_sub(self.freed()) as usize;
+        let is_for_live = 2 * cancelled <= self.linked();
+        self.sizing.capacity_ahead(&self.store).filter(|_| is_for_live)
     }
 
     /// The capacity of a core that is to be made for an insert, none where it has room by now. `Full` where the shard has as
@@ -500,11 +526,16 @@ impl Counts {
         self.latest = self.latest.max(ticks);
     }
 
+    /// How many were removed.
+    pub fn removed(&self) -> u64 {
+        self.inserted - self.expired - self.left
+    }
+
     /// Adds those of another shard.
     pub fn add(&mut self, other: &Counts) {
         self.inserted += other.inserted;
         self.expired += other.expired;
-        self.removed += other.removed;
+        self.left += other.left;
         self.counted_late += other.counted_late;
         self.latest = self.latest.max(other.latest);
         for (late, more) in self.late.iter_mut().zip(other.late) {

@@ -45,6 +45,7 @@ fn is_foldable<T, W: Words>(core: &DelayCore<T, W>) -> bool {
 }
 
 // Takes a live entry out of a core.
+#[inline(always)]
 fn remove_from<T, W: Words>(core: &mut DelayCore<T, W>, entry: &EntryId) -> Result<Removed<T>, CoreError> {
     core.remove(entry)
 }
@@ -135,6 +136,7 @@ impl<T, W: Words> Cores<T, W> {
     }
 
     // The place of the core of that number.
+    #[inline(always)]
     pub(crate) fn place_of(&self, number: u32) -> Option<usize> {
         for newer in 0..self.cores.len() {
             // The newest core has the most entries.
@@ -159,6 +161,7 @@ impl<T, W: Words> Cores<T, W> {
     /// In this order:
     /// - `Missing` if the entry isn't in the store any more, or never was.
     /// - `WasCancelled` if the entry was cancelled.
+    #[inline(always)]
     pub fn remove(&mut self, entry: &EntryId) -> Result<Removed<T>, CoreError> {
         let Some(at) = self.place_of(entry.shard()) else {
             return Err(CoreError::Missing);
@@ -175,6 +178,7 @@ impl<T, W: Words> Cores<T, W> {
     /// - `Missing` if the entry isn't in the store any more, or never was.
     /// - `WasCancelled` if the entry was cancelled.
     /// - `Worn` if the entry's slot has no stamp left for another key.
+    #[inline(always)]
     pub fn reset(&mut self, entry: &EntryId, when: u64) -> Result<Key, CoreError> {
         let Some(at) = self.place_of(entry.shard()) else {
             return Err(missing_at(when));

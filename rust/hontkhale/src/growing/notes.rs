@@ -2,6 +2,7 @@
 
 use crate::core::{DelayCore, Words};
 use crate::hasher::NumberHash;
+use crate::index::{nth, nth_mut};
 use crate::memory::AllocError;
 use crate::ticks::EntryId;
 use std::collections::HashMap;
@@ -19,9 +20,20 @@ fn is_past_in<T, W: Words>(numbers: &(u32, u32, u32), core: &DelayCore<T, W>) ->
     core.is_past(&EntryId::new(numbers.0, numbers.1, numbers.2))
 }
 
+// How many marks a table has.
+const MARKS: usize = 128;
+
+// The mark of an id.
+#[inline(always)]
+fn mark_of(id: &EntryId) -> usize {
+    id.index() as usize % MARKS
+}
+
 // Ids, each with another.
 pub(crate) struct PairTable {
     map: HashMap<(u32, u32, u32), EntryId, NumberHash>,
+    // Which marks ids have that have another, and perhaps more: so of most that have none it is told without the map.
+    marks: [bool; 128],
 }
 
 impl PairTable {
@@ -29,6 +41,7 @@ impl PairTable {
     pub(crate) fn new() -> PairTable {
         PairTable {
             map: HashMap::default(),
+            marks: [false; 128],
         }
     }
 
@@ -38,9 +51,18 @@ impl PairTable {
         self.map.is_empty()
     }
 
-    // What an id has with it. Most stores have no note, and don't come here.
-    #[inline(never)]
+    // What an id has with it.
+    #[inline]
     pub(crate) fn find(&self, id: &EntryId) -> Option<EntryId> {
+        if !*nth(&self.marks, mark_of(id)) {
+            return None;
+        }
+        self.look_up(id)
+    }
+
+    // The same by the map. Most calls don't come here.
+    #[inline(never)]
+    fn look_up(&self, id: &EntryId) -> Option<EntryId> {
         self.map.get(&numbers_of(id)).copied()
     }
 
@@ -62,12 +84,21 @@ impl PairTable {
     // Gives an id another.
     pub(crate) fn put(&mut self, id: &EntryId, other: EntryId) {
         // requires 0 < self.old.room
+        *nth_mut(&mut self.marks, mark_of(id)) = true;
         self.map.insert(numbers_of(id), other);
     }
 
     // Takes from an id what it has.
     #[inline(never)]
     pub(crate) fn take(&mut self, id: &EntryId) {
+        self.remove(id);
+        if self.is_empty() {
+            self.marks = [false; 128];
+        }
+    }
+
+    // The same, with its mark.
+    fn remove(&mut self, id: &EntryId) {
         let _ = self.map.remove(&numbers_of(id));
     }
 }

@@ -19,9 +19,10 @@ use core::mem;
 /// The most cores of a store. A call by an entry's id compares its number with that of each.
 pub const CORES: usize = 64;
 
-/// Each so many ends it is looked whether the cores are of the right size, and at each of the last so many: to look takes
-/// longer the more cores there are.
-const LOOKS: u64 = 16;
+/// Each so many ends it is looked whether the cores are of the right size, and at each of the last few: to look takes longer
+/// the more cores there are.
+const LOOKS: u64 = 128;
+const LAST: u64 = 16;
 
 /// Keeps a store at the right size.
 #[derive(Clone, Copy, Debug)]
@@ -114,7 +115,7 @@ fn linked<T, W: Words>(cores: &Cores<T, W>) -> usize {
     linked
 }
 
-// Whether an eighth of a core is used at most that isn't open.
+// Whether a sixteenth of a core is used at most that isn't open.
 fn is_nearly_drained<T, W: Words>(cores: &Cores<T, W>, place: usize) -> bool {
     if place == cores.opened() {
         return false;
@@ -122,7 +123,7 @@ fn is_nearly_drained<T, W: Words>(cores: &Cores<T, W>, place: usize) -> bool {
     let Some(core) = cores.get(place) else {
         return false;
     };
-    is_small(core)
+    core.len() <= core.capacity() / 16
 }
 
 // Whether half of the open core is free.
@@ -133,12 +134,12 @@ fn is_open_half_free<T, W: Words>(cores: &Cores<T, W>) -> bool {
     free(open) >= open.capacity() / 2
 }
 
-// Whether a quarter of a core is free in which no value waits.
+// Whether a sixteenth of a core is free in which no value waits: the next one is made meanwhile.
 fn is_roomy<T, W: Words>(core: &DelayCore<T, W>) -> bool {
-    free(core) > core.capacity() / 4
+    free(core) > core.capacity() / 16
 }
 
-// Whether the next core is to be made ahead: none has a quarter of its slots free.
+// Whether the next core is to be made ahead: none has a sixteenth of its slots free.
 fn is_nearly_full<T, W: Words>(cores: &Cores<T, W>) -> bool {
     for at in 0..cores.count() {
         if let Some(core) = cores.get(at) {
@@ -327,7 +328,7 @@ impl Sizing {
     }
 
     /// Returns an entry that may be moved into the open core, so that its own one drains: the one that is scheduled first
-    /// in a core that isn't open and of which an eighth is used at most.
+    /// in a core that isn't open and of which a sixteenth is used at most.
     pub fn straggler<T, W: Words>(&self, store: &Store<T, W>) -> Option<EntryId> {
         let cores = store.cores();
         for at in 0..cores.count() {
@@ -348,7 +349,7 @@ impl Sizing {
     /// Notes that an entry left its core, and that so many are left.
     #[inline(always)]
     pub fn note_left<T, W: Words>(&mut self, store: &Store<T, W>, left: u64) {
-        let looks = left < LOOKS || left % LOOKS == 0;
+        let looks = left < LAST || left % LOOKS == 0;
         if looks && may_shrink(store.cores()) {
             self.look_after(store);
         }

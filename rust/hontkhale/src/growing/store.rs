@@ -141,6 +141,7 @@ impl<T, W: Words> Store<T, W> {
     /// In this order:
     /// - `Missing` if the entry isn't in the store any more, or never was.
     /// - `WasCancelled` if the entry was cancelled.
+    #[inline(always)]
     pub fn remove(&mut self, entry: &EntryId) -> Result<Removed<T>, CoreError> {
         let Some(place) = self.notes.place(entry) else {
             return Err(CoreError::Missing);
@@ -257,6 +258,7 @@ impl<T, W: Words> Store<T, W> {
     /// - `Missing` if the entry isn't in the store any more, or never was.
     /// - `WasCancelled` if the entry was cancelled.
     /// - `Worn` if the entry's slot has no stamp left for another key.
+    #[inline(always)]
     pub fn reset_in_place(&mut self, entry: &EntryId, when: u64) -> Result<Key, CoreError> {
         let Some(place) = self.notes.place(entry) else {
             return Err(missing_at(when));

@@ -215,6 +215,7 @@ impl Wheel {
     }
 
     /// Takes a linked index out, wherever it stands.
+    #[inline]
     pub fn unlink(&mut self, index: usize) {
         // requires index < length self.old.filing.filed
         // requires filed_at self.old.filing.filed index ≢ None

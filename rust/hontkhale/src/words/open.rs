@@ -40,6 +40,7 @@ impl OpenWords {
     /// - `Unknown` if no slot has the key.
     /// - `Stale` if the slot has a later stamp: the entry was reset, or the slot has another entry.
     /// - `Ended` if the entry came out, was removed or was cancelled. It tells which.
+    #[inline]
     pub fn extend(&self, key: &Key, when: u64) -> Result<u64, CallError> {
         if when > LAST_TICK {
             return Err(CallError::TooFar { limit: LAST_TICK });
@@ -88,6 +89,7 @@ impl OpenWords {
     /// In this order:
     /// - `Unknown` if no slot has the key.
     /// - `Stale` if the slot has a later stamp: the entry was reset, or the slot has another entry.
+    #[inline]
     pub fn look(&self, key: &Key) -> Result<Look, CallError> {
         let Some(index) = self.slot(key) else {
             return Err(CallError::Unknown);

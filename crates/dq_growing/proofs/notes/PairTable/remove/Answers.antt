@@ -1,0 +1,17 @@
+use Rattle.std.specs.HashMap.{spare}
+use Rattle.dq_growing.specs.Notes.{Pairs}
+use Rattle.dq_growing.proofs.Pairing.{sets_pair, marks_stay}
+use Rattle.dq_growing.proofs.notes.PairTable.remove.Goals as goal
+
+pub returns-clause-at : goal.returns-clause-at
+returns-clause-at g c =
+    let u = c.remove.ensures.updates in
+    rw (← c.self.view_is) (sets_pair _ _ c.numbers_of.result c.args.id.now _ c.numbers_of.ensures u.1 u.2)
+
+pub invariant_of-self : goal.invariant_of-self
+invariant_of-self g c =
+    let u = c.remove.ensures.updates in
+    let was : Pairs = record { entries = c.self.inside.map.entries; room = spare c.self.inside.map } in
+    let is : Pairs = record { entries = c.remove.new.self.entries; room = spare c.remove.new.self } in
+    marks_stay was is c.args.id.now c.self.inside.marks c.self.invariant
+    (sets_pair was is c.numbers_of.result c.args.id.now _ c.numbers_of.ensures u.1 u.2)
