@@ -8,6 +8,7 @@ READS = {"aside", "cancels", "capacity", "is_some", "law", "lock", "number", "pe
 CHANGES = {
     "cancel", "clear_deferring", "deadline", "extend", "insert_deferring", "look",
     "poll_deferring", "poll_some_deferring", "reap_deferring", "remove", "reset", "sweep_some_deferring", "take_aside",
+    "with_value",
 }
 
 

@@ -291,8 +291,8 @@ impl<T> ShardStore<T> {
     pub fn with_value<R>(&mut self, key: &Key, call: impl FnOnce(&mut T) -> R) -> Result<R, KeyError> {
         let (entry, queue) = (key.entry(), self.queue as usize);
         self.store.deadline(&entry).map_err(refused)?;
-        let value = |store: &mut ShardStore<T>| call(store.store.get_mut(&entry).expect("a live entry"));
-        Ok(lend(self, queue, value))
+        let made = lend(self, queue, |shard| shard.store.with_value(&entry, call));
+        Ok(made.expect("a live entry"))
     }
 }
 

@@ -28,6 +28,15 @@ impl<T, W: Words> Store<T, W> {
         core.get(&place)
     }
 
+    /// Calls a closure with the value of an entry, which it may change where it is, and returns what it returns. It
+    /// returns none, and doesn't call it, if the entry isn't in the store any more, or never was. A cancelled entry has
+    /// its value until it is freed.
+    pub fn with_value<R, F: FnOnce(&mut T) -> R>(&mut self, entry: &EntryId, call: F) -> Option<R> {
+        // requires F.IsAlwaysCallable call
+        let place = self.notes.place(entry)?;
+        self.cores.with_value(&place, call)
+    }
+
     /// Returns the id of the entry that is scheduled first in the core at a place, possibly a cancelled one. It returns
     /// none if no entry is linked there, or there is no such place.
     pub fn first_in(&self, place: usize) -> Option<EntryId> {

@@ -37,6 +37,7 @@ const STORE_CALLS: Calls<store::Run> = &[
     (14, store::Run::reset),
     (10, store::Run::relocate),
     (4, store::Run::deadline),
+    (6, store::Run::with_value),
     (12, store::Run::step),
     (4, store::Run::reap),
     (14, store::Run::poll),
