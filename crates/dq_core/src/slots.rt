@@ -434,7 +434,7 @@ impl<T, A: Allocator> Beside for Slots<T, A> {
 
 impl<T, A: Allocator> Slots<T, A> {
     ghost use Rattle.std.specs.Prelude.{IfErr, IsTrue, is_some};
-    ghost use Rattle.dq_core.specs.Asides.{aside_at, with_aside, waiting_in, IsCrowded, SetsAsideBut, TakesAside, TakesCrowded};
+    ghost use Rattle.dq_core.specs.Asides.{aside_at, with_aside, waiting_in, IsCrowded, IsRoomy, SetsAsideBut, TakesAside, TakesCrowded};
     ghost use Rattle.dq_core.specs.Slots.{SlotRows, row_at, is_free, is_held, is_worn, shown, vacated, raised, unused, IsBorn, IsFilled, IsSlotRows};
     ghost use Rattle.dq_core.specs.Renewals.{forgotten, never_used};
     ghost use Rattle.std.specs.Fn.{FnOnceReturnsAtMut};
@@ -519,6 +519,16 @@ impl<T, A: Allocator> Slots<T, A> {
     {
         let cell = &self.cells[index];
         cell.held()
+    }
+
+    /// The slot that the next fill takes, where one is free in which no value waits.
+    #[inline]
+    pub fn next(&self) -> Option<usize>
+        ensures { MatchOption result
+            ((i : ℕ) → ¬ IsRoomy (shown self.now) self.now.aside i)
+            (λ i. IsRoomy (shown self.now) self.now.aside i) }
+    {
+        self.free.next()
     }
 
     /// Puts a value into a free slot, under that slot's next stamp, and returns its index. Where a value waits in each

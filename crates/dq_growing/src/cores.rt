@@ -13,7 +13,7 @@ ghost use Rattle.dq_growing.specs.Stands.{IsThere, IsPastAt, IsPastIn, HasEntry,
 ghost use Rattle.dq_ticks.specs.declared.TheConstants.{LAST_TICK};
 ghost use Rattle.dq_growing.specs.declared.cores.TakeError.TheVariants.{NoMemory};
 ghost use Rattle.dq_core.specs.Folds.{IsFoldable};
-ghost use Rattle.dq_growing.specs.Cores.{MayComeIn, CoreRow, AreCores, IsCoreAt, HasAt, HasNo, OnCoreOr, HoldsIn, IsMissingIn, InsertsIn, TakesIn, TakeRefused, HasDrained, GivesDrained, NoneDrained, closed_error, missing_error, lowered_to, opened_without};
+ghost use Rattle.dq_growing.specs.Cores.{MayComeIn, CoreRow, AreCores, IsCoreAt, HasAt, HasNo, OnCoreOr, HoldsIn, IsMissingIn, InsertsIn, TellsNextIn, TakesIn, TakeRefused, HasDrained, GivesDrained, NoneDrained, closed_error, missing_error, lowered_to, opened_without};
 
 use dq_core::{CoreError, DelayCore, Removed, Words};
 use dq_ticks::{EntryId, Key, LAST_TICK};
@@ -316,6 +316,18 @@ impl<T, W: Words, A: Allocator> Cores<T, W, A> {
         };
         let answer = self.cores[at].deadline(entry);
         answer
+    }
+
+    /// Returns the key that the next insert gives, in the open core. It returns none if no core is open, or no slot of it
+    /// is left in which no value waits for its drop. Constant time.
+    pub fn next_key(&self) -> Option<Key>
+        ensures { TellsNextIn self.now result }
+    {
+        if self.opened >= self.cores.len() {
+            return None;
+        }
+        let key = self.cores[self.opened].next_key();
+        key
     }
 
     /// Calls a closure with the value of an entry, which it may change where it is, and returns what it returns. It

@@ -2,7 +2,7 @@
 
 ghost use Rattle.std.specs.Prelude.{◌≡◌, ◌+◌, true, false, ◌<◌, ◌≤◌, MatchOption, OnOk, length};
 ghost use Rattle.std.specs.Fn.{FnOnceReturnsAtMut};
-ghost use Rattle.dq_growing.specs.Cores.{OnCoreAt, SweepsFrom};
+ghost use Rattle.dq_growing.specs.Cores.{OnCoreAt, SweepsFrom, TellsNextIn};
 ghost use Rattle.dq_growing.specs.Notes.{HasNoteRoom, SameNotes, meant_place};
 ghost use Rattle.dq_growing.specs.Polls.{TakesAsideIn};
 ghost use Rattle.dq_growing.specs.Stands.{KeepsWords};
@@ -11,7 +11,7 @@ ghost use Rattle.dq_growing.specs.Store.{ChangesFor, ChangesThere, HasFor, NoneS
 use crate::cores::Cores;
 use crate::store::Store;
 use dq_core::{Swept, Words};
-use dq_ticks::EntryId;
+use dq_ticks::{EntryId, Key};
 use std::alloc::{AllocError, Allocator};
 
 impl<T, W: Words, A: Allocator + Clone> Store<T, W, A> {
@@ -50,6 +50,16 @@ impl<T, W: Words, A: Allocator + Clone> Store<T, W, A> {
         };
         core.law();
         core.get(&place)
+    }
+
+    /// Returns the key that the next insert gives. It returns none if no core is open, or no slot of the open one is left
+    /// in which no value waits for its drop. Constant time.
+    pub fn next_key(&self) -> Option<Key>
+        // It is what the open core tells: a new entry has no other id for its user.
+        ensures { TellsNextIn self.now.cores result }
+    {
+        let key = self.cores.next_key();
+        key
     }
 
     /// Calls a closure with the value of an entry, which it may change where it is, and returns what it returns. It

@@ -360,6 +360,12 @@ impl<T> Slots<T> {
         cell.held()
     }
 
+    /// The slot that the next fill takes, where one is free in which no value waits.
+    #[inline]
+    pub fn next(&self) -> Option<usize> {
+        self.free.next()
+    }
+
     /// Puts a value into a free slot, under that slot's next stamp, and returns its index. Where a value waits in each
     /// of the free slots it returns the one that waited there too. It hands the value back where no slot is free.
     #[inline(always)]

@@ -157,7 +157,9 @@ impl<T> ShardStore<T> {
         let (next, queue) = (self.named(&next), self.queue as usize);
         let value = lend(self, queue, |_| make(next));
         let key = self.insert(value, tick);
-        assert!(next == key, "an insert takes the slot that was freed last");
+        // The contracts say that an insert may give that key. Which one it gives of several is the order of the free slots,
+        // of which no contract speaks.
+        assert!(next == key, "an insert takes the slot that is told as the next");
         key
     }
 

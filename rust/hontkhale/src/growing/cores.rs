@@ -196,6 +196,15 @@ impl<T, W: Words> Cores<T, W> {
         nth_mut(&mut self.cores, at).deadline(entry)
     }
 
+    /// Returns the key that the next insert gives, in the open core. It returns none if no core is open, or no slot of it
+    /// is left in which no value waits for its drop. Constant time.
+    pub fn next_key(&self) -> Option<Key> {
+        if self.opened >= self.cores.len() {
+            return None;
+        }
+        nth(&self.cores, self.opened).next_key()
+    }
+
     /// Calls a closure with the value of an entry, which it may change where it is, and returns what it returns. It
     /// returns none, and doesn't call it, if the entry isn't in the store any more, or never was. A cancelled entry has
     /// its value until it is freed.

@@ -77,7 +77,7 @@ fn drawn_calls_of_a_row_answer_as_the_model_does() {
     }
 }
 
-// promise: growing.by-id growing.notes growing.upkeep
+// promise: core.next-key growing.by-id growing.notes growing.upkeep
 #[test]
 fn drawn_calls_of_a_store_answer_as_the_model_does() {
     for round in 0..calls().div_ceil(ROUND) {

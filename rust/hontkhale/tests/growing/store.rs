@@ -145,10 +145,12 @@ impl Run {
             true => Some(CoreError::TooFar { limit: LAST_TICK }),
             false => self.is_full(),
         };
+        let next = self.store.next_key();
         let (answer, beside) = self.store.insert(self.living.value(self.values), when);
         match answer {
             Ok(key) => {
                 assert_eq!(known, None);
+                assert_eq!(next, beside.is_none().then_some(key));
                 let is_new = !self.given.contains(&key.entry());
                 assert!(is_new && self.entries.values().all(|it| it.place != key.entry()));
                 self.given.push(key.entry());
