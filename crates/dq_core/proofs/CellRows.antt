@@ -4,11 +4,12 @@ use Rattle.std.proofs.lemmas.List.{length-map, length-set, set-get_or, get_or-se
 use Rattle.std.proofs.lemmas.Bool.{cases_eq, le-ltb, lt-ltb, and_parts}
 use Rattle.dq_core.specs.declared.slots.Held.{Held}
 use Rattle.dq_core.specs.Slots.{Row, SlotRows, unused, row_at, is_held, is_free, is_worn, filled_row, vacated_row, raised_row}
+use Rattle.dq_core.specs.Values.{revalued_row}
 use Rattle.dq_core.specs.FreeSlots.{FreeIndexes, free_times, GivesBack}
 use Rattle.dq_core.specs.Deferred.{Deferred, deferred_at, DefersIf, Undefers, TakesDeferred}
 use Rattle.dq_core.specs.SlotRowsKept.{is_open, TakesSlot, GivesSlot, IsSlotRowsKept}
-use Rattle.dq_core.specs.Cells.{CellRow, AreTaken, TakesAny, unused_cell, rows_of, cell_at, AreAside, let_go_value, filled_cell, vacated_cell, let_go_cell, emptied_cell, forgotten_cell, raised_cell}
-use Rattle.dq_core.proofs.SlotRows.{open_parts, free_is, taken_is, takes_given, waiting_is, not_free, held_inside, filled_is, freed_is, worn_is, raised_is, moved_is}
+use Rattle.dq_core.specs.Cells.{CellRow, AreTaken, TakesAny, unused_cell, rows_of, cell_at, AreAside, let_go_value, filled_cell, vacated_cell, let_go_cell, emptied_cell, forgotten_cell, raised_cell, revalued_cell}
+use Rattle.dq_core.proofs.SlotRows.{open_parts, free_is, taken_is, takes_given, waiting_is, not_free, held_inside, filled_is, freed_is, worn_is, raised_is, revalued_is, moved_is}
 use Rattle.dq_core.proofs.Renewing.{worn_not_free, worn_forgotten, free_forgotten}
 
 pub rows_length : {T : Type 0} (cells : List (CellRow T)) → length (rows_of cells) ≡ length cells
@@ -160,14 +161,15 @@ module _ {T : Type 0} {last : ℕ} {cells : List (CellRow T)} {free : FreeIndexe
     none_waits : deferred_at waiting i ≡ 1 → ⊥
     none_waits one = let n = not_free s i held in omega (arith, n.3, one)
 
-    pub vacated_aside : AreAside last (set cells i (vacated_cell (cell_at cells i))) waiting worn
-    vacated_aside =
-        aside_set a i (vacated_cell (cell_at cells i)) waiting worn (inside_cells i held) (λ j ne. refl) (λ j ne. refl)
-        (λ one. absurd (none_waits one)) (λ one. absurd (row_held i held (a.are_worn i one)))
+    pub revalued_cells : (v : T) → IsSlotRowsKept last (rows_of (set cells i (revalued_cell (cell_at cells i) v))) free waiting taken spared
+    revalued_cells v =
+        subst (λ (rs : List (Row T)). IsSlotRowsKept last rs free waiting taken spared)
+        (sym (rows_changed cells i (λ r. revalued_row r v) (revalued_cell (cell_at cells i) v) refl)) (revalued_is s i held v)
 
-    pub raised_aside : AreAside last (set cells i (raised_cell (cell_at cells i))) waiting worn
-    raised_aside =
-        aside_set a i (raised_cell (cell_at cells i)) waiting worn (inside_cells i held) (λ j ne. refl) (λ j ne. refl)
+    -- nothing waits in a held cell, whatever is written there
+    pub held_aside : (x : CellRow T) → AreAside last (set cells i x) waiting worn
+    held_aside x =
+        aside_set a i x waiting worn (inside_cells i held) (λ j ne. refl) (λ j ne. refl)
         (λ one. absurd (none_waits one)) (λ one. absurd (row_held i held (a.are_worn i one)))
 
     let_go_some : is_some (let_go_cell (cell_at cells i)).aside ≡ true

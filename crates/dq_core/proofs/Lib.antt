@@ -34,6 +34,7 @@ pub mod SlotRows
 pub mod Slotwise
 pub mod Steps
 pub mod Turns
+pub mod Values
 pub mod Ways
 pub mod WheelSteps
 pub mod WordRow

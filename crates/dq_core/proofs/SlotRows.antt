@@ -7,6 +7,7 @@ use Rattle.std.proofs.lemmas.Bool.{and_parts, and_left, and_right, cases_eq, cas
 use Rattle.dq_core.specs.declared.slots.Held.{Held}
 use Rattle.dq_ticks.specs.declared.TheConstants.{CAPACITY_LIMIT, LAST_STAMP}
 use Rattle.dq_core.specs.Slots.{Row, SlotRows, unused, row_at, is_held, is_free, is_worn, IsRow, IsSlotRows, filled_row, vacated_row, raised_row}
+use Rattle.dq_core.specs.Values.{held_with, revalued_row}
 use Rattle.dq_core.specs.FreeSlots.{FreeIndexes, free_times, room_of, GivesBack}
 use Rattle.dq_core.specs.Deferred.{Deferred, deferred_at, Defers, TakesDeferred}
 use Rattle.dq_core.specs.SlotRowsKept.{is_open, usable_times, GivesSlot, TakesSlot, IsSlotRowsKept}
@@ -127,25 +128,51 @@ filled_is {T = T} {last = last} {rows = rows} {free = free} {waiting = waiting} 
     }
 
 -- where a slot is held, another write that leaves it held changes neither the free indexes nor the counts
-pub raised_is : {T : Type 0} {last : ℕ} {rows : List (Row T)} {free : FreeIndexes} {waiting : Deferred} {taken spared : ℕ} → IsSlotRowsKept last rows free waiting taken spared → (i : ℕ) → is_held (row_at rows i) ≡ true → (row_at rows i).stamp < last → IsSlotRowsKept last (set rows i (raised_row (row_at rows i))) free waiting taken spared
-raised_is {T = T} {last = last} {rows = rows} {free = free} {waiting = waiting} {taken = taken} s i held left =
+pub rewritten_is : {T : Type 0} {last : ℕ} {rows : List (Row T)} {free : FreeIndexes} {waiting : Deferred} {taken spared : ℕ} → IsSlotRowsKept last rows free waiting taken spared → (i : ℕ) → is_held (row_at rows i) ≡ true → (w : Row T) → is_held w ≡ true → IsRow last w → IsSlotRowsKept last (set rows i w) free waiting taken spared
+rewritten_is {T = T} {last = last} {rows = rows} {free = free} {waiting = waiting} {taken = taken} s i held w still good =
     let inside = held_inside rows i held in
     let r : Row T = row_at rows i in
-    let good = row_is s.slots i inside in
-    let frees = count_set (is_free last) rows i (raised_row r) inside in
-    let helds = count_set is_held rows i (raised_row r) inside in
+    let frees = count_set (is_free last) rows i w inside in
+    let helds = count_set is_held rows i w inside in
     let was_free : one (is_free last r) ≡ 0 = ap one (held_not_free last r held) in
-    let now_free : one (is_free last (raised_row r)) ≡ 0 = ap one (held_not_free last (raised_row r) held) in
+    let now_free : one (is_free last w) ≡ 0 = ap one (held_not_free last w still) in
+    let was_held : one (is_held r) ≡ 1 = ap one held in
+    let now_held : one (is_held w) ≡ 1 = ap one still in
     record {
-      slots = slot_rows_set s.slots i (raised_row r) (record { bound = omega arith; birth = λ h e. let b = good.birth h e in (b.0, omega arith) });
+      slots = slot_rows_set s.slots i w good;
       freed = λ j. ⊎_elim
-          (λ same. subst (λ k. usable_times free waiting k ≡ one (is_open last (set rows i (raised_row r)) k)) (sym same) (s.freed i ∙ ap one (and_right (ltb i (length rows)) _ (held_not_free last r held)) ∙ sym now_free ∙ sym (ap one (open_same last rows i (raised_row r) inside))))
-          (λ ne. s.freed j ∙ sym (ap one (open_other last rows i (raised_row r) j ne)))
+          (λ same. subst (λ k. usable_times free waiting k ≡ one (is_open last (set rows i w) k)) (sym same) (s.freed i ∙ ap one (and_right (ltb i (length rows)) _ (held_not_free last r held)) ∙ sym now_free ∙ sym (ap one (open_same last rows i w inside))))
+          (λ ne. s.freed j ∙ sym (ap one (open_other last rows i w j ne)))
           (cases_eq j i);
       spare = let k = s.spare in omega arith;
       counted = let k = s.counted in omega arith;
-      room = rw (length-set rows i (raised_row r)) s.room;
+      room = rw (length-set rows i w) s.room;
     }
+
+pub raised_is : {T : Type 0} {last : ℕ} {rows : List (Row T)} {free : FreeIndexes} {waiting : Deferred} {taken spared : ℕ} → IsSlotRowsKept last rows free waiting taken spared → (i : ℕ) → is_held (row_at rows i) ≡ true → (row_at rows i).stamp < last → IsSlotRowsKept last (set rows i (raised_row (row_at rows i))) free waiting taken spared
+raised_is {rows = rows} s i held left =
+    let good = row_is s.slots i (held_inside rows i held) in
+    rewritten_is s i held (raised_row (row_at rows i)) held (record { bound = omega arith; birth = λ h e. let b = good.birth h e in (b.0, omega arith) })
+
+-- what is held with another value is held still, under the same birth stamp
+pub still_held : {T : Type 0} (o : Option (Held T)) (v : T) → is_some (held_with o v) ≡ is_some o
+still_held None v = refl
+still_held (Some h) v = refl
+
+held_born : {T : Type 0} (o : Option (Held T)) (v : T) (h : Held T) → held_with o v ≡ Some h → (k : Held T) × (o ≡ Some k) × (k.born ≡ h.born)
+held_born None v h e = cc
+held_born {T} (Some k) v h e = (k, refl, ap (born_or k) e)
+  where
+    born_or : {T : Type 0} → Held T → Option (Held T) → ℕ
+    born_or k None = k.born
+    born_or k (Some h) = h.born
+
+pub revalued_is : {T : Type 0} {last : ℕ} {rows : List (Row T)} {free : FreeIndexes} {waiting : Deferred} {taken spared : ℕ} → IsSlotRowsKept last rows free waiting taken spared → (i : ℕ) → is_held (row_at rows i) ≡ true → (v : T) → IsSlotRowsKept last (set rows i (revalued_row (row_at rows i) v)) free waiting taken spared
+revalued_is {T = T} {last = last} {rows = rows} s i held v =
+    let r : Row T = row_at rows i in
+    let good = row_is s.slots i (held_inside rows i held) in
+    rewritten_is s i held (revalued_row r v) (still_held r.held v ∙ held)
+    (record { bound = good.bound; birth = λ h e. let k = held_born r.held v h e in let b = good.birth k.0 k.1 in let same = k.2 in (omega (arith, b.0, same), omega (arith, b.1, same)) })
 
 -- an index whose slot is held has its bit, and is not free
 pub not_free : {T : Type 0} {last : ℕ} {rows : List (Row T)} {free : FreeIndexes} {waiting : Deferred} {taken spared : ℕ} → IsSlotRowsKept last rows free waiting taken spared → (i : ℕ) → is_held (row_at rows i) ≡ true → (i < room_of free) × (usable_times free waiting i ≡ 0) × (free_times free i ≡ 0) × (deferred_at waiting i ≡ 0)

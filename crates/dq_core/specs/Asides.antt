@@ -42,7 +42,13 @@ IsCrowded s a =
     × ((i : ℕ) → i < length s.rows → is_free s.last_stamp (row_at s.rows i) ≡ true →
     is_some (aside_at a i) ≡ true)
 
--- the value that waits in such a slot is taken out; none comes exactly where a slot is left in
+-- a slot is left for an insert, and no value waits in it
+abbrev pub IsRoomy : {T : Type 0} → SlotRows T → Aside T → ℕ → Type 0
+IsRoomy s a i =
+    (i < length s.rows) × (is_free s.last_stamp (row_at s.rows i) ≡ true)
+    × (a.drops ≡ true → aside_at a i ≡ None)
+
+-- the value that waits in a crowded slot is taken out; none comes exactly where a slot is left in
 -- which none waits, or none is left
 abbrev pub TakesCrowded : {T : Type 0} → SlotRows T → Aside T → Option T → Aside T → Type 0
 TakesCrowded s a None b = (¬ IsCrowded s a) × (b ≡ a)

@@ -6,6 +6,7 @@ use Rattle.dq_core.specs.declared.slots.Held.{Held}
 use Rattle.dq_core.specs.Deferred.{Deferred, deferred_at, TakesDeferred}
 use Rattle.dq_core.specs.FreeSlots.{FreeIndexes, free_times, room_of, GivesBack}
 use Rattle.dq_core.specs.Slots.{Row, unused, is_worn, filled_row, vacated_row, raised_row}
+use Rattle.dq_core.specs.Values.{revalued_row}
 
 -- a cell: the slot as its users see it, and what is set aside there
 pub record CellRow (T : Type 0) : Type 0 where
@@ -71,6 +72,15 @@ forgotten_cell c = record { row = unused; aside = let_go_value c.row.held c.asid
 -- a cell under its next stamp
 abbrev pub raised_cell : {T : Type 0} → CellRow T → CellRow T
 raised_cell c = record { row = raised_row c.row; aside = c.aside }
+
+-- a cell with another value of what it holds
+abbrev pub revalued_cell : {T : Type 0} → CellRow T → T → CellRow T
+revalued_cell c v = record { row = revalued_row c.row v; aside = c.aside }
+
+-- of what a cell holds a change made another value, with that answer
+abbrev pub ChangesCell : {T R : Type 0} → (T → R → T → Type 0) → CellRow T → R → CellRow T → Type 0
+ChangesCell {T} Makes c a d =
+    (h : Held T) × (v : T) × (c.row.held ≡ Some h) × Makes h.value a v × (d ≡ revalued_cell c v)
 
 -- the slots that cells show
 abbrev pub rows_of : {T : Type 0} → List (CellRow T) → List (Row T)

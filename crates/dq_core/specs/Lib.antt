@@ -22,6 +22,7 @@ pub mod Slots
 pub mod Soonest
 pub mod Sweeps
 pub mod TableRows
+pub mod Values
 pub mod WheelWays
 pub mod WordRows
 pub mod Words

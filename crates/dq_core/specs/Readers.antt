@@ -8,7 +8,8 @@ use Rattle.dq_wheel.specs.declared.wheel.Place.{Place}
 use Rattle.dq_ticks.specs.declared.keys.Key.{Key}
 use Rattle.dq_ticks.specs.declared.keys.EntryId.{EntryId}
 use Rattle.dq_core.specs.declared.outcomes.Tally.{Tally}
-use Rattle.dq_core.specs.Slots.{is_held}
+use Rattle.dq_core.specs.Asides.{IsRoomy}
+use Rattle.dq_core.specs.Slots.{is_held, row_at}
 use Rattle.dq_core.specs.Machine.{table_at, NoneLinked, NoneLiveBefore}
 use Rattle.dq_core.specs.Core.{Core, machine, IsLawfulCore}
 use Rattle.dq_core.specs.Calls.{IsLinked, IsMissing, TellsWake}
@@ -30,6 +31,14 @@ TellsLeast c None = NoneLinked (machine c)
 TellsLeast c (Some k) =
     IsLinked c k.entry × ((table_at (machine c) k.entry.index).stamp ≡ k.stamp)
     × IsLeast c.wheel.filing.filed k.entry.index
+
+-- the key of a slot that is left in which no value waits, under the slot's next stamp; none exactly
+-- where there is no such slot
+abbrev pub TellsNext : {T W : Type 0} → Core T W → Option Key → Type 0
+TellsNext c None = (i : ℕ) → ¬ IsRoomy c.slots c.aside i
+TellsNext c (Some k) =
+    IsRoomy c.slots c.aside k.entry.index × (k.entry.shard ≡ c.shard) × (k.entry.born ≡ k.stamp)
+    × (k.stamp ≡ (row_at c.slots.rows k.entry.index).stamp + 1)
 
 -- the birth of an id isn't after its slot's stamp: no new entry gets that id
 abbrev pub WasGiven : {T W : Type 0} → Core T W → EntryId → Type 0

@@ -1,6 +1,6 @@
-//! The live entries of a queue, one after the other, and the value of one of them.
+//! The live entries of a queue, one after the other, and the value of one of them, to be read or changed.
 
-ghost use Rattle.std.specs.Prelude.{◌≡◌, ◌<◌, length, MatchOption, Some, None};
+ghost use Rattle.std.specs.Prelude.{◌≡◌, ◌<◌, length, IfSome, MatchOption, Some, None};
 ghost use Rattle.std.specs.Iterator.{YieldsFirstBy, item_count};
 
 use crate::queue::DelayCore;
@@ -52,7 +52,10 @@ impl<'a, T, A: Allocator> Model for Entries<'a, T, A> {
 
 impl<T, W: Words, A: Allocator> DelayCore<T, W, A> {
     ghost use Rattle.dq_core.specs.AtTheCall.{HoldsValue};
-    ghost use Rattle.dq_core.specs.Calls.{IsMissing};
+    ghost use Rattle.dq_core.specs.Core.{machine};
+    ghost use Rattle.dq_core.specs.Calls.{IsMissing, SameCore};
+    ghost use Rattle.dq_core.specs.Values.{ChangesEntry, ChangesValue};
+    ghost use Rattle.std.specs.Fn.{FnOnceReturnsAtMut};
 
     /// Returns the value of an entry. It returns none if the entry isn't in the queue any more, or never was. A
     /// cancelled entry has its value until it is freed. Constant time.
@@ -67,6 +70,27 @@ impl<T, W: Words, A: Allocator> DelayCore<T, W, A> {
             return None;
         };
         Some(held.1)
+    }
+
+    /// Calls a closure with the value of an entry, which it may change where it is, and returns what it returns. It
+    /// returns none, and doesn't call it, if the entry isn't in the queue any more, or never was. A cancelled entry has
+    /// its value until it is freed.
+    pub fn with_value<R, F: FnOnce(&mut T) -> R>(&mut self, entry: &EntryId, call: F) -> Option<R>
+        requires { F.IsAlwaysCallable call }
+        // The entry has the value that the closure left, and its deadline as before.
+        ensures entry { IfSome result (λ answer. ChangesEntry (FnOnceReturnsAtMut F.FnOnce call)
+            (machine self.old) entry.now answer (machine self.new)) }
+
+        // Exactly: the queue with the value that the closure left, and nothing else changes.
+        ensures changes { ChangesValue (FnOnceReturnsAtMut F.FnOnce call)
+            self.old entry.now result self.new }
+        ensures same { SameCore self.old self.new }
+    {
+        let Some(index) = self.find(entry) else {
+            return None;
+        };
+        let answer = self.slots.with_value(index, call);
+        Some(answer)
     }
 }
 

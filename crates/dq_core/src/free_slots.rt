@@ -137,6 +137,18 @@ fn clear_bit(bits: &mut [u64], summary: &mut Summary, index: usize)
     }
 }
 
+// The index of the lowest bit of a word that isn't 0.
+#[inline]
+fn lowest_bit(bits: &[u64], word: usize) -> usize
+    requires word_in { word < length bits.now }
+    requires size { length bits.now ≤ 1024 }
+    requires filled { 0 < slice_index bits.now word }
+    ensures { bit_of bits.now result ≡ 1 }
+{
+    let held = bits[word];
+    BITS * word + held.trailing_zeros() as usize
+}
+
 // Clears the lowest bit of a word that isn't 0, and the word's bit in the summary where it was its only one.
 #[inline]
 fn take_bit(bits: &mut [u64], summary: &mut Summary, word: usize) -> usize
@@ -203,6 +215,21 @@ impl<A: Allocator> FreeSlots<A> {
         } else {
             self.set(index);
         }
+    }
+
+    /// The index that the next fill takes, where one is free.
+    #[inline]
+    pub fn next(&self) -> Option<usize>
+        ensures { MatchOption result
+            ((i : ℕ) → free_times self.now i ≡ 0) (λ i. 0 < free_times self.now i) }
+    {
+        if let Some(top) = self.recent.last() {
+            return Some(*top as usize);
+        }
+        let Some(word) = filled_word(&self.bits, &self.summary, self.current) else {
+            return None;
+        };
+        Some(lowest_bit(&self.bits, word))
     }
 
     /// Takes the index of the next fill: a free one, and only where none is free one whose value waits for its drop.

@@ -14,7 +14,7 @@ use dq_wheel::Place;
 use std::alloc::Allocator;
 
 impl<T, W: Words, A: Allocator> DelayCore<T, W, A> {
-    ghost use Rattle.dq_core.specs.Readers.{IsTally, WasGiven, TellsFirst, TellsLeast, TellsPlace, TellsFiled};
+    ghost use Rattle.dq_core.specs.Readers.{IsTally, WasGiven, TellsFirst, TellsLeast, TellsNext, TellsPlace, TellsFiled};
 
     /// Returns the number of worn slots, which hold no entry and have no stamp left.
     pub fn worn(&self) -> usize
@@ -83,6 +83,20 @@ impl<T, W: Words, A: Allocator> DelayCore<T, W, A> {
             }
         }
         None
+    }
+
+    /// Returns the key that the next insert gives. It returns none if no slot is left in which no value waits for its
+    /// drop. Constant time.
+    pub fn next_key(&self) -> Option<Key>
+        // A slot is left, and no value waits in it. Which one the insert takes, of several, no contract tells.
+        ensures { TellsNext self.now result }
+    {
+        let Some(index) = self.slots.next() else {
+            return None;
+        };
+        self.slots.law();
+        let born = self.slots.stamp(index) + 1;
+        Some(Key::new(EntryId::new(self.shard, index as u32, born), born))
     }
 
     // The stamp of a slot, 0 past the last one.

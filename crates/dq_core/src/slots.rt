@@ -53,7 +53,8 @@ impl<T> Model for Cell<T> {
 
 impl<T> Cell<T> {
     ghost use Rattle.dq_core.specs.Slots.{is_held, IsBorn};
-    ghost use Rattle.dq_core.specs.Cells.{unused_cell, empty_cell, filled_cell, vacated_cell, let_go_cell, emptied_cell, forgotten_cell, raised_cell};
+    ghost use Rattle.std.specs.Fn.{FnOnceReturnsAtMut};
+    ghost use Rattle.dq_core.specs.Cells.{ChangesCell, unused_cell, empty_cell, filled_cell, vacated_cell, let_go_cell, emptied_cell, forgotten_cell, raised_cell};
 
     fn unused() -> Self
         ensures { result ≡ unused_cell }
@@ -162,6 +163,19 @@ impl<T> Cell<T> {
             return None;
         }
         self.value.take()
+    }
+
+    // What a closure makes of the value that it holds.
+    #[inline]
+    fn with_value<R, F: FnOnce(&mut T) -> R>(&mut self, call: F) -> R
+        requires held { is_held self.old.row ≡ true }
+        requires callable { F.IsAlwaysCallable call }
+        ensures { ChangesCell (FnOnceReturnsAtMut F.FnOnce call) self.old result self.new }
+    {
+        match &mut self.value {
+            Some(value) => call(value),
+            None => unreachable!(),
+        }
     }
 
     // As if it had never been used; but what was set aside stays.
@@ -420,9 +434,11 @@ impl<T, A: Allocator> Beside for Slots<T, A> {
 
 impl<T, A: Allocator> Slots<T, A> {
     ghost use Rattle.std.specs.Prelude.{IfErr, IsTrue, is_some};
-    ghost use Rattle.dq_core.specs.Asides.{aside_at, with_aside, waiting_in, IsCrowded, SetsAsideBut, TakesAside, TakesCrowded};
+    ghost use Rattle.dq_core.specs.Asides.{aside_at, with_aside, waiting_in, IsCrowded, IsRoomy, SetsAsideBut, TakesAside, TakesCrowded};
     ghost use Rattle.dq_core.specs.Slots.{SlotRows, row_at, is_free, is_held, is_worn, shown, vacated, raised, unused, IsBorn, IsFilled, IsSlotRows};
     ghost use Rattle.dq_core.specs.Renewals.{forgotten, never_used};
+    ghost use Rattle.std.specs.Fn.{FnOnceReturnsAtMut};
+    ghost use Rattle.dq_core.specs.Values.{ChangesSlot};
 
     /// The row is in good order.
     pub fn law(&self)
@@ -503,6 +519,16 @@ impl<T, A: Allocator> Slots<T, A> {
     {
         let cell = &self.cells[index];
         cell.held()
+    }
+
+    /// The slot that the next fill takes, where one is free in which no value waits.
+    #[inline]
+    pub fn next(&self) -> Option<usize>
+        ensures { MatchOption result
+            ((i : ℕ) → ¬ IsRoomy (shown self.now) self.now.aside i)
+            (λ i. IsRoomy (shown self.now) self.now.aside i) }
+    {
+        self.free.next()
     }
 
     /// Puts a value into a free slot, under that slot's next stamp, and returns its index. Where a value waits in each
@@ -621,6 +647,19 @@ impl<T, A: Allocator> Slots<T, A> {
             return None;
         }
         self.take_from_next()
+    }
+
+    /// What a closure makes of the value that a slot holds, and may change there.
+    #[inline]
+    pub fn with_value<R, F: FnOnce(&mut T) -> R>(&mut self, index: usize, call: F) -> R
+        requires held { is_held (row_at self.old.rows index) ≡ true }
+        requires callable { F.IsAlwaysCallable call }
+        ensures changes { ChangesSlot (FnOnceReturnsAtMut F.FnOnce call)
+            (shown self.old) index result (shown self.new) }
+        ensures aside { self.new.aside ≡ self.old.aside }
+    {
+        let cell = &mut self.cells[index];
+        cell.with_value(call)
     }
 
     /// Gives what a slot holds its next stamp.

@@ -1,6 +1,6 @@
 -- What no call but an insert or a reset does: give an entry an earlier deadline. So where no live entry has a deadline before
 -- a tick, none has after it.
-use Rattle.std.proofs.Common.{◌≡◌, ◌≢◌, ℕ, ◌<◌, ◌≤◌, Bool, List, [], ◌∷◌, length, max, min, nat_eq, true, false, Option, Some, None, Result, Ok, Err, refl, sym, ap, ◌∙◌, subst, inl, inr, ⊎_elim, arith}
+use Rattle.std.proofs.Common.{◌≡◌, ◌≢◌, ℕ, ◌<◌, ◌≤◌, Bool, List, [], ◌∷◌, length, max, min, nat_eq, true, false, IfSome, Option, Some, None, Result, Ok, Err, refl, sym, ap, ◌∙◌, subst, inl, inr, ⊎_elim, arith}
 use Rattle.std.specs.List.{AllByRecursion}
 use Rattle.dq_ticks.specs.declared.keys.Key.{Key}
 use Rattle.dq_ticks.specs.declared.keys.EntryId.{EntryId}
@@ -13,6 +13,7 @@ use Rattle.dq_core.specs.Machine.{Entry, Machine, Event, Note, Pass, Insert, Res
 use Rattle.dq_core.specs.Core.{Core, machine}
 use Rattle.dq_core.specs.Calls.{Inserts, Removes, Resets, TellsDeadline, FindRefused, Polls, IsTurn, noting}
 use Rattle.dq_core.specs.Sweeps.{Reaps, SweepsSome, Clears}
+use Rattle.dq_core.specs.Values.{ChangesEntry, ChangesValue}
 use Rattle.dq_core.proofs.RunsMoves.{put_same, put_other}
 use Rattle.std.proofs.lemmas.Bool.{cases_eq}
 use Rattle.std.proofs.lemmas.Bool.Decides.{nat_tests}
@@ -227,6 +228,21 @@ module _ {T W : Type 0} (shared : Bool) (b c : Core T W) (t : ℕ) (before : Non
       let n = noting b tick in
       let noted = late_step last (machine b) (machine n) (Note tick) t (tt {0}) r.1 before in
       ways_late shared last t (machine n) (machine c) r.2.0.way noted
+
+-- a change of a value gives no entry another deadline
+module _ {T W R : Type 0} (Makes : T → R → T → Type 0) (b c : Core T W) (id : EntryId) where
+  pub changes_late : (t : ℕ) → NoneLiveBefore (machine b) t → (r : Option R) → ChangesValue Makes b id r c → IfSome r (λ a. ChangesEntry Makes (machine b) id a (machine c))
+      → NoneLiveBefore (machine c) t
+  changes_late t before None did entry = let P : Core T W → Type 0 = λ k. NoneLiveBefore (machine k) t in subst P (sym did.1) before
+  changes_late t before (Some a) did (e, v, has, born, made, is) =
+      put_late (machine b) (machine c) id.index _ t _ has.0 is
+      (λ x d same due. let f : Entry T = record e { value = v } in
+      let one : f ≡ x = cc in
+      before id.index e d has.1 (ap (λ k. k.due) one ∙ due)) before
+
+  pub changes_noted : (r : Option R) → ChangesValue Makes b id r c → c.noted ≡ b.noted
+  changes_noted None did = ap (λ (k : Core T W). k.noted) did.1
+  changes_noted (Some a) did = ap (λ (k : Core T W). k.noted) did.4
 
 module _ {T W : Type 0} where
   -- where one core changes, every other one stays quiet, and so does it if it has to

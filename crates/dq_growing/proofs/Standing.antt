@@ -1,8 +1,8 @@
 -- What stands in a core that a call changes, and in a store of which one core changes.
-use Rattle.std.proofs.Common.{◌≡◌, ◌≢◌, ◌⊎◌, ℕ, ◌<◌, ◌≤◌, ◌+◌, Bool, List, length, get_or, set, Option, Some, None, Result, Ok, Err, IfOk, OnOk, OnErr, refl, sym, ap, ◌∙◌, subst, inl, inr, ⊎_elim, arith}
+use Rattle.std.proofs.Common.{◌≡◌, ◌≢◌, ◌⊎◌, ℕ, ◌<◌, ◌≤◌, ◌+◌, Bool, List, length, get_or, set, Option, Some, None, Result, Ok, Err, IfOk, OnOk, OnErr, IfSome, IfNone, refl, sym, ap, ◌∙◌, subst, inl, inr, ⊎_elim, arith}
 use mathlib.Core.Logic.{dite}
 use native.Mathlib.Decide.{ℕ_discrete}
-use Rattle.std.proofs.lemmas.List.{length-set, get_or-set_same, get_or-set_other}
+use Rattle.std.proofs.lemmas.List.{length-set, set-get_or, get_or-set_same, get_or-set_other}
 use Rattle.dq_ticks.specs.declared.TheConstants.{LAST_TICK}
 use Rattle.dq_ticks.specs.declared.words.Parts.{Parts}
 use Rattle.dq_ticks.specs.declared.words.Mark.TheVariants.{LiveMark, CancelledMark}
@@ -12,22 +12,24 @@ use Rattle.dq_core.specs.declared.errors.CoreError.{CoreError}
 use Rattle.dq_core.specs.declared.outcomes.Removed.{Removed}
 use Rattle.dq_core.specs.declared.slots.Held.{Held}
 use Rattle.dq_core.specs.AtTheCall.{HoldsValue, OthersStay, KeepsSlots, linked_in}
-use Rattle.dq_core.specs.Calls.{IsInserted, Inserts, IsRemoved, Removes, IsFound, base_for}
+use Rattle.dq_core.specs.Calls.{IsInserted, Inserts, IsRemoved, Removes, IsFound, IsMissing, base_for}
 use Rattle.dq_core.specs.Core.{Core, IsLawfulCore, machine, entry_of, due_by}
 use Rattle.dq_core.specs.Machine.{Entry, table_at, born_with}
 use Rattle.dq_core.specs.Slots.{row_at, unused, vacated_row}
+use Rattle.dq_core.specs.Values.{ChangesEntry, ChangesValue}
 use Rattle.dq_core.specs.Words.{IsInForce, StillBegun, live, word_at}
 use Rattle.dq_core.proofs.CallWords.{inserted_live, inserted_others}
 use Rattle.dq_core.proofs.Finds.{found_force}
 use Rattle.dq_core.proofs.Law.{force_learned, held_filed}
+use Rattle.dq_core.proofs.RunsMoves.{put_same, put_other}
 use Rattle.dq_core.proofs.SlotRows.{parted}
 use Rattle.dq_core.proofs.Slotwise.{held_inside}
 use Rattle.dq_core.proofs.Ways.{table_row_is}
-use Rattle.dq_growing.specs.Cores.{CoreRow, AreCores, IsCoreAt, HasAt, with_core}
+use Rattle.dq_growing.specs.Cores.{CoreRow, AreCores, IsCoreAt, HasAt, IsMissingIn, with_core}
 use Rattle.dq_growing.specs.Moving.{worn_in}
-use Rattle.dq_growing.specs.Stands.{IsThere, IsPastAt, IsPastIn, HasEntry, OthersStand, SameStand, OneLeaves, OneComes, KeepsWords}
+use Rattle.dq_growing.specs.Stands.{IsThere, IsPastAt, IsPastIn, HasEntry, OthersStand, SameStand, OneChanges, OneLeaves, OneComes, KeepsWords}
 use Rattle.dq_growing.proofs.Leasts.{some_not_none}
-use Rattle.dq_growing.proofs.Rows.{at_after, one_at}
+use Rattle.dq_growing.proofs.Rows.{at_after, missing_in, one_at}
 
 pub same_id : (a b : EntryId) → a.shard ≡ b.shard → a.index ≡ b.index → a.born ≡ b.born → a ≡ b
 same_id a b p q r = λ n. record { shard = p n; index = q n; born = r n }
@@ -123,6 +125,29 @@ module _ {T W : Type 0} where
           others = (
             (λ o f ne y. dite (ℕ_discrete o.index i) (λ at. absurd (none_there b i o f empty y at)) (λ n. stays i others o f n y)),
             (λ o f ne y. dite (ℕ_discrete o.index i) (λ at. absurd (ne (one_there c k.entry o e f here y at))) (λ n. stayed i others o f n y)),
+          );
+        }
+
+    -- a value changes, and no entry but its own
+    pub changes_there : {R : Type 0} (Makes : T → R → T → Type 0) (id : EntryId) (a : R) → id.shard ≡ b.shard → ChangesEntry Makes (machine b) id a (machine c)
+        → OneChanges (IsThere b) (IsThere c) Makes id a
+    changes_there {R} Makes id a shard (e, v, has, born, made, is) =
+        let i = id.index in
+        let s = (table_at (machine b) i).stamp in
+        let f : Entry T = record e { value = v } in
+        let others : OthersStay b c i = λ j ne. put_other (machine b) (machine c) j i s (Some f) ne is in
+        let now = ap (λ r. r.entry) (put_same (machine b) (machine c) i s (Some f) has.0 is) in
+        let old : IsThere b id e = record { shard = shard; linked = has.1; born = born } in
+        let new : IsThere c id f = record { shard = shard ∙ sym same; linked = now; born = born } in
+        record {
+          entry = e;
+          value = v;
+          was = old;
+          made = made;
+          here = new;
+          others = (
+            (λ o x ne y. dite (ℕ_discrete o.index i) (λ at. absurd (ne (one_there b id o e x old y at))) (λ n. stays i others o x n y)),
+            (λ o x ne y. dite (ℕ_discrete o.index i) (λ at. absurd (ne (one_there c id o f x new y at))) (λ n. stayed i others o x n y)),
           );
         }
 
@@ -279,6 +304,29 @@ module _ {T W : Type 0} where
         (λ (y : (j ≢ i) × IsCoreAt s.cores j d). absurd (y.0 (law.apart j i d b y.1 at (number' ∙ number))))
         (at_after s.cores i j c d at.0 x)
 
+    pub changes_in : {R : Type 0} (Makes : T → R → T → Type 0) (id : EntryId) (a : R) → OneChanges (IsThere b) (IsThere c) Makes id a
+        → OneChanges (HasEntry s) (HasEntry (with_core s i c)) Makes id a
+    changes_in {R} Makes id a l = record {
+      entry = l.entry;
+      value = l.value;
+      was = (i, b, at, l.was);
+      made = l.made;
+      here = (i, c, (set_there s.cores i b c at), l.here);
+      others = others_in id id l.others;
+    }
+
+    -- where no stamp changes, what is past stays past
+    pub still_past : ((j : ℕ) → (table_at (machine c) j).stamp ≡ (table_at (machine b) j).stamp) → (id : EntryId) → IsPastIn s id → IsPastIn (with_core s i c) id
+    still_past stamps id past j d x number =
+        ⊎_elim
+        (λ (y : (j ≡ i) × (d ≡ c)). let N : Core T W → ℕ = λ k. k.shard in
+        let P : Core T W → Type 0 = λ k. IsPastAt k id in
+        let was = past i b at (sym same ∙ (sym (ap N y.1) ∙ number)) in
+        let stamp = stamps id.index in
+        subst P (sym y.1) (omega (arith, stamp, was)))
+        (λ (y : (j ≢ i) × IsCoreAt s.cores j d). past j d y.1 number)
+        (at_after s.cores i j c d at.0 x)
+
     pub words_in : {O : Type 0} (origin : W → O) (begun : W → ℕ → ℕ → ℕ → Type 0) → origin c.words ≡ origin b.words → StillBegun begun b.words c.words
         → KeepsWords origin begun s (with_core s i c)
     words_in {O} origin begun o w j d x =
@@ -289,6 +337,19 @@ module _ {T W : Type 0} where
         let all = subst P (one_at s.cores i b d at (subst A here x)) (same, o, w) in
         (c, subst B (sym here) (set_there s.cores i b c at), all.0, all.1, all.2))
         (λ n. (d, set_other s.cores i j c d n x, refl, refl, λ k t u y. y))
+
+  -- a change of a value, by its answer
+  pub changed_stamps : {R : Type 0} (Makes : T → R → T → Type 0) (b c : Core T W) (id : EntryId) (r : Option R) → ChangesValue Makes b id r c
+      → IfSome r (λ a. ChangesEntry Makes (machine b) id a (machine c)) → (j : ℕ) → (table_at (machine c) j).stamp ≡ (table_at (machine b) j).stamp
+  changed_stamps {R} Makes b c id None did entry j = ap (λ (k : Core T W). (table_at (machine k) j).stamp) did.1
+  changed_stamps {R} Makes b c id (Some a) did (e, v, has, born, made, is) j =
+      let i = id.index in
+      let f : Entry T = record e { value = v } in
+      let s = (table_at (machine b) i).stamp in
+      dite (ℕ_discrete j i)
+      (λ here. let P : ℕ → Type 0 = λ k. (table_at (machine c) k).stamp ≡ (table_at (machine b) k).stamp in
+      subst P (sym here) (ap (λ r. r.stamp) (put_same (machine b) (machine c) i s (Some f) has.0 is)))
+      (λ n. ap (λ r. r.stamp) (put_other (machine b) (machine c) j i s (Some f) n is))
 
   pub all_words : {O : Type 0} (origin : W → O) (begun : W → ℕ → ℕ → ℕ → Type 0) (s : CoreRow T W) → KeepsWords origin begun s s
   all_words {O} origin begun s i b at = (b, at, refl, refl, λ k t u y. y)
@@ -319,3 +380,17 @@ module _ {T W : Type 0} where
     pub found_same : {X : Type 0} (r : Result X CoreError) → OnErr r (SameStand (IsThere b) (IsThere c)) → OnErr r (SameStand (HasEntry s) (HasEntry (with_core s i c)))
     found_same {X} (Ok x) l = tt {0}
     found_same {X} (Err e) l = same_in s i b c law found_at same l
+
+    -- a change of a value in the core that was found, by its answer
+    pub found_changes : {R : Type 0} (Makes : T → R → T → Type 0) (r : Option R) → IfSome r (λ a. ChangesEntry Makes (machine b) id a (machine c))
+        → IfSome r (OneChanges (HasEntry s) (HasEntry (with_core s i c)) Makes id)
+    found_changes {R} Makes None entry = tt {0}
+    found_changes {R} Makes (Some a) entry = changes_in s i b c law found_at same Makes id a (changes_there b c same Makes id a found_number entry)
+
+    pub found_missing : {R : Type 0} (Makes : T → R → T → Type 0) (r : Option R) → ChangesValue Makes b id r c → IfNone r (IsMissingIn s id × (with_core s i c ≡ s))
+    found_missing {R} Makes None did =
+        let S : List (Core T W) → CoreRow T W = λ l. record s { cores = l } in (
+          (missing_in s law i b id (IsMissing b id) found is (λ x. x, λ x. x)).0 did.0,
+          ap (λ k. with_core s i k) did.1 ∙ ap S (ap (λ k. set s.cores i k) is ∙ set-get_or s.cores i b),
+        )
+    found_missing {R} Makes (Some a) did = tt {0}

@@ -15,14 +15,14 @@ use Rattle.dq_core.specs.Words.{word_at}
 use Rattle.dq_core.specs.AtTheCall.{HoldsValue}
 use Rattle.dq_core.proofs.Ways.{table_row_is}
 use Rattle.dq_core.specs.Machine.{Entry, table_at}
-use Rattle.dq_growing.specs.Cores.{CoreRow, AreCores, IsCoreAt, HasAt, HasNo, OnCoreOr, OnCoreAt, InsertsIn, InsertsBeside, closed_error, missing_error}
-use Rattle.dq_growing.specs.Stands.{IsThere, IsPastAt, IsPastIn, IsAheadIn, Ages, HasEntry, SameStand, OneLeaves, OneComes}
+use Rattle.dq_growing.specs.Cores.{CoreRow, AreCores, IsCoreAt, HasAt, HasNo, OnCoreOr, OnCoreAt, IsMissingIn, InsertsIn, InsertsBeside, closed_error, missing_error}
+use Rattle.dq_growing.specs.Stands.{IsThere, IsPastAt, IsPastIn, IsAheadIn, Ages, HasEntry, SameStand, OneChanges, OneLeaves, OneComes}
 use Rattle.dq_growing.specs.Moving.{IfTo, IfCameOut, GoesOnIn}
 use Rattle.dq_growing.specs.declared.moving.Moved.{Moved}
 use Rattle.dq_growing.specs.declared.moving.Moved.TheVariants.{To, Out}
 use Rattle.dq_growing.specs.Polls.{TakesAsideIn}
 use Rattle.dq_growing.specs.Notes.{Book, AreNotes, SameNotes, Forgets, IsNoted, with_id, or_own, user_at, place_by, meant_place}
-use Rattle.dq_growing.specs.Store.{entry_told, TellsPlaceFor, TakeRefusedFor, TellsFirstIn, TellsFrom, HasFor, NoneStandsFor, NotesAfter, answer_as, NotesAnswered, AfterReset, ResetsFor, GoesOnFor, StoreState, IsStore, StandsFor, KeysAreApart, RemovesFor, ComesFor, removed_as, ResetsThere, reset_as}
+use Rattle.dq_growing.specs.Store.{entry_told, TellsPlaceFor, TakeRefusedFor, TellsFirstIn, TellsFrom, HasFor, NoneStandsFor, ChangesFor, NotesAfter, answer_as, NotesAnswered, AfterReset, ResetsFor, GoesOnFor, StoreState, IsStore, StandsFor, KeysAreApart, RemovesFor, ComesFor, removed_as, ResetsThere, reset_as}
 use Rattle.dq_growing.specs.declared.cores.TakeError.{TakeError}
 use Rattle.dq_growing.specs.Notes.{ArePastIn, AllArePast}
 use Rattle.dq_core.specs.AtTheCall.{linked_in}
@@ -585,6 +585,55 @@ module _ {T W : Type 0} (s : StoreState T W) (law : IsStore s) (u : EntryId) whe
       → MatchOption o (IsMissing c p) (λ x. HoldsValue c p (v x)) → MatchOption o (NoneStandsFor s u) (λ x. HasFor s u (v x))
   found_by cores p i c at here lawful {X} v None missing = none_found cores p i c at here missing
   found_by cores p i c at here lawful {X} v (Some x) holds = value_found p i c (v x) lawful at here holds
+
+-- a change of a value, by its answer
+module _ {T W R : Type 0} (Makes : T → R → T → Type 0) (s : StoreState T W) (cores : CoreRow T W) (u p : EntryId) (r : Option R) (law : IsStore s)
+    (at : meant_place s.notes u ≡ Some p) (some : IfSome r (OneChanges (HasEntry s.cores) (HasEntry cores) Makes p))
+    (none : IfNone r (IsMissingIn s.cores p × (cores ≡ s.cores))) where
+  pub law_changes : ((id : EntryId) → IsPastIn s.cores id → IsPastIn cores id) → IsStore (stored cores s.notes)
+  law_changes past = record {
+    noted = law.noted;
+    away = λ w q is e z. away r some none w q is e z;
+    user_past = λ w q is. past w (law.user_past w q is);
+    place_past = λ w q is. past q (law.place_past w q is);
+  }
+    where
+      away : (o : Option R) → IfSome o (OneChanges (HasEntry s.cores) (HasEntry cores) Makes p) → IfNone o (IsMissingIn s.cores p × (cores ≡ s.cores))
+          → (w q : EntryId) → with_id s.notes.places w ≡ Some q → (e : Entry T) → HasEntry cores w e → ⊥
+      away None x y w q is e z = let P : CoreRow T W → Type 0 = λ k. HasEntry k w e in law.away w q is e (subst P y.1 z)
+      away (Some a) x y w q is e z =
+          ⊎_elim
+          (λ (same : w ≡ p). let P : EntryId → Type 0 = λ k. HasEntry s.cores k x.entry in law.away w q is x.entry (subst P (sym same) x.was))
+          (λ (ne : w ≢ p). law.away w q is e (x.others.1 w e ne z))
+          (one_or_two w p)
+
+  pub changes_for : ChangesFor Makes s u r (stored cores s.notes)
+  changes_for = by_answer r some none
+    where
+      named : user_at s.notes p ≡ u
+      named = place_is s.notes u p law.noted at
+
+      far : (o q : EntryId) → o ≢ u → user_at s.notes q ≡ o → q ≢ p
+      far o q ne of same = let P : EntryId → Type 0 = λ k. user_at s.notes k ≡ o in ne (sym (subst P same of) ∙ named)
+
+      by_answer : (o : Option R) → IfSome o (OneChanges (HasEntry s.cores) (HasEntry cores) Makes p) → IfNone o (IsMissingIn s.cores p × (cores ≡ s.cores))
+          → ChangesFor Makes s u o (stored cores s.notes)
+      by_answer None x y = (
+        (λ e z. let there = stands_there s law u p at e z in
+            y.0 there.0 there.1 there.2 there.3.shard e there.3.linked there.3.born),
+        ap (λ k. stored k s.notes) y.1,
+      )
+      by_answer (Some a) x y = record {
+        entry = x.entry;
+        value = x.value;
+        was = (p, named, x.was);
+        made = x.made;
+        here = (p, named, x.here);
+        others = (
+          (λ o e ne z. (z.0, z.1, x.others.0 z.0 e (far o z.0 ne z.1) z.2)),
+          (λ o e ne z. (z.0, z.1, x.others.1 z.0 e (far o z.0 ne z.1) z.2)),
+        );
+      }
 
 -- why a core doesn't come in, once no note stands against it
 pub refused_for : {T W X : Type 0} (s : StoreState T W) (c : Core T W) (cores : CoreRow T W) (r : Result X (TakeError × Core T W)) → AllArePast s.notes c

@@ -14,6 +14,7 @@ use Rattle.dq_growing.specs.declared.cores.TakeError.TheVariants.{StillLinked, U
 use Rattle.dq_core.specs.Asides.{aside_at, with_aside}
 use Rattle.dq_core.specs.Folds.{IsFoldable}
 use Rattle.dq_core.specs.AtTheCall.{linked_in, HoldsValue}
+use Rattle.dq_core.specs.Readers.{TellsNext}
 use Rattle.dq_core.specs.Sweeps.{SweepsSome}
 use Rattle.dq_core.specs.declared.outcomes.Swept.{Swept}
 use Rattle.dq_core.specs.Calls.{IsMissing, Inserts}
@@ -145,6 +146,12 @@ module _ {T W : Type 0} where
   InsertsIn s v when r t =
       OnCoreAt s.opened (InsertsBeside v when r) s t
       ⊎ (IsClosed s × (r ≡ (Err (closed_error when, v), None)) × (t ≡ s))
+
+  -- what the open core tells as the key of the next insert, none where no core is open
+  abbrev pub TellsNextIn : CoreRow T W → Option Key → Type 0
+  TellsNextIn s r =
+      ((c : Core T W) × IsCoreAt s.cores s.opened c × TellsNext c r)
+      ⊎ (IsClosed s × (r ≡ None))
 
   -- a core comes in with nothing linked, under a number that no core of the store has, and is open
   pub record TakesIn (s : CoreRow T W) (c : Core T W) (t : CoreRow T W) : Type 0 where

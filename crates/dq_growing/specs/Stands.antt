@@ -74,6 +74,17 @@ module _ {T : Type 0} (A B : EntryId → Entry T → Type 0) where
     pub here : B came (record { born = came.born; value = value; due = Some until })
     pub others : OthersStand left came
 
+-- one entry has another value, which a change made of the one that it had, and its deadline as
+-- before; every other stays
+pub record OneChanges {T R : Type 0} (A B : EntryId → Entry T → Type 0) (Makes : T → R → T → Type 0)
+    (id : EntryId) (answer : R) : Type 0 where
+  pub entry : Entry T
+  pub value : T
+  pub was : A id entry
+  pub made : Makes entry.value answer value
+  pub here : B id (record entry { value = value })
+  pub others : OthersStand A B id id
+
 -- each core has the words that it had, and what their keeper began stays begun
 abbrev pub KeepsWords : {T W O : Type 0} → (W → O) → (W → ℕ → ℕ → ℕ → Type 0) → CoreRow T W →
     CoreRow T W → Type 0

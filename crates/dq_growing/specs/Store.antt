@@ -15,6 +15,7 @@ use Rattle.dq_growing.specs.declared.moving.NextDeadline.{NextDeadline}
 use Rattle.dq_growing.specs.declared.moving.NextDeadline.TheVariants.{At}
 use Rattle.dq_core.specs.Calls.{Resets, TellsDeadline, FindRefused}
 use Rattle.dq_core.specs.Sweeps.{Reaps}
+use Rattle.dq_core.specs.Values.{ChangesValue}
 use Rattle.dq_core.specs.declared.errors.ReapError.{ReapError}
 use Rattle.dq_core.specs.declared.errors.ReapError.TheVariants.{Missing as NotThere}
 use Rattle.dq_core.specs.Core.{Core}
@@ -22,7 +23,7 @@ use Rattle.dq_core.specs.Machine.{Entry}
 use Rattle.dq_core.specs.Readers.{TellsLeast, TellsFirst}
 use Rattle.dq_growing.specs.Cores.{CoreRow, IsCoreAt, OnCoreOr, TakeRefused, missing_error}
 use Rattle.dq_growing.specs.Polls.{PollsRow, PeeksIn}
-use Rattle.dq_growing.specs.Stands.{HasEntry, IsPastIn, OneComes, OthersStand}
+use Rattle.dq_growing.specs.Stands.{HasEntry, IsPastIn, OneChanges, OneComes, OthersStand}
 use Rattle.dq_growing.specs.Moving.{IsTakenOut, IsBaseIn, Relocates}
 use Rattle.dq_growing.specs.Notes.{Book, AreNotes, AllArePast, SameNotes, LosesNote, IsNoted}
 use Rattle.dq_growing.specs.Notes.{with_id, user_at, meant_place}
@@ -124,6 +125,13 @@ module _ {T W : Type 0} where
   abbrev pub HasFor : StoreState T W → EntryId → T → Type 0
   HasFor s u v = (e : Entry T) × StandsFor s u e × (e.value ≡ v)
 
+  -- of the value of the entry that stands under a user's id a change made another, with that answer;
+  -- where none stands, no answer comes, and nothing changes
+  abbrev pub ChangesFor : {R : Type 0} → (T → R → T → Type 0) → StoreState T W → EntryId → Option R →
+      StoreState T W → Type 0
+  ChangesFor Makes s u None t = NoneStandsFor s u × (t ≡ s)
+  ChangesFor Makes s u (Some answer) t = OneChanges (StandsFor s) (StandsFor t) Makes u answer
+
   -- where an entry that stands under a user's id is; where there is no such place, none stands
   abbrev pub TellsPlaceFor : StoreState T W → EntryId → Option EntryId → Type 0
   TellsPlaceFor s u None = NoneStandsFor s u
@@ -165,6 +173,15 @@ module _ {T W : Type 0} where
       (λ b c. TellsDeadline shared b p r c) (r ≡ Err Missing) s.cores t.cores
       × (t.notes ≡ s.notes))
       ((r ≡ Err Missing) × (t ≡ s))
+
+  -- a change of a value by a user's id: that of the entry of the core at the place that the notes tell
+  abbrev pub ChangesThere : {R : Type 0} → (T → R → T → Type 0) → StoreState T W → EntryId → Option R →
+      StoreState T W → Type 0
+  ChangesThere Makes s u r t =
+      AtPlace s u
+      (λ p. OnCoreOr p.shard (λ b c. ChangesValue Makes b p r c) (r ≡ None) s.cores t.cores
+      × (t.notes ≡ s.notes))
+      ((r ≡ None) × (t ≡ s))
 
   -- an entry comes in under a key that none had, live until its deadline
   abbrev pub ComesFor : StoreState T W → Key → T → ℕ → StoreState T W → Type 0

@@ -5,12 +5,15 @@ ghost use Rattle.dq_core.specs.declared.errors.CoreError.TheVariants.{Missing, T
 ghost use Rattle.dq_core.specs.Core.{Core};
 ghost use Rattle.dq_core.specs.Calls.{IsMissing, Inserts, Removes, Resets, SameCore, TellsDeadline};
 ghost use Rattle.dq_core.specs.AtTheCall.{HoldsValue};
+ghost use Rattle.dq_core.specs.Values.{ChangesValue};
+ghost use Rattle.dq_ticks.specs.Keys.{EntryName};
+ghost use Rattle.std.specs.Fn.{FnOnceReturnsAtMut};
 ghost use Rattle.dq_core.specs.Words.{StillBegun};
-ghost use Rattle.dq_growing.specs.Stands.{IsThere, IsPastAt, IsPastIn, HasEntry, OneLeaves, SameStand, KeepsWords};
+ghost use Rattle.dq_growing.specs.Stands.{IsThere, IsPastAt, IsPastIn, HasEntry, OneChanges, OneLeaves, SameStand, KeepsWords};
 ghost use Rattle.dq_ticks.specs.declared.TheConstants.{LAST_TICK};
 ghost use Rattle.dq_growing.specs.declared.cores.TakeError.TheVariants.{NoMemory};
 ghost use Rattle.dq_core.specs.Folds.{IsFoldable};
-ghost use Rattle.dq_growing.specs.Cores.{MayComeIn, CoreRow, AreCores, IsCoreAt, HasAt, HasNo, OnCoreOr, HoldsIn, IsMissingIn, InsertsIn, TakesIn, TakeRefused, HasDrained, GivesDrained, NoneDrained, closed_error, missing_error, lowered_to, opened_without};
+ghost use Rattle.dq_growing.specs.Cores.{MayComeIn, CoreRow, AreCores, IsCoreAt, HasAt, HasNo, OnCoreOr, HoldsIn, IsMissingIn, InsertsIn, TellsNextIn, TakesIn, TakeRefused, HasDrained, GivesDrained, NoneDrained, closed_error, missing_error, lowered_to, opened_without};
 
 use dq_core::{CoreError, DelayCore, Removed, Words};
 use dq_ticks::{EntryId, Key, LAST_TICK};
@@ -316,6 +319,41 @@ impl<T, W: Words, A: Allocator> Cores<T, W, A> {
             return Err(CoreError::Missing);
         };
         let answer = self.cores[at].deadline(entry);
+        answer
+    }
+
+    /// Returns the key that the next insert gives, in the open core. It returns none if no core is open, or no slot of it
+    /// is left in which no value waits for its drop. Constant time.
+    pub fn next_key(&self) -> Option<Key>
+        ensures { TellsNextIn self.now result }
+    {
+        if self.opened >= self.cores.len() {
+            return None;
+        }
+        let key = self.cores[self.opened].next_key();
+        key
+    }
+
+    /// Calls a closure with the value of an entry, which it may change where it is, and returns what it returns. It
+    /// returns none, and doesn't call it, if the entry isn't in the store any more, or never was. A cancelled entry has
+    /// its value until it is freed.
+    pub fn with_value<R, F: FnOnce(&mut T) -> R>(&mut self, entry: &EntryId, call: F) -> Option<R>
+        requires { F.IsAlwaysCallable call }
+        // The entry has the value that the closure left, and its deadline as before; every other stays.
+        ensures changes { IfSome result
+            (OneChanges (HasEntry self.old) (HasEntry self.new) (FnOnceReturnsAtMut F.FnOnce call) entry.now) }
+        ensures past { (id : EntryName) → IsPastIn self.old id → IsPastIn self.new id }
+        ensures none { IfNone result (IsMissingIn self.old entry.now × (self.new ≡ self.old)) }
+
+        // Exactly: a change in the core of that number, and nothing else changes.
+        ensures exact { OnCoreOr entry.now.shard
+            (λ b c. ChangesValue (FnOnceReturnsAtMut F.FnOnce call) b entry.now result c)
+            (result ≡ None) self.old self.new }
+    {
+        let Some(at) = self.place_of(entry.shard()) else {
+            return None;
+        };
+        let answer = self.cores[at].with_value(entry, call);
         answer
     }
 

@@ -1,16 +1,17 @@
 //! Calls that read a store, and that keep it of the right size.
 
 ghost use Rattle.std.specs.Prelude.{◌≡◌, ◌+◌, true, false, ◌<◌, ◌≤◌, MatchOption, OnOk, length};
-ghost use Rattle.dq_growing.specs.Cores.{OnCoreAt, SweepsFrom};
+ghost use Rattle.std.specs.Fn.{FnOnceReturnsAtMut};
+ghost use Rattle.dq_growing.specs.Cores.{OnCoreAt, SweepsFrom, TellsNextIn};
 ghost use Rattle.dq_growing.specs.Notes.{HasNoteRoom, SameNotes, meant_place};
 ghost use Rattle.dq_growing.specs.Polls.{TakesAsideIn};
 ghost use Rattle.dq_growing.specs.Stands.{KeepsWords};
-ghost use Rattle.dq_growing.specs.Store.{HasFor, NoneStandsFor, TellsFirstIn, TellsFrom, TellsPlaceFor};
+ghost use Rattle.dq_growing.specs.Store.{ChangesFor, ChangesThere, HasFor, NoneStandsFor, TellsFirstIn, TellsFrom, TellsPlaceFor};
 
 use crate::cores::Cores;
 use crate::store::Store;
 use dq_core::{Swept, Words};
-use dq_ticks::EntryId;
+use dq_ticks::{EntryId, Key};
 use std::alloc::{AllocError, Allocator};
 
 impl<T, W: Words, A: Allocator + Clone> Store<T, W, A> {
@@ -49,6 +50,36 @@ impl<T, W: Words, A: Allocator + Clone> Store<T, W, A> {
         };
         core.law();
         core.get(&place)
+    }
+
+    /// Returns the key that the next insert gives. It returns none if no core is open, or no slot of the open one is left
+    /// in which no value waits for its drop. Constant time.
+    pub fn next_key(&self) -> Option<Key>
+        // It is what the open core tells: a new entry has no other id for its user.
+        ensures { TellsNextIn self.now.cores result }
+    {
+        let key = self.cores.next_key();
+        key
+    }
+
+    /// Calls a closure with the value of an entry, which it may change where it is, and returns what it returns. It
+    /// returns none, and doesn't call it, if the entry isn't in the store any more, or never was. A cancelled entry has
+    /// its value until it is freed.
+    pub fn with_value<R, F: FnOnce(&mut T) -> R>(&mut self, entry: &EntryId, call: F) -> Option<R>
+        requires { F.IsAlwaysCallable call }
+        // The entry has the value that the closure left, and its deadline as before; every other stays.
+        ensures changes { ChangesFor (FnOnceReturnsAtMut F.FnOnce call)
+            self.old entry.now result self.new }
+
+        // Exactly: a change at the place that the notes tell, and nothing else changes.
+        ensures exact { ChangesThere (FnOnceReturnsAtMut F.FnOnce call)
+            self.old entry.now result self.new }
+    {
+        let Some(place) = self.notes.place(entry) else {
+            return None;
+        };
+        let answer = self.cores.with_value(&place, call);
+        answer
     }
 
     /// Returns the id of the entry that is scheduled first in the core at a place, possibly a cancelled one. It returns

@@ -1,4 +1,4 @@
-//! The live entries of a queue, one after the other, and the value of one of them.
+//! The live entries of a queue, one after the other, and the value of one of them, to be read or changed.
 
 use crate::core::queue::DelayCore;
 use crate::core::vec_words::VecWords;
@@ -39,6 +39,16 @@ impl<T, W: Words> DelayCore<T, W> {
         let index = self.find(entry)?;
         let held = self.slots.held(index)?;
         Some(held.1)
+    }
+
+    /// Calls a closure with the value of an entry, which it may change where it is, and returns what it returns. It
+    /// returns none, and doesn't call it, if the entry isn't in the queue any more, or never was. A cancelled entry has
+    /// its value until it is freed.
+    pub fn with_value<R, F: FnOnce(&mut T) -> R>(&mut self, entry: &EntryId, call: F) -> Option<R> {
+        // requires F.IsAlwaysCallable call
+        let index = self.find(entry)?;
+        let answer = self.slots.with_value(index, call);
+        Some(answer)
     }
 }
 

@@ -102,6 +102,16 @@ fn clear_bit(bits: &mut [u64], summary: &mut Summary, index: usize) {
     }
 }
 
+// The index of the lowest bit of a word that isn't 0.
+#[inline]
+fn lowest_bit(bits: &[u64], word: usize) -> usize {
+    // requires word < length bits.now
+    // requires length bits.now ≤ 1024
+    // requires 0 < slice_index bits.now word
+    let held = *nth(bits, word);
+    BITS * word + held.trailing_zeros() as usize
+}
+
 // Clears the lowest bit of a word that isn't 0, and the word's bit in the summary where it was its only one.
 #[inline]
 fn take_bit(bits: &mut [u64], summary: &mut Summary, word: usize) -> usize {
@@ -154,6 +164,16 @@ impl FreeSlots {
         } else {
             self.set(index);
         }
+    }
+
+    /// The index that the next fill takes, where one is free.
+    #[inline]
+    pub fn next(&self) -> Option<usize> {
+        if let Some(top) = self.recent.last() {
+            return Some(*top as usize);
+        }
+        let word = filled_word(&self.bits, &self.summary, self.current)?;
+        Some(lowest_bit(&self.bits, word))
     }
 
     /// Takes the index of the next fill: a free one, and only where none is free one whose value waits for its drop.

@@ -64,6 +64,14 @@ impl<T, W: Words> DelayCore<T, W> {
         None
     }
 
+    /// Returns the key that the next insert gives. It returns none if no slot is left in which no value waits for its
+    /// drop. Constant time.
+    pub fn next_key(&self) -> Option<Key> {
+        let index = self.slots.next()?;
+        let born = self.slots.stamp(index) + 1;
+        Some(Key::new(EntryId::new(self.shard, index as u32, born), born))
+    }
+
     // The stamp of a slot, 0 past the last one.
     fn stamp_at(&self, index: usize) -> u32 {
         if index >= self.slots.capacity() {

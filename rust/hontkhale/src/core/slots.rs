@@ -121,6 +121,17 @@ impl<T> Cell<T> {
         self.value.take()
     }
 
+    // What a closure makes of the value that it holds.
+    #[inline]
+    fn with_value<R, F: FnOnce(&mut T) -> R>(&mut self, call: F) -> R {
+        // requires is_held self.old.row ≡ true
+        // requires F.IsAlwaysCallable call
+        match &mut self.value {
+            Some(value) => call(value),
+            None => unreachable!(),
+        }
+    }
+
     // As if it had never been used; but what was set aside stays.
     fn forget(&mut self) {
         self.stamp = 0;
@@ -349,6 +360,12 @@ impl<T> Slots<T> {
         cell.held()
     }
 
+    /// The slot that the next fill takes, where one is free in which no value waits.
+    #[inline]
+    pub fn next(&self) -> Option<usize> {
+        self.free.next()
+    }
+
     /// Puts a value into a free slot, under that slot's next stamp, and returns its index. Where a value waits in each
     /// of the free slots it returns the one that waited there too. It hands the value back where no slot is free.
     #[inline(always)]
@@ -431,6 +448,15 @@ impl<T> Slots<T> {
             return None;
         }
         self.take_from_next()
+    }
+
+    /// What a closure makes of the value that a slot holds, and may change there.
+    #[inline]
+    pub fn with_value<R, F: FnOnce(&mut T) -> R>(&mut self, index: usize, call: F) -> R {
+        // requires is_held (row_at self.old.rows index) ≡ true
+        // requires F.IsAlwaysCallable call
+        let cell = nth_mut(&mut self.cells, index);
+        cell.with_value(call)
     }
 
     /// Gives what a slot holds its next stamp.

@@ -159,7 +159,9 @@ impl<T> ShardStore<T> {
         let (next, queue) = (self.named(&next), self.queue as usize);
         let value = lend(self, queue, |_| make(next));
         let key = self.insert(value, tick);
-        assert!(next == key, "an insert takes the slot that was freed last");
+        // The contracts say that an insert may give that key. Which one it gives of several is the order of the free slots,
+        // of which no contract speaks.
+        assert!(next == key, "an insert takes the slot that is told as the next");
         key
     }
 
@@ -302,8 +304,8 @@ impl<T> ShardStore<T> {
     pub fn with_value<R>(&mut self, key: &Key, call: impl FnOnce(&mut T) -> R) -> Result<R, KeyError> {
         let (entry, queue) = (key.entry(), self.queue as usize);
         self.store.deadline(&entry).map_err(refused)?;
-        let value = |store: &mut ShardStore<T>| call(store.store.get_mut(&entry).expect("a live entry"));
-        Ok(lend(self, queue, value))
+        let made = lend(self, queue, |shard| shard.store.with_value(&entry, call));
+        Ok(made.expect("a live entry"))
     }
 }
 

@@ -200,6 +200,24 @@ impl<T, W: Words> Cores<T, W> {
         nth_mut(&mut self.cores, at).deadline(entry)
     }
 
+    /// Returns the key that the next insert gives, in the open core. It returns none if no core is open, or no slot of it
+    /// is left in which no value waits for its drop. Constant time.
+    pub fn next_key(&self) -> Option<Key> {
+        if self.opened >= self.cores.len() {
+            return None;
+        }
+        nth(&self.cores, self.opened).next_key()
+    }
+
+    /// Calls a closure with the value of an entry, which it may change where it is, and returns what it returns. It
+    /// returns none, and doesn't call it, if the entry isn't in the store any more, or never was. A cancelled entry has
+    /// its value until it is freed.
+    pub fn with_value<R, F: FnOnce(&mut T) -> R>(&mut self, entry: &EntryId, call: F) -> Option<R> {
+        // requires F.IsAlwaysCallable call
+        let at = self.place_of(entry.shard())?;
+        nth_mut(&mut self.cores, at).with_value(entry, call)
+    }
+
     /// Puts `value` into the open core, to come out at the tick `when` of one millisecond, and returns its key. No value
     /// is dropped: one that waits for its drop in the slot that the entry takes comes out beside the key. Constant time,
     /// and no memory is taken.

@@ -4,7 +4,7 @@ use crate::core::{Swept, Words};
 use crate::growing::cores::Cores;
 use crate::growing::store::Store;
 use crate::memory::AllocError;
-use crate::ticks::EntryId;
+use crate::ticks::{EntryId, Key};
 
 impl<T, W: Words> Store<T, W> {
     /// Returns the cores, to be read.
@@ -26,6 +26,21 @@ impl<T, W: Words> Store<T, W> {
         let place = self.notes.place(entry)?;
         let core = self.cores.of(&place)?;
         core.get(&place)
+    }
+
+    /// Returns the key that the next insert gives. It returns none if no core is open, or no slot of the open one is left
+    /// in which no value waits for its drop. Constant time.
+    pub fn next_key(&self) -> Option<Key> {
+        self.cores.next_key()
+    }
+
+    /// Calls a closure with the value of an entry, which it may change where it is, and returns what it returns. It
+    /// returns none, and doesn't call it, if the entry isn't in the store any more, or never was. A cancelled entry has
+    /// its value until it is freed.
+    pub fn with_value<R, F: FnOnce(&mut T) -> R>(&mut self, entry: &EntryId, call: F) -> Option<R> {
+        // requires F.IsAlwaysCallable call
+        let place = self.notes.place(entry)?;
+        self.cores.with_value(&place, call)
     }
 
     /// Returns the id of the entry that is scheduled first in the core at a place, possibly a cancelled one. It returns

@@ -37,6 +37,7 @@ const STORE_CALLS: Calls<store::Run> = &[
     (14, store::Run::reset),
     (10, store::Run::relocate),
     (4, store::Run::deadline),
+    (6, store::Run::with_value),
     (12, store::Run::step),
     (4, store::Run::reap),
     (14, store::Run::poll),
@@ -76,7 +77,7 @@ fn drawn_calls_of_a_row_answer_as_the_model_does() {
     }
 }
 
-// promise: growing.by-id growing.notes growing.upkeep
+// promise: core.next-key growing.by-id growing.notes growing.upkeep
 #[test]
 fn drawn_calls_of_a_store_answer_as_the_model_does() {
     for round in 0..calls().div_ceil(ROUND) {

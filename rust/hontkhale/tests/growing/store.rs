@@ -7,6 +7,7 @@ use hontkhale::parts::owner::{
     CoreConfig, CoreError, DelayCore, EntryId, Expired, Keeper, Key, OpenWords, Piece, ReapError, Turn, LAST_TICK,
 };
 use std::collections::{BTreeMap, BTreeSet};
+use std::mem::replace;
 
 /// What is known of an entry that is in the store.
 #[derive(Clone, Copy)]
@@ -144,10 +145,12 @@ impl Run {
             true => Some(CoreError::TooFar { limit: LAST_TICK }),
             false => self.is_full(),
         };
+        let next = self.store.next_key();
         let (answer, beside) = self.store.insert(self.living.value(self.values), when);
         match answer {
             Ok(key) => {
                 assert_eq!(known, None);
+                assert_eq!(next, beside.is_none().then_some(key));
                 let is_new = !self.given.contains(&key.entry());
                 assert!(is_new && self.entries.values().all(|it| it.place != key.entry()));
                 self.given.push(key.entry());
@@ -249,11 +252,27 @@ impl Run {
     }
 
     pub fn deadline(&mut self) {
-        let Some(entry) = self.id() else { return };
+        if let Some(entry) = self.id() {
+            self.deadline_of(entry);
+        }
+    }
+
+    fn deadline_of(&mut self, entry: EntryId) {
         let known = self.live(&entry).map(|it| it.1);
         assert_eq!(self.store.deadline(&entry), known);
         let value = self.entries.get(&id_of(&entry)).map(|it| it.value);
         assert_eq!(self.store.get(&entry).map(Value::number), value);
+    }
+
+    /// A change of an entry's value where it is.
+    pub fn with_value(&mut self) {
+        let Some(entry) = self.id() else { return };
+        self.values += 1;
+        let next = self.living.value(self.values);
+        let was = self.store.with_value(&entry, |value| replace(value, next).number());
+        let known = self.entries.get_mut(&id_of(&entry));
+        assert_eq!(was, known.map(|it| replace(&mut it.value, self.values)));
+        self.deadline_of(entry);
     }
 
     /// An extend or a cancel at the entry's place.

@@ -88,6 +88,22 @@ fn values_come_out_as_they_went_in() {
     assert!(outs.into_iter().eq((0..64).rev().map(|entry| format!("entry {entry}"))));
 }
 
+/// That of a live entry and of a cancelled one; for none that left the closure is called.
+// promise: entries.with-value
+#[test]
+fn values_are_changed_where_they_are() {
+    let mut queue = DelayCore::with_capacity(2).unwrap();
+    let keys = [10, 20].map(|when| queue.insert_or_drop(when, when).unwrap());
+    queue.cancel(&keys[1]).unwrap();
+    for (key, when) in keys.iter().zip([10, 20]) {
+        let was = queue.with_value(&key.entry(), |value| mem::replace(value, when + 1));
+        assert_eq!((was, queue.get(&key.entry())), (Some(when), Some(&(when + 1))));
+    }
+    assert_eq!((queue.deadline(&keys[0].entry()), queue.sweep()), (Ok(10), 1));
+    assert_eq!(queue.with_value(&keys[1].entry(), |_| unreachable!()), None::<()>);
+    assert!(matches!(queue.poll(10), Ok(Turn::Out(out)) if (out.key, out.value) == (keys[0], 11)));
+}
+
 fn goes_through<T: Clone + PartialEq + Debug>(value: T) {
     let mut queue = DelayCore::with_capacity(100).unwrap();
     for round in 0..3 {
