@@ -7,7 +7,7 @@ ASSIGNS = {"=", "+=", "-=", "|=", "&=", "^="}
 READS = {"aside", "cancels", "capacity", "is_some", "law", "lock", "next_key", "number", "peek", "shard"}
 CHANGES = {
     "cancel", "clear_deferring", "deadline", "extend", "insert_deferring", "look",
-    "poll_deferring", "poll_some_deferring", "reap_deferring", "remove", "reset", "sweep_some_deferring", "take_aside",
+    "poll_deferring", "poll_some_deferring", "reap_deferring", "remove", "reset", "sweep_some_deferring", "take", "take_aside",
     "with_value",
 }
 

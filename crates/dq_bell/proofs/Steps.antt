@@ -1,5 +1,5 @@
 -- Each step keeps the rule.
-use Rattle.std.proofs.Common.{◌≡◌, ◌≢◌, ◌⊎◌, ℕ, zero, suc, ◌+◌, ◌<◌, ◌≤◌, List, [], ◌∷◌, ◌++◌, length, get_or, set, replicate, true, false, true≢false, refl, sym, ap, ◌∙◌, subst, inl, inr, ⊎_elim, arith}
+use Rattle.std.proofs.Common.{◌≡◌, ◌≢◌, ◌⊎◌, ℕ, zero, suc, ◌+◌, ◌*◌, ◌<◌, ◌≤◌, List, [], ◌∷◌, ◌++◌, length, get_or, set, replicate, true, false, true≢false, refl, sym, ap, ◌∙◌, subst, inl, inr, ⊎_elim, arith}
 use Rattle.std.proofs.lemmas.List.{get_or-set_same, get_or-set_other, set-get_or, length-set, length-replicate, get_or-replicate}
 use mathlib.Core.Option.{some, none, some-ne-none, some-injective}
 use mathlib.Core.Logic.{dite}
@@ -89,22 +89,22 @@ module _ (views : List SeatView) (id : ℕ) (v w : SeatView) (at : get_elem? vie
 
 -- steps of a keeper
 module _ (key slots id : ℕ) (v : SeatView) (c : List (ℕ × ℕ)) (keeper : v.writes ≡ true) (plain : v.leads ≡ false) where
-  pub lowers_ok : (p h : ℕ) → v.place ≡ p → Allows (IsBell key) slots id (v, c) (p + 1) (λ _. h) (λ _. lowers (step slots (p + 1) h 0 none) (v, c) h)
+  pub lowers_ok : (p h : ℕ) → v.place ≡ p → Allows (IsBell key) slots id (v, c) ((p + 1) * 16) (λ _. h) (λ _. lowers (step slots ((p + 1) * 16) h 0 none) (v, c) h)
   lowers_ok p h is s k sized at wide =
       let w = having_written v h in
-      let ws = set s.words (p + 1) h in
+      let ws = set s.words ((p + 1) * 16) h in
       let vs = set s.views id w in
       let mine = (k.each id v at).hint keeper in
-      let inside : p + 1 < length s.words = let a = mine.0 in let b = k.size in omega arith in
+      let inside : (p + 1) * 16 < length s.words = let a = mine.0 in let b = k.size in omega arith in
       let own : IsSeat key ws vs w = record {
-        hint = λ _. (mine.0, let P : ℕ → Type 0 = λ q. get_or ws (q + 1) 0 ≡ h in subst P (sym is) (get_or-set_same s.words (p + 1) h 0 inside));
+        hint = λ _. (mine.0, let P : ℕ → Type 0 = λ q. get_or ws ((q + 1) * 16) 0 ≡ h in subst P (sym is) (get_or-set_same s.words ((p + 1) * 16) h 0 inside));
         lead = λ y. absurd (off (sym plain ∙ y));
       } in (
         w,
         keeps,
         tt,
         record {
-          size = length-set s.words (p + 1) h ∙ k.size;
+          size = length-set s.words ((p + 1) * 16) h ∙ k.size;
           writers = apart_on s.views id v w at refl refl k.writers;
           leader = one_on s.views id v w at refl refl refl k.leader;
           each = each_on s.views id v w at refl refl key ws own (others s k at);
@@ -112,27 +112,27 @@ module _ (key slots id : ℕ) (v : SeatView) (c : List (ℕ × ℕ)) (keeper : v
         refl,
       )
     where
-      others : (s : State ℕ SeatView) → IsBell key s → get_elem? s.views id ≡ some v → (j : ℕ) (u : SeatView) → j ≢ id → get_elem? s.views j ≡ some u → IsSeat key (set s.words (p + 1) h) (set s.views id (having_written v h)) u
+      others : (s : State ℕ SeatView) → IsBell key s → get_elem? s.views id ≡ some v → (j : ℕ) (u : SeatView) → j ≢ id → get_elem? s.views j ≡ some u → IsSeat key (set s.words ((p + 1) * 16) h) (set s.views id (having_written v h)) u
       others s k at j u ne e =
           let w = having_written v h in
-          let ws = set s.words (p + 1) h in
+          let ws = set s.words ((p + 1) * 16) h in
           let f = k.each j u e in
-          let front : armed_until ws ≡ armed_until s.words = get_or-set_other s.words (p + 1) 0 h 0 (λ q. omega arith) in record {
-            hint = λ y. let b = f.hint y in (b.0, get_or-set_other s.words (p + 1) (u.place + 1) h 0 (λ q. ne (k.writers j id u v e at y keeper (omega arith))) ∙ b.1);
+          let front : armed_until ws ≡ armed_until s.words = get_or-set_other s.words ((p + 1) * 16) 0 h 0 (λ q. omega arith) in record {
+            hint = λ y. let b = f.hint y in (b.0, get_or-set_other s.words ((p + 1) * 16) ((u.place + 1) * 16) h 0 (λ q. ne (k.writers j id u v e at y keeper (omega arith))) ∙ b.1);
             lead = λ y. let l = f.lead y in record {
               seen = l.seen;
               wakes = ⊎_elim (λ z. inl (front ∙ z)) (λ z. inr (front ∙ z.0, λ q lt. heed s at u q (z.1 q lt))) l.wakes;
               dealt = dealt_on s.views id v w at refl refl u.dealt l.dealt;
-              fresh = λ q ge lt. get_or-set_other s.words (p + 1) (q + 1) h 0 (λ x. let d = l.dealt id v at keeper in omega arith) ∙ l.fresh q ge lt;
+              fresh = λ q ge lt. get_or-set_other s.words ((p + 1) * 16) ((q + 1) * 16) h 0 (λ x. let d = l.dealt id v at keeper in omega arith) ∙ l.fresh q ge lt;
             };
           }
         where
-          heed : (s : State ℕ SeatView) → get_elem? s.views id ≡ some v → (u : SeatView) (q : ℕ) → IsHeeded s.words s.views u.until q → IsHeeded (set s.words (p + 1) h) (set s.views id (having_written v h)) u.until q
+          heed : (s : State ℕ SeatView) → get_elem? s.views id ≡ some v → (u : SeatView) (q : ℕ) → IsHeeded s.words s.views u.until q → IsHeeded (set s.words ((p + 1) * 16) h) (set s.views id (having_written v h)) u.until q
           heed s at u q was =
               dite (ℕ_discrete q p)
               (λ x. inr (id, having_written v h, there s.views id (having_written v h) v at, keeper, refl, is ∙ sym x))
               (λ n. ⊎_elim
-              (λ le. inl (let same = get_or-set_other s.words (p + 1) (q + 1) h 0 (λ x. n (omega arith)) in omega arith))
+              (λ le. inl (let same = get_or-set_other s.words ((p + 1) * 16) ((q + 1) * 16) h 0 (λ x. n (omega arith)) in omega arith))
               (λ o. inr (owed_on s.views id v (having_written v h) at refl refl (λ _. refl) q o))
               was)
 
@@ -199,7 +199,7 @@ module _ (key slots id : ℕ) (v : SeatView) (c : List (ℕ × ℕ)) (keeper : v
       let inside : 0 < length s.words = let b = k.size in omega arith in
       let rung : armed_until ws ≡ 0 = get_or-set_same s.words 0 0 0 inside in
       let own : IsSeat key ws (set s.views id w) w = record {
-        hint = λ _. (mine.0, get_or-set_other s.words 0 (v.place + 1) 0 0 (λ q. omega arith) ∙ mine.1);
+        hint = λ _. (mine.0, get_or-set_other s.words 0 ((v.place + 1) * 16) 0 0 (λ q. omega arith) ∙ mine.1);
         lead = λ y. absurd (off (sym plain ∙ y));
       } in (
         w,
@@ -210,12 +210,12 @@ module _ (key slots id : ℕ) (v : SeatView) (c : List (ℕ × ℕ)) (keeper : v
           writers = apart_on s.views id v w at refl refl k.writers;
           leader = one_on s.views id v w at refl refl refl k.leader;
           each = each_on s.views id v w at refl refl key ws own (λ j u ne e. let f = k.each j u e in record {
-            hint = λ y. let b = f.hint y in (b.0, get_or-set_other s.words 0 (u.place + 1) 0 0 (λ q. omega arith) ∙ b.1);
+            hint = λ y. let b = f.hint y in (b.0, get_or-set_other s.words 0 ((u.place + 1) * 16) 0 0 (λ q. omega arith) ∙ b.1);
             lead = λ y. let l = f.lead y in record {
               seen = l.seen;
               wakes = inl rung;
               dealt = dealt_on s.views id v w at refl refl u.dealt l.dealt;
-              fresh = λ q ge lt. get_or-set_other s.words 0 (q + 1) 0 0 (λ x. omega arith) ∙ l.fresh q ge lt;
+              fresh = λ q ge lt. get_or-set_other s.words 0 ((q + 1) * 16) 0 0 (λ x. omega arith) ∙ l.fresh q ge lt;
             };
           });
         },
@@ -236,7 +236,7 @@ module _ (key slots id : ℕ) (v : SeatView) (c : List (ℕ × ℕ)) (leads : v.
           seen = omega arith;
           wakes = inr (get_or-set_same s.words 0 until 0 inside, λ q lt. absurd (omega arith));
           dealt = dealt_on s.views id v w at refl refl v.dealt l.dealt;
-          fresh = λ q ge lt. get_or-set_other s.words 0 (q + 1) until 0 (λ x. omega arith) ∙ l.fresh q ge lt;
+          fresh = λ q ge lt. get_or-set_other s.words 0 ((q + 1) * 16) until 0 (λ x. omega arith) ∙ l.fresh q ge lt;
         };
       } in (
         w,
@@ -247,7 +247,7 @@ module _ (key slots id : ℕ) (v : SeatView) (c : List (ℕ × ℕ)) (leads : v.
           writers = apart_on s.views id v w at refl refl k.writers;
           leader = one_on s.views id v w at refl refl refl k.leader;
           each = each_on s.views id v w at refl refl key ws own (λ j u ne e. let f = k.each j u e in record {
-            hint = λ y. let b = f.hint y in (b.0, get_or-set_other s.words 0 (u.place + 1) until 0 (λ q. omega arith) ∙ b.1);
+            hint = λ y. let b = f.hint y in (b.0, get_or-set_other s.words 0 ((u.place + 1) * 16) until 0 (λ q. omega arith) ∙ b.1);
             lead = λ y. absurd (ne (k.leader j id u v e at y leads));
           });
         },
@@ -278,10 +278,10 @@ module _ (key slots id : ℕ) (v : SeatView) (c : List (ℕ × ℕ)) (leads : v.
         });
       }
 
-  pub looks_ok : (i : ℕ) → i ≡ v.seen → i < key → Allows (IsBell key) slots id (v, c) (i + 1) (λ n. n) (looks (step slots (i + 1) 0 0 none) (v, c))
+  pub looks_ok : (i : ℕ) → i ≡ v.seen → i < key → Allows (IsBell key) slots id (v, c) ((i + 1) * 16) (λ n. n) (looks (step slots ((i + 1) * 16) 0 0 none) (v, c))
   looks_ok i is small s k sized at wide =
-      let a : ℕ = get_or s.words (i + 1) 0 in
-      let stays = set-get_or s.words (i + 1) 0 in
+      let a : ℕ = get_or s.words ((i + 1) * 16) 0 in
+      let stays = set-get_or s.words ((i + 1) * 16) 0 in
       let l = (k.each id v at).lead leads in
       dite (dec_le v.until a)
       (λ le. (
@@ -301,7 +301,7 @@ module _ (key slots id : ℕ) (v : SeatView) (c : List (ℕ × ℕ)) (leads : v.
         ((λ le. absurd (no le)), (λ _. refl)),
       ))
     where
-      seen : (s : State ℕ SeatView) → get_elem? s.views id ≡ some v → v.until ≤ get_or s.words (i + 1) 0 → WakesInTime s.words s.views v → WakesInTime s.words (set s.views id (having_seen v)) (having_seen v)
+      seen : (s : State ℕ SeatView) → get_elem? s.views id ≡ some v → v.until ≤ get_or s.words ((i + 1) * 16) 0 → WakesInTime s.words s.views v → WakesInTime s.words (set s.views id (having_seen v)) (having_seen v)
       seen s at le heeds =
           ⊎_elim inl (λ z. inr (
             z.0,
@@ -372,20 +372,20 @@ module _ (key id : ℕ) (v : SeatView) (leads : v.leads ≡ true) (plain : v.wri
       }
 
 -- the start
-pub opens : (n : ℕ) (ws : List ℕ) → ws ≡ set (replicate (n + 1) NEVER) 0 0 → IsBell n (opening ws [] first_leader)
+pub opens : (n : ℕ) (ws : List ℕ) → ws ≡ set (replicate (n * 16 + 1) NEVER) 0 0 → IsBell n (opening ws [] first_leader)
 opens n ws is =
     let P : List ℕ → Type 0 = λ l. IsBell n (opening l [] first_leader) in
     subst P (sym is) (record {
-      size = length-set (replicate (n + 1) NEVER) 0 0 ∙ length-replicate (n + 1) NEVER;
+      size = length-set (replicate (n * 16 + 1) NEVER) 0 0 ∙ length-replicate (n * 16 + 1) NEVER;
       writers = λ j k x y ej ek hx hy q. absurd (off (ap (λ (z : SeatView). z.writes) (only j x ej) ∙ hx));
       leader = λ j k x y ej ek hx hy. at_0 j x ej ∙ sym (at_0 k y ek);
-      each = λ j v e. let Q : SeatView → Type 0 = λ u. IsSeat n (set (replicate (n + 1) NEVER) 0 0) (first_leader ∷ []) u in subst Q (only j v e) (record {
+      each = λ j v e. let Q : SeatView → Type 0 = λ u. IsSeat n (set (replicate (n * 16 + 1) NEVER) 0 0) (first_leader ∷ []) u in subst Q (only j v e) (record {
         hint = λ y. absurd (off y);
         lead = λ _. record {
           seen = omega arith;
-          wakes = inl (get_or-set_same (replicate (n + 1) NEVER) 0 0 0 (let a = length-replicate (n + 1) NEVER in omega arith));
+          wakes = inl (get_or-set_same (replicate (n * 16 + 1) NEVER) 0 0 0 (let a = length-replicate (n * 16 + 1) NEVER in omega arith));
           dealt = λ i u e' y. absurd (off (ap (λ (z : SeatView). z.writes) (only i u e') ∙ y));
-          fresh = λ q ge lt. get_or-set_other (replicate (n + 1) NEVER) 0 (q + 1) 0 0 (λ z. omega arith) ∙ get_or-replicate (n + 1) (q + 1) NEVER 0 (omega arith);
+          fresh = λ q ge lt. get_or-set_other (replicate (n * 16 + 1) NEVER) 0 ((q + 1) * 16) 0 0 (λ z. omega arith) ∙ get_or-replicate (n * 16 + 1) ((q + 1) * 16) NEVER 0 (omega arith);
         };
       });
     })

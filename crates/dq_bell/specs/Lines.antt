@@ -29,6 +29,10 @@ abbrev pub OthersSleepOn : List Bool → ℕ → List Bool → Type 0
 OthersSleepOn old i new =
     (j : ℕ) → j ≢ i → slice_index_or new j false ≡ slice_index_or old j false
 
+-- One was called: one index that slept is awake, and every other one sleeps on as it did.
+abbrev pub CallsOne : List Bool → List Bool → Type 0
+CallsOne old new = (i : ℕ) × SleepsAt old i × IsAwakeAt new i × OthersSleepOn old i new
+
 -- it has looked at all hints since it said until when it sleeps
 abbrev pub HasLooked : LeaderSeat → Type 0
 HasLooked s = s.seen ≡ s.places
@@ -130,9 +134,12 @@ pub record HearsRung (old : LineState) (rung called : Bool) (new : LineState) : 
   pub leader : rung ≡ true → (f : ℕ) → first_in old.roll ≡ Some f →
       IsCalled old f new × (called ≡ slice_index_or old.sleeps f false)
 
--- It is closed for good. Once nobody is called any more, nobody sleeps.
+-- It is closed for good. One that slept was called; where nobody was, nobody slept, and nobody
+-- sleeps. So each that slept is called once until nobody is.
 pub record ClosesLine (old : LineState) (called : Bool) (new : LineState) : Type 0 where
   pub leader : new.leader ≡ old.leader
   pub roll : new.roll ≡ old.roll
   pub closed : new.closer.is_closed ≡ true
+  pub one : called ≡ true → CallsOne old.sleeps new.sleeps
+  pub nobody : called ≡ false → (i : ℕ) → IsAwakeAt old.sleeps i
   pub all : called ≡ false → (i : ℕ) → IsAwakeAt new.sleeps i

@@ -1,6 +1,6 @@
 -- The rule over the words and over what all seats know.
 
-use Rattle.std.specs.Prelude.{◌≡◌, ℕ, ◌+◌, ◌<◌, ◌≤◌, ◌⊎◌, List, true, length}
+use Rattle.std.specs.Prelude.{◌≡◌, ℕ, ◌+◌, ◌*◌, ◌<◌, ◌≤◌, ◌⊎◌, List, true, length}
 use Rattle.std.specs.Prelude.{slice_index}
 use mathlib.Core.Option.{some}
 use lib.ListN.{get_elem?}
@@ -12,9 +12,9 @@ use Rattle.dq_bell.specs.declared.rule.SeatView.{SeatView}
 abbrev pub armed_until : List ℕ → ℕ
 armed_until ws = slice_index ws 0
 
--- the hint of a place
+-- the hint of a place: each stands 16 words behind the one before, so that no cache line has two
 abbrev pub hint_at : List ℕ → ℕ → ℕ
-hint_at ws p = slice_index ws (p + 1)
+hint_at ws p = slice_index ws ((p + 1) * 16)
 
 -- who wrote the place's hint is awake, and has yet to ask until when the leader sleeps
 abbrev pub IsYetToAsk : List SeatView → ℕ → Type 0
@@ -59,7 +59,7 @@ OneLeads views =
 
 -- the rule of a bell of n places
 pub record IsBell (n : ℕ) (t : State ℕ SeatView) : Type 0 where
-  pub size : length t.words ≡ n + 1
+  pub size : length t.words ≡ n * 16 + 1
   pub writers : OneWrites t.views
   pub leader : OneLeads t.views
   pub each : (j : ℕ) (v : SeatView) → get_elem? t.views j ≡ some v → IsSeat n t.words t.views v

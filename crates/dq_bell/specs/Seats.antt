@@ -1,6 +1,6 @@
 -- Seats as contracts see them.
 
-use Rattle.std.specs.Prelude.{◌≡◌, ℕ, ◌+◌, Bool, true, false}
+use Rattle.std.specs.Prelude.{◌≡◌, ℕ, ◌+◌, ◌*◌, ◌<◌, Bool, true, false}
 use Rattle.atomic_table.specs.Seated.{TableId}
 use Rattle.dq_bell.specs.declared.TheConstants.{NEVER}
 use Rattle.dq_bell.specs.declared.rung.Rung.{Rung}
@@ -41,7 +41,8 @@ pub record LeaderSeat : Type 0 where
 
 -- the seat of a table sits at this one, of a bell of so many places
 abbrev pub IsSeatOf : TableId → TableId → ℕ → ℕ → Type 0
-IsSeatOf sits table key places = (sits ≡ table) × (table.words ≡ places + 1) × (key ≡ places)
+IsSeatOf sits table key places =
+    (sits ≡ table) × (table.words ≡ places * 16 + 1) × (key ≡ places) × (places < 65536)
 
 -- the same place of the same bell
 abbrev pub SamePlace : HintSeat → HintSeat → Type 0

@@ -2,6 +2,7 @@
 ghost use Rattle.std.specs.Prelude.{◌≡◌, ℕ, ◌+◌, ◌<◌, ◌≤◌, true, false};
 ghost use Rattle.dq_bell.specs.Seats.{SamePlace, RungOnce};
 
+use crate::APART;
 use crate::rule::{Asks, BellSeat, BellTable, Lowers, Rings};
 use crate::rung::Rung;
 use std::alloc::{Allocator, Global};
@@ -43,6 +44,7 @@ impl<A: Allocator> Model for Hint<A> {
 
 impl<A: Allocator> Hint<A> {
     /// The hint.
+    #[inline(always)]
     pub fn tick(&self) -> u64
         ensures { result ≡ self.now.tick }
     {
@@ -50,6 +52,7 @@ impl<A: Allocator> Hint<A> {
     }
 
     /// Writes the hint, and then asks until when the leader sleeps. Rings it where it sleeps beyond the hint.
+    #[inline]
     pub fn set(&mut self, tick: u64) -> Rung
         ensures written { self.new.tick ≡ tick }
         ensures rung { RungOnce self.old self.new result }
@@ -57,7 +60,7 @@ impl<A: Allocator> Hint<A> {
     {
         self.table
             .shared
-            .store::<Lowers>(&mut self.seat, self.place + 1, tick);
+            .store::<Lowers>(&mut self.seat, (self.place + 1) * APART, tick);
         self.tick = tick;
         let until = self.table.shared.load::<Asks>(&mut self.seat, 0);
         if until <= tick {

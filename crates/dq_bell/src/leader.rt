@@ -3,8 +3,9 @@ ghost use Rattle.std.specs.Prelude.{◌≡◌, ℕ, ◌+◌, ◌<◌, ◌≤◌,
 ghost use Rattle.dq_bell.specs.Seats.{AtSameBell, DealsHint, IsFreshLeader, SeesOneMore, FindsEarlier};
 ghost use Rattle.dq_bell.specs.declared.TheConstants.{NEVER};
 
-use crate::NEVER;
+use crate::{APART, NEVER};
 use crate::hint::Hint;
+use crate::hints::Hints;
 use crate::rule::{Arms, BellSeat, BellTable, Deals, Looks};
 use atomic_table::Table;
 use std::alloc::{AllocError, Allocator, Global};
@@ -55,7 +56,7 @@ impl<A: Allocator + Clone> Leader<A> {
         ensures { IfOk result (IsFreshLeader places) }
     {
         let heap = alloc.clone()?;
-        let mut words = vec![in &heap; NEVER; places + 1]?;
+        let mut words = vec![in &heap; NEVER; places * APART + 1]?;
         words[0] = 0;
         let (table, seat) = Table::of_words(alloc, words.as_slice(), &places)?;
         drop(words);
@@ -95,6 +96,20 @@ impl<A: Allocator> Leader<A> {
         })
     }
 
+    /// The hints of all places, for whoever holds no lock.
+    ///
+    /// # Errors
+    ///
+    /// `AllocError` where memory is refused.
+    pub fn hints(&self) -> Result<Hints<A>, AllocError>
+        ensures { IfOk result (λ h. h ≡ self.now.places) }
+    {
+        Ok(Hints {
+            table: Arc::try_clone(&self.table)?,
+            places: self.places,
+        })
+    }
+
     // Says until when it sleeps. No hint was looked at since.
     fn arm(&mut self, until: u64)
         ensures armed { (self.new.until ≡ until) × (self.new.seen ≡ 0) × (self.new.found ≡ false) }
@@ -110,7 +125,7 @@ impl<A: Allocator> Leader<A> {
         ensures seen { self.old.until ≤ result → SeesOneMore self.old self.new }
         ensures found { result < self.old.until → FindsEarlier self.old self.new }
     {
-        let found = self.table.shared.load::<Looks>(&mut self.seat, at + 1);
+        let found = self.table.shared.load::<Looks>(&mut self.seat, (at + 1) * APART);
         found
     }
 

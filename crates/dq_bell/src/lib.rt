@@ -12,6 +12,7 @@
 mod closer;
 mod due;
 mod hint;
+mod hints;
 mod laws;
 mod leader;
 mod line;
@@ -25,11 +26,15 @@ mod tests;
 pub use closer::Closer;
 pub use due::Due;
 pub use hint::Hint;
+pub use hints::Hints;
 pub use laws::{no_wake_is_lost, nobody_sleeps_once_closed};
 pub use leader::Leader;
 pub use line::Line;
 pub use rung::Rung;
 pub use sleepers::Call;
+
+// The words from one hint to the next. Two of them lie in no cache line, so places don't wait for each other's.
+pub(crate) const APART: usize = 16;
 
 /// The hint of a place where nothing waits, and the tick of a sleep without an end.
 pub const NEVER: u64 = 18446744073709551615;

@@ -11,6 +11,7 @@ ghost use Rattle.dq_bell.specs.Rolls.{StandsInLine, first_in};
 
 use crate::closer::Closer;
 use crate::hint::Hint;
+use crate::hints::Hints;
 use crate::leader::Leader;
 use crate::roll::Roll;
 use crate::rung::Rung;
@@ -77,6 +78,24 @@ impl<W, A: Allocator> Line<W, A> {
             × (self.new.closer ≡ self.old.closer) }
     {
         self.leader.add_place()
+    }
+
+    /// The hints of all places, that of the closing first, for whoever doesn't lock the line.
+    ///
+    /// # Errors
+    ///
+    /// `AllocError` where memory is refused.
+    pub fn hints(&self) -> Result<Hints<A>, AllocError>
+        ensures { IfOk result (λ h. h ≡ self.now.leader.places) }
+    {
+        self.leader.hints()
+    }
+
+    /// The one that leads.
+    pub fn first(&self) -> Option<usize>
+        ensures { result ≡ first_in self.now.roll }
+    {
+        self.roll.first()
     }
 
     /// Wherever anybody sleeps, somebody leads, who is awake or has looked at all hints.

@@ -1,6 +1,6 @@
 //! Who sleeps, by index, each with the `W` that wakes it.
 ghost use Rattle.std.specs.Prelude.{◌≡◌, ℕ, ◌<◌, ◌≤◌, true, false, length, is_some, slice_index_or, slice_set, IfOk, IfErr};
-ghost use Rattle.dq_bell.specs.Lines.{SleepsAt, IsAwakeAt, AllSleepOn};
+ghost use Rattle.dq_bell.specs.Lines.{SleepsAt, IsAwakeAt, AllSleepOn, CallsOne};
 
 use std::alloc::{AllocError, Allocator, Global};
 use std::marker::Model;
@@ -84,8 +84,10 @@ impl<W: Drop, A: Allocator> Sleepers<W, A> {
         Ok(())
     }
 
-    /// Calls one of those that sleep. Where it answers `None` nobody does.
+    /// Calls one of those that sleep, and leaves the others asleep. Where it answers `None` nobody slept.
     pub fn call_last(&mut self) -> Option<Call<W>>
+        ensures one { is_some result ≡ true → CallsOne self.old self.new }
+        ensures nobody { is_some result ≡ false → (i : ℕ) → IsAwakeAt self.old i }
         ensures fewer { (i : ℕ) → SleepsAt self.new i → SleepsAt self.old i }
         ensures all { is_some result ≡ false → (i : ℕ) → IsAwakeAt self.new i }
     {

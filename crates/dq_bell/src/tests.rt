@@ -85,6 +85,8 @@ fn two_wait<A: Allocator + Clone>(
     requires { IsFreshLine 1 line.old }
 {
     let mut due = Due::new(line.add_place()?);
+    let hints = line.hints()?;
+    assert!(rt; line.first().is_none(), "nobody leads");
     let first = line.join()?;
     let second = line.join()?;
     let one = Box::new(heap.clone()?, 1)?;
@@ -102,9 +104,12 @@ fn two_wait<A: Allocator + Clone>(
     );
     assert!(rt; told_by(line.ring(due.lower(50))) == 1, "it sleeps beyond");
     assert!(rt; told_by(line.ring(due.lower(40))) == 0, "it was rung");
+    assert!(rt; hints.tick(1) == 40 && hints.tick(0) != 0, "as it was lowered");
+    assert!(rt; line.first() == Some(first), "it leads");
     assert!(rt; line.rise(first).is_none(), "it was called");
     assert!(rt; told_by(line.leave(first)) == 2, "the next one leads");
     assert!(rt; told_by(line.close()) == 0, "nobody sleeps");
+    assert!(rt; hints.tick(0) == 0, "it is closed");
     assert!(rt; line.rise(second).is_none(), "it was called");
     assert!(rt; told_by(line.leave(second)) == 0, "nobody is left");
     Ok(())
@@ -117,7 +122,7 @@ fn told_by<A: Allocator>(call: Option<Call<Box<u64, A>>>) -> u64 {
     }
 }
 
-// promise: line.join line.sleep line.rise line.leave line.ring line.close
+// promise: bell.hints line.first line.join line.sleep line.rise line.leave line.ring line.close
 #[test]
 fn two_wait_and_one_leads(rt: HostRuntime) -> Result<(), AllocError> {
     wait_in_line(&rt, rt.alloc())

@@ -30,6 +30,7 @@ pub use receiver::Receiver;
 pub use stats::{Metrics, Stats};
 pub use time::ManualClock;
 
+use crate::bell::NEVER;
 use front::Step;
 use shared::Shared;
 use std::fmt;
@@ -37,7 +38,6 @@ use std::panic::resume_unwind;
 use std::sync::Arc;
 use std::thread;
 use std::time::{Duration, Instant};
-use waking::NEVER;
 
 /// Values with deadlines, for any number of threads: each value comes out when its deadline is over.
 ///

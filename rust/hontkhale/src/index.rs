@@ -4,6 +4,8 @@
 #[cfg(not(feature = "proved-bounds"))]
 #[inline(always)]
 pub(crate) fn nth<T>(row: &[T], index: usize) -> &T {
+    #[cfg(all(test, feature = "std"))]
+    looked::one_more();
     &row[index]
 }
 
@@ -11,6 +13,8 @@ pub(crate) fn nth<T>(row: &[T], index: usize) -> &T {
 #[cfg(not(feature = "proved-bounds"))]
 #[inline(always)]
 pub(crate) fn nth_mut<T>(row: &mut [T], index: usize) -> &mut T {
+    #[cfg(all(test, feature = "std"))]
+    looked::one_more();
     &mut row[index]
 }
 
@@ -19,6 +23,8 @@ pub(crate) fn nth_mut<T>(row: &mut [T], index: usize) -> &mut T {
 #[allow(unsafe_code)]
 #[inline(always)]
 pub(crate) fn nth<T>(row: &[T], index: usize) -> &T {
+    #[cfg(all(test, feature = "std"))]
+    looked::one_more();
     debug_assert!(index < row.len());
     // SAFETY: each index is within its row: the prover showed it of each call from what that function requires, and no
     // function that requires anything is reached from outside of the crate without a check.
@@ -30,7 +36,30 @@ pub(crate) fn nth<T>(row: &[T], index: usize) -> &T {
 #[allow(unsafe_code)]
 #[inline(always)]
 pub(crate) fn nth_mut<T>(row: &mut [T], index: usize) -> &mut T {
+    #[cfg(all(test, feature = "std"))]
+    looked::one_more();
     debug_assert!(index < row.len());
     // SAFETY: as for `nth`.
     unsafe { row.get_unchecked_mut(index) }
+}
+
+/// How many indexes this thread has looked at.
+#[cfg(all(test, feature = "std"))]
+pub(crate) mod looked {
+    use std::cell::Cell;
+
+    thread_local! {
+        static LOOKED: Cell<usize> = const { Cell::new(0) };
+    }
+
+    pub(super) fn one_more() {
+        LOOKED.with(|looked| looked.set(looked.get() + 1));
+    }
+
+    /// How many a call looks at.
+    pub(crate) fn by(call: impl FnOnce()) -> usize {
+        let before = LOOKED.with(Cell::get);
+        call();
+        LOOKED.with(Cell::get) - before
+    }
 }

@@ -94,6 +94,8 @@ mod refused;
 
 #[cfg(feature = "std")]
 mod apps;
+#[cfg(feature = "std")]
+mod bell;
 mod core;
 #[cfg(feature = "std")]
 mod directory;

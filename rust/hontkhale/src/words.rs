@@ -15,7 +15,7 @@ mod parts;
 mod seated;
 #[cfg(feature = "std")]
 mod shards;
-mod table;
+pub(crate) mod table;
 mod tries;
 
 pub use caller::Caller;

@@ -112,20 +112,19 @@ impl<T> Builder<T> {
     #[must_use]
     pub fn build(self) -> DelayQueue<T> {
         let time = Time::new(self.clock.clone(), self.start);
-        let Ok(clerk) = Clerk::new(u32::MAX) else {
+        let made = Clerk::new(u32::MAX).and_then(|clerk| {
+            let words = clerk.directory().clone();
+            Ok((Front::new(time, self.max_entries, self.shards, words)?, clerk))
+        });
+        let Ok(((front, hints), clerk)) = made else {
             handle_alloc_error(Layout::new::<Front>());
         };
-        let front = Arc::new(Front::new(
-            time,
-            self.max_entries,
-            self.shards,
-            clerk.directory().clone(),
-        ));
+        let front = Arc::new(front);
         if let Source::Manual(clock) = &self.clock {
             let weak = Arc::downgrade(&front);
             clock.wakes(move || weak.upgrade().map(|front| front.wake_all()).is_some());
         }
-        DelayQueue::of(&Arc::new(Shared::new(front, clerk, self.last_stamp)))
+        DelayQueue::of(&Arc::new(Shared::new(front, hints, clerk, self.last_stamp)))
     }
 }
 

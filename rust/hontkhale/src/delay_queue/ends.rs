@@ -5,11 +5,11 @@
 //! and takes its entry back: so what was put in comes out.
 
 use crate::delay_queue::shared::Shared;
-use crate::delay_queue::waking;
+use crate::delay_queue::waking::lose;
 use crate::locks::is_in_closure_of;
 use std::sync::atomic::{fence, AtomicUsize, Ordering::SeqCst};
 use std::sync::{Condvar, Mutex, MutexGuard, PoisonError};
-use std::thread::{self, Thread};
+use std::thread;
 use std::time::Duration;
 
 /// What is known of a queue's end.
@@ -17,7 +17,8 @@ use std::time::Duration;
 pub(crate) struct Ends {
     /// How many ask. While nobody does the end of an entry tells nobody.
     asked: AtomicUsize,
-    /// Whether inserts are refused, whether the receivers end once the queue is empty, and whether the queue was dropped.
+    /// Whether inserts are refused, whether the receivers end once the queue is empty, whether the queue was dropped, and whether
+    /// what is put in comes too late.
     state: AtomicUsize,
     /// The clones of the queue, which may insert.
     inserters: AtomicUsize,
@@ -30,6 +31,7 @@ pub(crate) struct Ends {
 const REFUSES: usize = 1;
 const ENDS_WHEN_EMPTY: usize = 2;
 const IS_OVER: usize = 4;
+const IS_SEALED: usize = 8;
 
 impl Ends {
     #[inline(always)]
@@ -57,6 +59,20 @@ impl Ends {
     /// The queue is dropped.
     pub fn end(&self) {
         self.state.fetch_or(IS_OVER, SeqCst);
+    }
+
+    /// Whether whoever put something in takes it back.
+    #[inline(always)]
+    pub fn is_sealed(&self) -> bool {
+        self.is(IS_SEALED)
+    }
+
+    fn seal(&self) {
+        self.state.fetch_or(IS_SEALED, SeqCst);
+    }
+
+    fn unseal(&self) {
+        self.state.fetch_and(!IS_SEALED, SeqCst);
     }
 
     pub fn add_inserter(&self) {
@@ -138,7 +154,7 @@ impl<T> Shared<T> {
         }
         self.front.ends.wake_all();
         if self.front.ends.is(ENDS_WHEN_EMPTY) {
-            waking::lose(self.end_if_empty());
+            lose(self.end_if_empty());
         }
     }
 
@@ -149,18 +165,17 @@ impl<T> Shared<T> {
             return Ok(());
         }
         let deciding = self.front.ends.emptied();
-        if self.front.bell.is_closed() {
+        if self.front.is_closed() {
             return Ok(());
         }
-        self.front.tasks.seal();
+        self.front.ends.seal();
         if !self.is_surely_empty() {
-            self.front.tasks.unseal();
+            self.front.ends.unseal();
             return Ok(());
         }
-        let threads = self.front.bell.close();
+        let called = self.front.receivers.close();
         drop(deciding);
-        threads.iter().for_each(Thread::unpark);
-        self.front.tasks.wake_all()
+        self.front.receivers.wake_each(called, self.front.time.tick())
     }
 
     /// Whether no entry waits, told by the locks of all shards: each insert that takes one of them later sees what the caller did.
@@ -207,7 +222,7 @@ mod tests {
         queue.close_when_empty();
         let is_empty = queue.wait_empty(Duration::ZERO);
         shared.front.uncount(1);
-        assert!(is_empty && shared.front.bell.is_closed());
+        assert!(is_empty && shared.front.is_closed());
         assert_eq!((value.as_str(), queue.len()), ("last", 0));
     }
 
@@ -220,6 +235,6 @@ mod tests {
         assert!(counted.is_some());
         queue.close_when_empty();
         drop(counted);
-        assert!(front.bell.is_closed());
+        assert!(front.is_closed());
     }
 }

@@ -1,20 +1,21 @@
 //! What a queue and its handles share. It knows nothing of the values.
 
+use crate::bell::{Hint, Hints, Rung, NEVER};
 use crate::core::{CallError, Look};
 use crate::delay_queue::ends::Ends;
 use crate::delay_queue::errors::KeyError;
 use crate::delay_queue::key::Key;
-use crate::delay_queue::receiver::Tasks;
 use crate::delay_queue::shard::Seen;
 use crate::delay_queue::time::Time;
-use crate::delay_queue::waking::{Bell, Wait, NEVER};
+use crate::delay_queue::waking::{Seat, Waiting, Wakes};
 use crate::directory::Directory;
+use crate::memory::AllocError;
 use crate::ticks;
 use crate::words::OpenWords;
 use std::cell::Cell;
 use std::panic::resume_unwind;
 use std::sync::atomic::{AtomicU32, AtomicUsize, Ordering::SeqCst};
-use std::thread::{self, Thread};
+use std::thread;
 
 static NEXT_QUEUE: AtomicU32 = AtomicU32::new(1);
 static NEXT_THREAD: AtomicUsize = AtomicUsize::new(0);
@@ -69,9 +70,9 @@ pub(crate) struct Front {
     pub time: Time,
     /// The words of each core that was made, by its number.
     pub words: Directory<OpenWords>,
-    pub bell: Bell<Thread>,
-    /// The tasks that receive.
-    pub tasks: Tasks,
+    pub receivers: Waiting,
+    /// The hint of the close, which is 0 once the receivers end, and then that of each shard.
+    hints: Hints,
     pub ends: Ends,
     /// The most entries, and how many wait where they are bounded.
     pub most: usize,
@@ -90,18 +91,26 @@ impl Drop for Counted<'_> {
 }
 
 impl Front {
-    pub fn new(time: Time, most: usize, shards: usize, words: Directory<OpenWords>) -> Front {
-        Front {
+    /// What the shards share, and the hints that they write.
+    pub fn new(
+        time: Time,
+        most: usize,
+        shards: usize,
+        words: Directory<OpenWords>,
+    ) -> Result<(Front, Vec<Hint>), AllocError> {
+        let (receivers, written, hints) = Waiting::new(shards)?;
+        let front = Front {
             id: NEXT_QUEUE.fetch_add(1, SeqCst),
             time,
             words,
-            bell: Bell::new(),
-            tasks: Tasks::default(),
+            receivers,
+            hints,
             ends: Ends::default(),
             most,
             waiting: AtomicUsize::new(0),
             seen: (0..shards).map(|_| Seen::new()).collect(),
-        }
+        };
+        Ok((front, written))
     }
 
     /// A step by the words of an entry's first place, without a lock; none where the shard is to tell: after a reset the key has
@@ -190,46 +199,58 @@ impl Front {
         self.waiting_while(|| {})
     }
 
+    /// A shard's hint: nothing is due there before it.
+    #[inline(always)]
+    pub fn hint(&self, at: usize) -> u64 {
+        self.hints.tick(at + 1)
+    }
+
     /// The least hint: nothing is due before it.
     pub fn least_hint(&self) -> u64 {
-        self.seen.iter().map(Seen::hint).min().unwrap_or(NEVER)
+        (0..self.seen.len()).map(|at| self.hint(at)).min().unwrap_or(NEVER)
     }
 
-    /// Wakes the leader, and each task, that sleeps beyond a tick. It tells whether the queue is sealed: what was put in comes too
-    /// late then.
+    /// Whether the receivers end once nothing is due.
+    #[inline]
+    pub fn is_closed(&self) -> bool {
+        self.hints.tick(0) == 0
+    }
+
+    /// Wakes the leader of the receivers where that was rung, and gives the panic of a waker. No lock is held.
     #[inline(always)]
-    pub fn ring_before(&self, tick: u64) -> bool {
-        if self.bell.sleeps_beyond(tick) {
-            self.wake_leader();
+    pub fn ring(&self, rung: Rung) -> thread::Result<()> {
+        match rung {
+            Rung::Nobody => Ok(()),
+            Rung::Leader => self.receivers.ring(rung, self.time.tick()),
         }
-        self.tasks.ring_before(tick)
-    }
-
-    #[cold]
-    fn wake_leader(&self) {
-        self.bell.ring().iter().for_each(Thread::unpark);
     }
 
     /// Wakes all who wait.
     pub fn wake_all(&self) {
-        self.bell.all().iter().for_each(Thread::unpark);
         self.ends.wake_all();
-        self.tasks.wake_all().unwrap_or_else(|panic| resume_unwind(panic));
+        self.receivers
+            .wake_all(self.time.tick())
+            .unwrap_or_else(|panic| resume_unwind(panic));
     }
 
     /// Ends the receivers, once nothing is due.
     pub fn close(&self) {
         self.ends.refuse();
-        self.bell.close().iter().for_each(Thread::unpark);
-        self.tasks.wake_all().unwrap_or_else(|panic| resume_unwind(panic));
+        let called = self.receivers.close();
+        self.receivers
+            .wake_each(called, self.time.tick())
+            .unwrap_or_else(|panic| resume_unwind(panic));
     }
 
-    pub fn join(&self) -> Wait {
-        Wait::join(&self.bell, thread::current())
+    /// Puts a receiver to sleep, as [`Waiting::sleep`] tells, until the least hint where it leads.
+    pub fn sleep(&self, place: &mut Option<Seat>, wakes: Wakes) -> Option<u64> {
+        self.receivers.sleep(place, wakes, self.least_hint(), self.time.tick())
     }
 
-    /// Ends a thread's wait in the line.
-    pub fn leave(&self, wait: Wait) {
-        wait.leave(&self.bell).iter().for_each(Thread::unpark);
+    /// Has a receiver leave the line where it is there.
+    pub fn leave(&self, place: &mut Option<Seat>) {
+        if place.is_some() {
+            self.receivers.leave(place, self.time.tick());
+        }
     }
 }

@@ -10,6 +10,7 @@ use crate::growing::CORES;
 use crate::memory::AllocError;
 use crate::ticks::CAPACITY_LIMIT;
 use crate::words::{Keeper, OpenWords};
+use std::panic::resume_unwind;
 
 /// How many parts of a shard's slots are looked at for cancelled entries before it grows.
 const SWEEPS: usize = 8;
@@ -97,15 +98,15 @@ impl<T> Shared<T> {
             // A program's clock isn't read under a lock.
             let now = self.front.time.tick();
             let cancels = self.front.seen[at].cancels();
-            let work = self.lock(at).work(now, cancels);
+            let mut store = self.lock(at);
+            let work = store.work(now, cancels);
+            let woken = self.front.ring(store.end());
+            woken.unwrap_or_else(|panic| resume_unwind(panic));
             match work {
                 Work::Fold(core) => self.fold(at, core),
                 Work::Make if self.make_ahead(at, now) => {}
                 Work::Make => return false,
-                Work::Moved(least) => {
-                    self.front.ring_before(least);
-                    return false;
-                }
+                Work::Moved => return false,
             }
         }
         self.lock(at).sizing.note_work();

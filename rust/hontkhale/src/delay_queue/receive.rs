@@ -4,7 +4,7 @@ use crate::delay_queue::errors::{RecvTimeoutError, TryRecvError};
 use crate::delay_queue::key::Key;
 use crate::delay_queue::shared::Shared;
 use crate::delay_queue::store::{Polled, Way};
-use crate::delay_queue::waking::{Todo, Wait};
+use crate::delay_queue::waking::{Seat, Wakes};
 use crate::delay_queue::Expired;
 use std::fmt;
 use std::thread;
@@ -25,15 +25,15 @@ pub(crate) enum Step<T> {
     Rests,
 }
 
-/// A place in the line of those that wait.
-struct Seat<'q, T> {
+/// A thread's place in the line of those that wait.
+struct Place<'q, T> {
     shared: &'q Shared<T>,
-    wait: Wait,
+    seat: Option<Seat>,
 }
 
-impl<T> Drop for Seat<'_, T> {
+impl<T> Drop for Place<'_, T> {
     fn drop(&mut self) {
-        self.shared.front.leave(self.wait);
+        self.shared.front.leave(&mut self.seat);
     }
 }
 
@@ -73,7 +73,7 @@ impl<T> Shared<T> {
 
     /// Why a wait is over, where it is.
     fn over(&self, until: Option<Instant>) -> Option<RecvTimeoutError> {
-        if self.front.bell.is_closed() {
+        if self.front.is_closed() {
             return Some(RecvTimeoutError::Closed);
         }
         let is_late = until.is_some_and(|until| until <= self.front.time.now());
@@ -82,41 +82,31 @@ impl<T> Shared<T> {
 
     /// What `take` takes; none once values are to be dropped, or the wait is over.
     fn wait_in_line<R>(&self, until: Option<Instant>, take: &mut impl FnMut() -> Option<R>) -> Option<R> {
-        let mut seat = Seat {
+        let mut place = Place {
             shared: self,
-            wait: self.front.join(),
+            seat: None,
         };
         loop {
-            match seat.wait.step(&self.front.bell, || self.front.least_hint()) {
-                Todo::Step => {}
-                Todo::Take => {
-                    let taken = take();
-                    if taken.is_some() || !self.is_tidy() {
-                        return taken;
-                    }
-                }
-                Todo::Sleep(tick) => {
-                    if self.over(until).is_some() {
-                        return None;
-                    }
-                    self.sleep(tick, until);
-                }
-                Todo::Leave => return None,
+            let thread = Wakes::Thread(thread::current());
+            if let Some(tick) = self.front.sleep(&mut place.seat, thread) {
+                self.park(self.front.time.moment_of(tick).into_iter().chain(until).min());
+            }
+            let taken = take();
+            if taken.is_some() || !self.is_tidy() || self.over(until).is_some() {
+                return taken;
             }
         }
     }
 
-    fn sleep(&self, tick: u64, until: Option<Instant>) {
-        let time = &self.front.time;
-        let due = time.moment_of(tick);
-        match due
-            .into_iter()
-            .chain(until)
-            .min()
-            .and_then(|when| time.sleep_until(when))
-        {
+    /// Sleeps until it is woken, at most until a moment.
+    fn park(&self, until: Option<Instant>) {
+        let Some(when) = until else {
+            return thread::park();
+        };
+        match self.front.time.sleep_until(when) {
             Some(length) => thread::park_timeout(length),
-            None if time.tick() < tick => thread::park(),
+            // Whoever advances the clock after this look wakes all that sleep.
+            None if self.front.time.now() < when => thread::park(),
             None => {}
         }
     }
@@ -125,8 +115,8 @@ impl<T> Shared<T> {
     #[inline(always)]
     fn most_due(&self, now: u64) -> Option<usize> {
         let mut first = (now.saturating_add(1), None);
-        for (at, seen) in self.front.seen.iter().enumerate() {
-            let hint = seen.hint();
+        for at in 0..self.front.seen.len() {
+            let hint = self.front.hint(at);
             if hint < first.0 {
                 first = (hint, Some(at));
             }
@@ -235,7 +225,7 @@ impl<T> Shared<T> {
     fn nothing_taken<R>(&self, take: impl FnOnce() -> Option<R>) -> Result<R, TryRecvError> {
         // What was freed is dropped while nothing is in hand.
         self.use_quiet_moment();
-        if self.front.bell.is_closed() {
+        if self.front.is_closed() {
             take().ok_or(TryRecvError::Closed)
         } else {
             Err(TryRecvError::Empty)

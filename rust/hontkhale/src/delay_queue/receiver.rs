@@ -1,155 +1,18 @@
 //! What receives in the place of a queue's clone, and how it does so in a task: a runtime polls it, and has a timer for when to
-//! poll it again.
-//!
-//! A task doesn't stand in the line of the threads: one that nobody polls would keep those behind it from what is due. Each
-//! says for itself until when it waits, and then looks at the hints once more; whoever puts something in lowers a hint first,
-//! and then asks the tasks. So one of the two sees the other, as with the leader of the line.
+//! poll it again. A task joins the line of receivers where it has nothing to take, and leaves it with what it takes.
 
 use crate::delay_queue::errors::{RecvTimeoutError, TryRecvError};
 use crate::delay_queue::receive::Step;
 use crate::delay_queue::shared::Shared;
-use crate::delay_queue::waking::{self, NEVER};
+use crate::delay_queue::waking::{Seat, Wakes};
 use crate::delay_queue::{DelayQueue, Expired, Iter, TryIter};
 use std::fmt;
-use std::panic::resume_unwind;
-use std::sync::atomic::{AtomicU64, Ordering::SeqCst};
-use std::sync::{Arc, Mutex, MutexGuard, PoisonError};
+use std::sync::Arc;
 use std::task::{Context, Poll, Waker};
-use std::thread;
 use std::time::{Duration, Instant};
 
 /// How often a poll takes a shard's lock, at most.
 const TURNS: usize = 4;
-
-/// A task that waits, or doesn't.
-struct Task {
-    /// The tick until which it waits, 0 where it doesn't.
-    armed: AtomicU64,
-    waker: Mutex<Option<Waker>>,
-}
-
-impl Task {
-    fn waker(&self) -> MutexGuard<'_, Option<Waker>> {
-        self.waker.lock().unwrap_or_else(PoisonError::into_inner)
-    }
-
-    /// From now on that waker is called, once. No lock is held while one is cloned or dropped.
-    fn listen(&self, waker: &Waker) {
-        if matches!(&*self.waker(), Some(known) if known.will_wake(waker)) {
-            return;
-        }
-        let waker = waker.clone();
-        let before = self.waker().replace(waker);
-        drop(before);
-    }
-
-    fn wake(&self) {
-        let waker = self.waker().take();
-        if let Some(waker) = waker {
-            waker.wake();
-        }
-    }
-}
-
-/// The tasks that receive from a queue.
-#[derive(Default)]
-pub(crate) struct Tasks {
-    /// A tick that isn't before any until which a task waits.
-    armed: AtomicU64,
-    row: Mutex<Row>,
-}
-
-#[derive(Default)]
-struct Row {
-    tasks: Vec<Arc<Task>>,
-    /// Whether whoever puts something in comes too late, and is to ask in any case.
-    is_sealed: bool,
-}
-
-impl Tasks {
-    /// Nobody's code runs while it is locked.
-    fn row(&self) -> MutexGuard<'_, Row> {
-        self.row.lock().unwrap_or_else(PoisonError::into_inner)
-    }
-
-    fn join(&self) -> Arc<Task> {
-        let task = Arc::new(Task {
-            armed: AtomicU64::new(0),
-            waker: Mutex::default(),
-        });
-        self.row().tasks.push(Arc::clone(&task));
-        task
-    }
-
-    fn leave(&self, task: &Arc<Task>) {
-        self.row().tasks.retain(|other| !Arc::ptr_eq(other, task));
-        let waker = task.waker().take();
-        drop(waker);
-    }
-
-    /// Wakes those that wait for a later tick, and tells whether the queue is sealed. Whoever lowered a hint to that tick asks.
-    #[inline]
-    pub fn ring_before(&self, tick: u64) -> bool {
-        tick < self.armed.load(SeqCst) && self.ring(tick)
-    }
-
-    #[cold]
-    fn ring(&self, tick: u64) -> bool {
-        let row = self.row();
-        self.begin_anew(&row);
-        let (woken, others): (Vec<_>, Vec<_>) = row
-            .tasks
-            .iter()
-            .cloned()
-            .partition(|task| tick < task.armed.load(SeqCst));
-        self.note(&others);
-        let is_sealed = row.is_sealed;
-        drop(row);
-        woken.iter().for_each(|task| task.armed.store(0, SeqCst));
-        wake_each(&woken).unwrap_or_else(|panic| resume_unwind(panic));
-        is_sealed
-    }
-
-    /// A task that waits from here on says so after this.
-    fn begin_anew(&self, row: &Row) {
-        self.armed.store(if row.is_sealed { NEVER } else { 0 }, SeqCst);
-    }
-
-    fn note(&self, tasks: &[Arc<Task>]) {
-        let latest = tasks.iter().map(|task| task.armed.load(SeqCst)).max();
-        self.armed.fetch_max(latest.unwrap_or(0), SeqCst);
-    }
-
-    /// From now on whoever puts something in is told so.
-    pub fn seal(&self) {
-        let mut row = self.row();
-        row.is_sealed = true;
-        self.begin_anew(&row);
-    }
-
-    pub fn unseal(&self) {
-        let mut row = self.row();
-        row.is_sealed = false;
-        self.begin_anew(&row);
-        self.note(&row.tasks);
-    }
-
-    /// Wakes all of them. Where a waker panics all others are woken, and the panic is given.
-    pub fn wake_all(&self) -> thread::Result<()> {
-        let all = self.row().tasks.clone();
-        wake_each(&all)
-    }
-
-    fn arm(&self, task: &Task, until: u64) {
-        task.armed.store(until, SeqCst);
-        self.armed.fetch_max(until, SeqCst);
-    }
-}
-
-/// Wakes each of them. Where a waker panics, those behind it are woken too.
-fn wake_each(tasks: &[Arc<Task>]) -> thread::Result<()> {
-    waking::wake_each(tasks, |task| task.wake())
-}
 
 /// Receives from a [`DelayQueue`], in a thread or in a task, and ends by itself.
 ///
@@ -177,9 +40,10 @@ fn wake_each(tasks: &[Arc<Task>]) -> thread::Result<()> {
 /// [`poll_recv`](Receiver::poll_recv) receives under any runtime that has timers. Under tokio the crate hontkhale-tokio makes a
 /// `Stream` of it.
 ///
-/// A waker that panics keeps nobody asleep: all whom the call wakes are woken, and then the panic goes on to whoever made it. An
-/// insert's entry is in then, but its key is lost with the panic. An insert for which no slot was free may wake receivers before
-/// its entry is in, and the value is dropped then. Where the end of the last entry wakes the tasks, a waker's panic is lost.
+/// A waker that panics keeps nobody asleep: another receiver is woken in its place, as are all others whom the call wakes, and
+/// then the panic goes on to whoever made it. An insert's entry is in then, but its key is lost with the panic. An insert for
+/// which no slot was free may wake receivers before its entry is in, and the value is dropped then. Where the end of the last
+/// entry wakes the tasks, or a receiver that leaves the next one, a waker's panic is lost.
 ///
 /// ```
 /// use hontkhale::DelayQueue;
@@ -214,8 +78,8 @@ fn wake_each(tasks: &[Arc<Task>]) -> thread::Result<()> {
 #[must_use = "a receiver gives nothing until it is asked"]
 pub struct Receiver<T> {
     shared: Arc<Shared<T>>,
-    /// The task that it is, once it was polled.
-    task: Option<Arc<Task>>,
+    /// Its place in the line of receivers, where it has one.
+    seat: Option<Seat>,
     wake_at: Option<Instant>,
 }
 
@@ -223,7 +87,7 @@ impl<T> Receiver<T> {
     pub(crate) fn new(shared: &Arc<Shared<T>>) -> Receiver<T> {
         Receiver {
             shared: Arc::clone(shared),
-            task: None,
+            seat: None,
             wake_at: None,
         }
     }
@@ -286,31 +150,36 @@ impl<T> Receiver<T> {
 
     /// Takes an entry out that is due; none once the receiver has ended.
     ///
-    /// Where it is pending the task is woken by an insert or a reset that comes sooner than what it waits for, and once the
-    /// receiver ends. The caller polls again at [`wake_at`](Receiver::wake_at), too: the queue has no timer.
+    /// Where it is pending it waits in one line with all who receive. The task is woken once it is the first there, while it is by
+    /// what comes sooner than it waits for, and once the receiver ends. The caller polls again at
+    /// [`wake_at`](Receiver::wake_at), too: the queue has no timer. A first one that isn't polled then is passed over after a
+    /// moment.
     /// A poll takes a shard's lock four times at most, each time for 256 steps; where more is to do it is pending, and wakes its
     /// task at once.
     ///
     /// The values of cancelled entries are dropped here, before something is in hand, and while no lock is held.
     pub fn poll_recv(&mut self, cx: &mut Context<'_>) -> Poll<Option<Expired<T>>> {
-        let shared = &self.shared;
-        let task = self.task.get_or_insert_with(|| shared.front.tasks.join());
-        task.armed.store(0, SeqCst);
-        task.listen(cx.waker());
         self.wake_at = None;
         for _ in 0..TURNS {
+            let shared = &self.shared;
             shared.tidy();
             // It is asked first: what was put in before a close comes out.
-            let is_closed = shared.front.bell.is_closed();
+            let is_closed = shared.front.is_closed();
             match shared.take_step(0) {
-                Step::Took(expired) => return Poll::Ready(Some(expired)),
+                Step::Took(expired) => {
+                    shared.front.leave(&mut self.seat);
+                    return Poll::Ready(Some(expired));
+                }
                 Step::Works => {}
                 // What the step freed is dropped first.
                 Step::Rests if !shared.is_tidy() => {}
-                Step::Rests if is_closed => return Poll::Ready(None),
+                Step::Rests if is_closed => {
+                    shared.front.leave(&mut self.seat);
+                    return Poll::Ready(None);
+                }
                 Step::Rests => {
-                    if let Some(tick) = waits_until(shared, task) {
-                        self.wake_at = shared.front.time.moment_of(tick);
+                    if let Some(tick) = self.sleep(cx.waker()) {
+                        self.wake_at = self.shared.front.time.moment_of(tick);
                         return Poll::Pending;
                     }
                 }
@@ -318,6 +187,16 @@ impl<T> Receiver<T> {
         }
         cx.waker().wake_by_ref();
         Poll::Pending
+    }
+
+    /// Sleeps in line, at most until the tick that it tells; none where something came meanwhile.
+    fn sleep(&mut self, waker: &Waker) -> Option<u64> {
+        let shared = &self.shared;
+        shared.use_quiet_moment();
+        if shared.front.least_hint() <= shared.front.time.tick() {
+            return None;
+        }
+        shared.front.sleep(&mut self.seat, Wakes::Task(waker.clone()))
     }
 
     /// When the task is to poll again, unless it is woken before; none where only an insert or a close is waited for, or the
@@ -333,23 +212,6 @@ impl<T> Receiver<T> {
     }
 }
 
-/// The tick until which nothing is to do, once the task has said so; none where something came meanwhile.
-fn waits_until<T>(shared: &Shared<T>, task: &Task) -> Option<u64> {
-    shared.use_quiet_moment();
-    let front = &shared.front;
-    let until = front.least_hint();
-    if until <= front.time.tick() {
-        return None;
-    }
-    front.tasks.arm(task, until);
-    let is_sooner = front.least_hint() < until || front.bell.is_closed();
-    if is_sooner {
-        task.armed.store(0, SeqCst);
-        return None;
-    }
-    Some(until)
-}
-
 impl<T> Clone for Receiver<T> {
     fn clone(&self) -> Receiver<T> {
         Receiver::new(&self.shared)
@@ -358,9 +220,7 @@ impl<T> Clone for Receiver<T> {
 
 impl<T> Drop for Receiver<T> {
     fn drop(&mut self) {
-        if let Some(task) = self.task.take() {
-            self.shared.front.tasks.leave(&task);
-        }
+        self.shared.front.leave(&mut self.seat);
     }
 }
 
@@ -384,13 +244,13 @@ impl<'r, T> IntoIterator for &'r Receiver<T> {
 
 #[cfg(test)]
 mod tests {
-    use crate::delay_queue::waking::NEVER;
     use crate::delay_queue::{Key, ManualClock};
-    use crate::DelayQueue;
+    use crate::index::looked;
+    use crate::{DelayQueue, Receiver};
     use std::sync::atomic::{AtomicBool, Ordering::SeqCst};
     use std::sync::mpsc::channel;
     use std::sync::Arc;
-    use std::task::{Wake, Waker};
+    use std::task::{Context, Wake, Waker};
     use std::thread;
     use std::time::Duration;
 
@@ -407,26 +267,52 @@ mod tests {
         }
     }
 
-    /// A task that read the hints while an entry was moved may be woken by whoever moved it.
+    struct Sleeps;
+
+    impl Wake for Sleeps {
+        fn wake(self: Arc<Self>) {}
+    }
+
+    /// The steps are those in the line, each of which looks at an index.
+    #[test]
+    fn each_of_many_tasks_is_dropped_by_a_few_steps() {
+        const MANY: usize = 10_000;
+        let queue = DelayQueue::<u64>::builder().shards(1).build();
+        let waker = Waker::from(Arc::new(Sleeps));
+        let waits = |_| {
+            let mut receiver = queue.receiver();
+            assert!(receiver.poll_recv(&mut Context::from_waker(&waker)).is_pending());
+            receiver
+        };
+        for turns_round in [false, true] {
+            let mut tasks: Vec<Receiver<u64>> = (0..MANY).map(waits).collect();
+            if turns_round {
+                tasks.reverse();
+            }
+            let steps = looked::by(|| drop(tasks));
+            assert!(steps <= 20 * MANY, "{steps}");
+        }
+    }
+
+    /// Who moves entries comes upon a cancelled one, and wakes a receiver that is to drop its value.
     #[test]
     fn a_waker_that_is_called_as_an_entry_was_moved_finds_the_entry() {
         const FAR: Duration = Duration::from_secs(1_000);
         let queue = DelayQueue::builder().clock(&ManualClock::new()).shards(1).build();
-        // There is another core once the first one is full, which drains but for one entry.
+        // There is another core once the first one is full, which drains but for two entries.
         let keys: Vec<Key> = (0..65).map(|number| queue.insert(number, FAR).expect("room")).collect();
-        keys[1..].iter().for_each(|key| assert!(queue.remove(key).is_ok()));
         let asks = Arc::new(Asks {
             queue: queue.clone(),
             key: keys[0],
             was_told: AtomicBool::new(false),
         });
-        let moved = |queue: &DelayQueue<u64>| queue.shared.lock(0).counts.moved;
-        assert_eq!(moved(&queue), 0);
         let mut receiver = queue.receiver();
         let waker = Waker::from(Arc::clone(&asks));
-        let task = receiver.task.get_or_insert_with(|| queue.shared.front.tasks.join());
-        task.listen(&waker);
-        queue.shared.front.tasks.arm(task, NEVER);
+        assert!(receiver.poll_recv(&mut Context::from_waker(&waker)).is_pending());
+        keys[2..].iter().for_each(|key| assert!(queue.remove(key).is_ok()));
+        let moved = |queue: &DelayQueue<u64>| queue.shared.lock(0).counts.moved;
+        assert_eq!(moved(&queue), 0);
+        queue.cancel(&keys[1]).expect("it waits");
         let (done, waits) = channel();
         let moves = queue.clone();
         thread::spawn(move || {

@@ -5,24 +5,26 @@
 //! 1. `Ends::emptied`: whether the receivers end, and who waits until the queue is empty.
 //! 2. `Shared::makes`: the clerk, held while a core is made.
 //! 3. A shard's, one at a time. Under it a closure of `get_mut` or `insert_with` may run, and no other code of a program's.
-//! 4. Each of these alone, while nobody's code runs: the line of receivers, the row of tasks, a task's waker, the values that
-//!    were let go, the queues of a manual clock.
+//! 4. Each of these alone, while nobody's code runs: the line of receivers, the values that were let go, the queues of a manual
+//!    clock.
 
+use crate::bell::{Hint, Rung};
 use crate::delay_queue::dropping::LetGo;
+use crate::delay_queue::front::Front;
 use crate::delay_queue::store::ShardStore;
-use crate::delay_queue::waking::NEVER;
+use crate::delay_queue::waking::lose;
 use crate::locks::MutexGuard;
+use std::mem;
 use std::ops::{Deref, DerefMut};
 use std::sync::atomic::{
     AtomicU64,
     Ordering::{Relaxed, SeqCst},
 };
 
-/// What is known of a shard without its lock. All but the cancels is written as the lock is let go, and nowhere else.
+/// What is known of a shard without its lock, beside its hint. All but the cancels is written as the lock is let go, and nowhere
+/// else.
 #[repr(align(128))]
 pub(crate) struct Seen {
-    /// Nothing is due before this tick: it is never later than what is due.
-    hint: AtomicU64,
     /// How many entries came in, less those that came out or were removed: the cancelled ones count. Where it is 0 none waits.
     left: AtomicU64,
     /// The number of cancels since which a receiver that has time has nothing to do here.
@@ -31,26 +33,46 @@ pub(crate) struct Seen {
     pub cancels: AtomicU64,
 }
 
+/// What lies behind a shard's lock.
+pub(crate) struct Shard<T> {
+    pub store: ShardStore<T>,
+    /// The hint of the store, as others read it.
+    pub hint: Hint,
+}
+
 /// A shard while its lock is held.
 pub(crate) struct Locked<'s, T> {
-    pub store: MutexGuard<'s, ShardStore<T>>,
-    pub seen: &'s Seen,
-    pub let_go: &'s LetGo<T>,
+    shard: MutexGuard<'s, Shard<T>>,
+    seen: &'s Seen,
+    let_go: &'s LetGo<T>,
+    is_told: bool,
+    /// It comes last, and so is dropped while the lock is free.
+    owed: Owed<'s>,
+}
+
+/// Whom a guard rang that was just dropped.
+struct Owed<'s> {
+    front: &'s Front,
+    rung: Rung,
+}
+
+impl Drop for Owed<'_> {
+    #[inline(always)]
+    fn drop(&mut self) {
+        if matches!(self.rung, Rung::Leader) {
+            let rung = mem::replace(&mut self.rung, Rung::Nobody);
+            lose(self.front.ring(rung));
+        }
+    }
 }
 
 impl Seen {
     pub fn new() -> Seen {
         Seen {
-            hint: AtomicU64::new(NEVER),
             left: AtomicU64::new(0),
             quiet_since: AtomicU64::new(0),
             cancels: AtomicU64::new(0),
         }
-    }
-
-    #[inline(always)]
-    pub fn hint(&self) -> u64 {
-        self.hint.load(SeqCst)
     }
 
     pub fn cancels(&self) -> u64 {
@@ -77,22 +99,66 @@ impl<T> Deref for Locked<'_, T> {
 
     #[inline(always)]
     fn deref(&self) -> &ShardStore<T> {
-        &self.store
+        &self.shard.store
     }
 }
 
 impl<T> DerefMut for Locked<'_, T> {
     #[inline(always)]
     fn deref_mut(&mut self) -> &mut ShardStore<T> {
-        &mut self.store
+        &mut self.shard.store
     }
 }
 
-impl<T> Locked<'_, T> {
+impl<'s, T> Locked<'s, T> {
+    #[inline(always)]
+    pub fn new(
+        shard: MutexGuard<'s, Shard<T>>,
+        seen: &'s Seen,
+        let_go: &'s LetGo<T>,
+        front: &'s Front,
+    ) -> Locked<'s, T> {
+        let rung = Rung::Nobody;
+        Locked {
+            shard,
+            seen,
+            let_go,
+            is_told: false,
+            owed: Owed { front, rung },
+        }
+    }
+
+    /// Lets the lock go, and tells whom to wake.
+    #[inline(always)]
+    pub fn end(mut self) -> Rung {
+        self.is_told = true;
+        self.tell()
+    }
+
+    /// Tells those who hold no lock what the shard has come to.
+    #[inline(always)]
+    fn tell(&mut self) -> Rung {
+        if self.may_have_aside {
+            self.note_aside();
+        }
+        let Shard { store, hint } = &mut *self.shard;
+        let rung = if hint.tick() == store.hint {
+            Rung::Nobody
+        } else {
+            hint.set(store.hint)
+        };
+        self.seen.left.store(store.left(), Relaxed);
+        let quiet_since = store.sizing.quiet_since();
+        if self.seen.quiet_since.load(Relaxed) != quiet_since {
+            self.seen.quiet_since.store(quiet_since, Relaxed);
+        }
+        rung
+    }
+
     /// Notes whether values are set aside, and counts the places where some are.
     #[cold]
     fn note_aside(&mut self) {
-        match self.store.note_aside() {
+        match self.shard.store.note_aside() {
             (false, true) => self.let_go.count_place(),
             (true, false) => self.let_go.uncount_place(),
             _ => {}
@@ -101,20 +167,11 @@ impl<T> Locked<'_, T> {
 }
 
 impl<T> Drop for Locked<'_, T> {
-    /// Tells those who hold no lock what the shard has come to.
+    /// The same where nobody asks whom to wake, as in a panic: the leader is woken, and the panic of its waker is lost.
     #[inline(always)]
     fn drop(&mut self) {
-        if self.store.may_have_aside {
-            self.note_aside();
-        }
-        let (store, seen) = (&*self.store, self.seen);
-        if seen.hint.load(Relaxed) != store.hint {
-            seen.hint.store(store.hint, SeqCst);
-        }
-        seen.left.store(store.left(), Relaxed);
-        let quiet_since = store.sizing.quiet_since();
-        if seen.quiet_since.load(Relaxed) != quiet_since {
-            seen.quiet_since.store(quiet_since, Relaxed);
+        if !self.is_told {
+            self.owed.rung = self.tell();
         }
     }
 }

@@ -1,23 +1,26 @@
 //! What the clones of a queue share: its shards, and the calls on its entries.
 
+use crate::bell::Hint;
 use crate::delay_queue::dropping::LetGo;
 use crate::delay_queue::errors::{InsertErrorKind, KeyError};
 use crate::delay_queue::front::{route, Counted, Front, Step};
 use crate::delay_queue::key::Key;
-use crate::delay_queue::shard::Locked;
+use crate::delay_queue::shard::{Locked, Shard};
 use crate::delay_queue::store::ShardStore;
+use crate::delay_queue::waking::lose;
 use crate::directory::Clerk;
 use crate::locks::Mutex;
 use crate::ticks::LAST_TICK;
 use crate::words::OpenWords;
 use std::any::Any;
 use std::mem;
+use std::panic::resume_unwind;
 use std::sync::Arc;
 use std::time::{Duration, Instant};
 
 pub(crate) struct Shared<T> {
     pub front: Arc<Front>,
-    shards: Box<[Mutex<ShardStore<T>>]>,
+    shards: Box<[Mutex<Shard<T>>]>,
     /// Who gives the cores their numbers, held while one is made.
     pub makes: Mutex<Clerk<OpenWords>>,
     /// After how many inserts and resets a slot is worn.
@@ -68,10 +71,14 @@ impl<T> Drop for Lends<'_, T> {
 
 /// The shards.
 impl<T> Shared<T> {
-    pub fn new(front: Arc<Front>, clerk: Clerk<OpenWords>, last_stamp: u32) -> Shared<T> {
-        let shard = |at| Mutex::new(ShardStore::new(front.id, at));
+    /// Each shard writes one of the hints.
+    pub fn new(front: Arc<Front>, hints: Vec<Hint>, clerk: Clerk<OpenWords>, last_stamp: u32) -> Shared<T> {
+        let shard = |(at, hint)| {
+            let store = ShardStore::new(front.id, at);
+            Mutex::new(Shard { store, hint })
+        };
         Shared {
-            shards: (0..front.seen.len()).map(shard).collect(),
+            shards: hints.into_iter().enumerate().map(shard).collect(),
             front,
             makes: Mutex::new(clerk),
             last_stamp,
@@ -81,11 +88,7 @@ impl<T> Shared<T> {
 
     #[inline(always)]
     pub fn lock(&self, at: usize) -> Locked<'_, T> {
-        Locked {
-            store: self.shards[at].lock(),
-            seen: &self.front.seen[at],
-            let_go: &self.let_go,
-        }
+        Locked::new(self.shards[at].lock(), &self.front.seen[at], &self.let_go, &self.front)
     }
 
     /// The shards, each while its lock is held.
@@ -93,13 +96,17 @@ impl<T> Shared<T> {
         (0..self.shards.len()).map(|at| self.lock(at))
     }
 
-    /// Lets a shard's lock go where so many entries ended, and makes a part of what keeps it of the right size.
+    /// Lets a shard's lock go where so many entries ended, wakes the leader where it was rung, and makes a part of what keeps the
+    /// shard of the right size. Where entries ended the caller has values in hand, and a panic of the leader's waker is lost.
     #[inline(always)]
     pub fn leave(&self, store: Locked<'_, T>, ended: usize) {
         let (at, has_work) = (store.at, store.sizing.has_work());
-        drop(store);
+        let woken = self.front.ring(store.end());
         if ended > 0 {
             self.note_ended(ended);
+            lose(woken);
+        } else {
+            woken.unwrap_or_else(|panic| resume_unwind(panic));
         }
         if has_work {
             // It may call a task's waker.
@@ -129,8 +136,7 @@ impl<T> Shared<T> {
         };
         let key = store.insert(value, tick);
         mem::forget(counted);
-        self.is_in(store, key, tick)
-            .map_err(|value| (InsertErrorKind::Closed, value))
+        self.is_in(store, key).map_err(|value| (InsertErrorKind::Closed, value))
     }
 
     /// The same of a value that is made under the shard's lock, once its key is known.
@@ -139,7 +145,7 @@ impl<T> Shared<T> {
         let (counted, mut store) = self.room_for_one(tick)?;
         let key = store.insert_with(make, tick);
         mem::forget(counted);
-        self.is_in(store, key, tick).map_err(|value| {
+        self.is_in(store, key).map_err(|value| {
             self.let_go.drop_value(value);
             InsertErrorKind::Closed
         })
@@ -209,10 +215,10 @@ impl<T> Shared<T> {
 
     /// Has receivers come for an entry that is in. Its value is taken back, and given, where that was too late.
     #[inline(always)]
-    fn is_in(&self, store: Locked<'_, T>, key: Key, tick: u64) -> Result<Key, T> {
+    fn is_in(&self, store: Locked<'_, T>, key: Key) -> Result<Key, T> {
         // A waker that panics takes the key along, but not the entry.
         self.leave(store, 0);
-        if self.front.ring_before(tick) {
+        if self.front.ends.is_sealed() {
             if let Some(value) = self.take_back(key) {
                 return Err(value);
             }
@@ -290,15 +296,13 @@ impl<T> Shared<T> {
         let mut is_tidy = false;
         loop {
             let (renamed, beside) = store.reset(key, tick);
-            drop(store);
+            let woken = self.front.ring(store.end());
             if let Some(value) = beside {
                 self.let_go.drop_value(value);
             }
+            woken.unwrap_or_else(|panic| resume_unwind(panic));
             match renamed {
-                Ok(renamed) => {
-                    self.front.ring_before(tick);
-                    return Ok(renamed);
-                }
+                Ok(renamed) => return Ok(renamed),
                 Err(KeyError::NoMemory) => store = self.room_for_a_move(key, &mut is_tidy)?,
                 Err(ended) => return Err(ended),
             }
@@ -330,15 +334,10 @@ impl<T> Shared<T> {
         let mut is_tidy = false;
         loop {
             let ended = store.remove_if_due(key, now);
-            let (hint, taken) = (store.hint, matches!(ended, Ok(Some(_))));
+            let taken = matches!(ended, Ok(Some(_)));
             self.leave(store, usize::from(taken));
             match ended {
-                Ok(value) => {
-                    if !taken {
-                        self.front.ring_before(hint);
-                    }
-                    return Ok(value);
-                }
+                Ok(value) => return Ok(value),
                 Err(KeyError::NoMemory) => store = self.room_for_a_move(key, &mut is_tidy)?,
                 Err(ended) => return Err(ended),
             }

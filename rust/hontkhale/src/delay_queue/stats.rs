@@ -128,8 +128,8 @@ impl<T> Shared<T> {
     /// hint, so those of later hints aren't asked.
     pub fn first_filed_before(&self, end: u64) -> Option<u64> {
         let mut first = end;
-        for (at, seen) in self.front.seen.iter().enumerate() {
-            if seen.hint() < first {
+        for at in 0..self.front.seen.len() {
+            if self.front.hint(at) < first {
                 first = self.lock(at).first_filed().map_or(first, |filed| filed.min(first));
             }
         }

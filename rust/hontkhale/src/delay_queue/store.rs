@@ -3,11 +3,11 @@
 //!
 //! This file alone calls the proved store. Nobody's code runs in it, but for the closure of `with_value` and of `insert_with`.
 
+use crate::bell::NEVER;
 use crate::core::{CallError, CoreError, DelayCore, Piece, Turn};
 use crate::delay_queue::errors::{InsertErrorKind, KeyError};
 use crate::delay_queue::front::Step;
 use crate::delay_queue::key::Key;
-use crate::delay_queue::waking::NEVER;
 use crate::directory::Directory;
 use crate::growing::{Cores, Folds, Moved, NextDeadline, Sizing, Store};
 use crate::locks::lend;
@@ -96,8 +96,8 @@ pub(crate) enum Work<T> {
     Fold(Core<T>),
     /// A core is to be made.
     Make,
-    /// A few entries were moved, with the least deadline of them, or 0 where a receiver is to come and drop values.
-    Moved(u64),
+    /// A few entries were moved.
+    Moved,
 }
 
 impl<T> ShardStore<T> {
@@ -430,7 +430,10 @@ impl<T> ShardStore<T> {
         match self.sizing.take_needless(&mut self.store) {
             Some(core) => Work::Fold(core),
             None if self.wanted(cancels).is_some() => Work::Make,
-            None => Work::Moved(self.move_stragglers(now)),
+            None => {
+                self.move_stragglers(now);
+                Work::Moved
+            }
         }
     }
 
@@ -469,10 +472,8 @@ impl<T> ShardStore<T> {
         entries.saturating_sub(self.slots())
     }
 
-    /// Moves a few of the last entries of cores that drain, which aren't due, into the open one, and gives the least deadline that
-    /// was moved.
-    fn move_stragglers(&mut self, now: u64) -> u64 {
-        let mut least = NEVER;
+    /// Moves a few of the last entries of cores that drain, which aren't due, into the open one.
+    fn move_stragglers(&mut self, now: u64) {
         for _ in 0..MOVED_AT_ONCE {
             let Some(entry) = self.sizing.straggler(&self.store) else { break };
             match self.store.deadline(&entry) {
@@ -480,7 +481,6 @@ impl<T> ShardStore<T> {
                     if self.relocate(&entry, NextDeadline::Same).is_err() {
                         break;
                     }
-                    least = least.min(deadline);
                 }
                 // It comes out without being moved.
                 Ok(_) => break,
@@ -488,11 +488,10 @@ impl<T> ShardStore<T> {
                     let _ = self.store.reap(&entry);
                     self.may_have_aside = true;
                     // A receiver is to come, and to drop the value.
-                    (self.hint, least) = (0, 0);
+                    self.hint = 0;
                 }
             }
         }
-        least
     }
 
     /// About how many bytes it takes, without what its values point to.

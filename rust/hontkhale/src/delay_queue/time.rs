@@ -1,9 +1,9 @@
 //! From where a queue has the time.
 
-use crate::delay_queue::waking::wake_each;
+use crate::delay_queue::waking::first_panic;
 use crate::ticks::LAST_TICK;
 use std::fmt;
-use std::panic::resume_unwind;
+use std::panic::{catch_unwind, resume_unwind, AssertUnwindSafe};
 use std::sync::atomic::{AtomicU64, Ordering::SeqCst};
 use std::sync::{Arc, Mutex, MutexGuard, PoisonError};
 use std::time::{Duration, Instant};
@@ -62,11 +62,13 @@ impl ManualClock {
             .fetch_update(SeqCst, SeqCst, |passed| Some(passed.saturating_add(by)));
         let queues = self.queues().clone();
         let mut gone = Vec::new();
-        let woken = wake_each(&queues, |wakes| {
-            if !wakes() {
-                gone.push(Arc::clone(wakes));
-            }
-        });
+        let woken = first_panic(queues.iter().map(|wakes| {
+            catch_unwind(AssertUnwindSafe(|| {
+                if !wakes() {
+                    gone.push(Arc::clone(wakes));
+                }
+            }))
+        }));
         if !gone.is_empty() {
             self.queues()
                 .retain(|wakes| !gone.iter().any(|other| Arc::ptr_eq(wakes, other)));

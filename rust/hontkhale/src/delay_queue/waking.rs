@@ -1,230 +1,302 @@
-//! How receivers wait, and how they are woken.
+//! Where receivers wait, threads and tasks in one line, by the proved rule of [`crate::bell`].
 //!
-//! Of those that wait one leads: it sleeps until the least hint, and the others, who follow, until they lead. Whoever puts
-//! something in lowers a hint first, and then asks for how long the leader sleeps. The leader says so first, and then looks
-//! at the hints once more. So one of the two sees the other, and a wake is never lost. Whoever leaves the lead hands it on.
-//!
-//! A hint is never later than what is due in its shard. It may be earlier, and a receiver then looks there for nothing.
-//!
-//! What is here are the steps, each of which touches once what threads share. `tests` tries every order of them.
+//! The first in line leads: it sleeps until the least hint, and the others sleep until they are called. Who lowers a hint that
+//! the leader sleeps beyond calls the leader, and who leaves the lead calls the next one. A thread that is called runs, but a task
+//! runs only if its runtime polls it: so a task that leads is to act by its tick and a grace, or, once called, within the grace.
+//! As soon as a task has waited in a queue, those that follow sleep for a second at most, and behind a task that leads only until
+//! it is to have acted. Who finds then that it hasn't takes the lead from it, and wakes it: it joins again where it is polled.
+//! Each place in line has a number, so that one who has lost a place touches nobody else's.
 
-use std::collections::VecDeque;
+use crate::bell::{Call, Hint, Hints, Line, Rung, NEVER};
+use crate::memory::AllocError;
+use std::alloc::{handle_alloc_error, Layout};
+use std::iter;
 use std::mem;
 use std::panic::{catch_unwind, AssertUnwindSafe};
-use std::sync::atomic::{AtomicBool, AtomicU64, Ordering::SeqCst};
 use std::sync::{Mutex, MutexGuard, PoisonError};
-use std::thread;
+use std::task::Waker;
+use std::thread::{self, Thread};
 
-/// The tick of what never comes.
-pub(crate) const NEVER: u64 = u64::MAX;
+/// By how many ticks a task that leads may be late.
+const GRACE: u64 = 50;
+/// For how many ticks one that follows sleeps at most, once a task has waited.
+const WATCH: u64 = 1_000;
 
-/// Where the receivers of a queue wait, each woken by a `W`.
-pub(crate) struct Bell<W> {
-    /// The tick until which the leader sleeps, 0 where none does.
-    armed: AtomicU64,
-    is_closed: AtomicBool,
-    line: Mutex<Line<W>>,
+/// What wakes a receiver.
+pub(crate) enum Wakes {
+    Thread(Thread),
+    Task(Waker),
 }
 
-/// Who waits. Nobody's code runs while it is locked.
-#[derive(Clone)]
-struct Line<W> {
-    next_seat: u64,
-    leader: Option<Waiter<W>>,
-    followers: VecDeque<Waiter<W>>,
+impl Wakes {
+    fn wake(self) {
+        match self {
+            Wakes::Thread(thread) => thread.unpark(),
+            Wakes::Task(waker) => waker.wake(),
+        }
+    }
 }
 
-#[derive(Clone)]
-struct Waiter<W> {
-    seat: u64,
-    wakes: W,
+/// A place in line: the index there, and the number of this stay.
+#[derive(Clone, Copy, PartialEq, Eq)]
+pub(crate) struct Seat {
+    at: usize,
+    number: u64,
 }
 
-impl<W: Clone> Bell<W> {
-    pub fn new() -> Bell<W> {
-        let line = Line {
-            next_seat: 0,
-            leader: None,
-            followers: VecDeque::new(),
+/// One that sleeps.
+pub(crate) struct Sleeper {
+    seat: Seat,
+    wakes: Wakes,
+}
+
+/// Who is in line by an index.
+#[derive(Clone, Copy)]
+struct Sitter {
+    /// The number of the stay, 0 where nobody is.
+    number: u64,
+    is_task: bool,
+    /// The tick by which one that leads is to have acted. A thread acts.
+    act_by: u64,
+}
+
+struct Waits {
+    line: Line<Sleeper>,
+    sitters: Vec<Sitter>,
+    /// How many stays there have been.
+    stays: u64,
+    /// Whether a task has waited.
+    has_tasks: bool,
+}
+
+/// Those who receive from a queue and wait.
+pub(crate) struct Waiting(Mutex<Waits>);
+
+impl Waits {
+    fn sits(&self, seat: Seat) -> bool {
+        self.sitters
+            .get(seat.at)
+            .is_some_and(|sitter| sitter.number == seat.number)
+    }
+
+    /// Joins the line, awake.
+    fn join(&mut self, is_task: bool, now: u64) -> Seat {
+        let Ok(at) = self.line.join() else {
+            handle_alloc_error(Layout::new::<Sleeper>());
         };
-        Bell {
-            armed: AtomicU64::new(0),
-            is_closed: AtomicBool::new(false),
-            line: Mutex::new(line),
+        self.stays += 1;
+        let sitter = Sitter {
+            number: self.stays,
+            is_task,
+            act_by: if is_task { now.saturating_add(GRACE) } else { NEVER },
+        };
+        match self.sitters.get_mut(at) {
+            Some(place) => *place = sitter,
+            None => self.sitters.push(sitter),
+        }
+        let number = self.stays;
+        Seat { at, number }
+    }
+
+    /// Notes that the one that leads acts from a tick on.
+    fn leads_from(&mut self, tick: u64) {
+        let first = self.line.first();
+        if let Some(sitter) = first.map(|at| &mut self.sitters[at]).filter(|sitter| sitter.is_task) {
+            sitter.act_by = tick.saturating_add(GRACE);
         }
     }
 
-    fn line(&self) -> MutexGuard<'_, Line<W>> {
-        self.line.lock().unwrap_or_else(PoisonError::into_inner)
+    /// Leaves the line. It gives what was to wake it, and the one that leads now, where that is to be woken.
+    fn leave(&mut self, seat: Seat, now: u64) -> (Option<Sleeper>, Option<Sleeper>) {
+        let slept = self.line.rise(seat.at);
+        let led = self.line.first() == Some(seat.at);
+        let called = self.line.leave(seat.at);
+        self.sitters[seat.at].number = 0;
+        if led {
+            self.leads_from(now);
+        }
+        (slept, called.map(|Call(next)| next))
     }
 
-    /// Whether the leader sleeps beyond a tick. Whoever lowered a hint to that tick asks.
-    #[inline]
-    pub fn sleeps_beyond(&self, tick: u64) -> bool {
-        tick < self.armed.load(SeqCst)
+    /// Takes the lead, for one that is awake, from a task that was to act by now. It gives the place that the one has then, and
+    /// adds those that are to be woken.
+    fn overtake(&mut self, seat: Seat, now: u64, called: &mut Vec<Sleeper>) -> Seat {
+        let Some(first) = self.line.first().filter(|first| *first != seat.at) else {
+            return seat;
+        };
+        let leader = self.sitters[first];
+        if now < leader.act_by {
+            return seat;
+        }
+        // Whoever joined last leads once the leader has left.
+        let is_task = self.sitters[seat.at].is_task;
+        let (_awake, _follows) = self.leave(seat, now);
+        let seat = self.join(is_task, now);
+        let old = Seat {
+            at: first,
+            number: leader.number,
+        };
+        let (old, next) = self.leave(old, now);
+        called.extend(old.into_iter().chain(next));
+        seat
     }
 
-    /// The leader, whom the caller wakes.
+    /// Until when one that is awake sleeps from now on; or what was to wake it, where it may not sleep.
+    fn sleep(&mut self, seat: Seat, wakes: Wakes, until: u64, now: u64) -> Result<u64, Sleeper> {
+        let leads = self.line.first() == Some(seat.at);
+        let slept = self.line.sleep(seat.at, until, Sleeper { seat, wakes });
+        if leads {
+            self.leads_from(if slept.is_ok() { until } else { now });
+            return slept.map(|()| until);
+        }
+        slept.map(|()| if self.has_tasks { self.watch(now) } else { NEVER })
+    }
+
+    /// When one that follows looks again whether the leader acts.
+    fn watch(&self, now: u64) -> u64 {
+        let act_by = self.line.first().map_or(NEVER, |first| self.sitters[first].act_by);
+        act_by.min(now.saturating_add(WATCH))
+    }
+
+    /// All that sleep, awake from now on.
+    fn rise_all(&mut self, now: u64) -> Vec<Sleeper> {
+        let first = self.line.first();
+        let line = &mut self.line;
+        let all: Vec<_> = (0..self.sitters.len()).filter_map(|at| line.rise(at)).collect();
+        // One that was awake is to act by when it was.
+        if all.iter().any(|sleeper| first == Some(sleeper.seat.at)) {
+            self.leads_from(now);
+        }
+        all
+    }
+}
+
+impl Waiting {
+    /// A line for the receivers of so many shards, with the hints that these write, and all of them for whoever reads them.
+    pub fn new(shards: usize) -> Result<(Waiting, Vec<Hint>, Hints), AllocError> {
+        let mut line = Line::new(shards)?;
+        let written = (0..shards).map(|_| line.add_place()).collect::<Result<_, _>>()?;
+        let hints = line.hints()?;
+        let waits = Waits {
+            line,
+            sitters: Vec::new(),
+            stays: 0,
+            has_tasks: false,
+        };
+        Ok((Waiting(Mutex::new(waits)), written, hints))
+    }
+
+    /// Nobody's code runs while it is locked.
+    fn waits(&self) -> MutexGuard<'_, Waits> {
+        self.0.lock().unwrap_or_else(PoisonError::into_inner)
+    }
+
+    /// Puts a receiver to sleep, which joins the line where it has no place there, and tells the tick at which it looks again by
+    /// itself. None where it may not sleep: the queue is closed, or it leads and something is due before `until`.
+    pub fn sleep(&self, place: &mut Option<Seat>, wakes: Wakes, until: u64, now: u64) -> Option<u64> {
+        let is_task = matches!(wakes, Wakes::Task(_));
+        let mut waits = self.waits();
+        let mut called = Vec::new();
+        if is_task && !waits.has_tasks {
+            // Those that follow sleep without an end.
+            waits.has_tasks = true;
+            called = waits.rise_all(now);
+        }
+        let seat = match *place {
+            Some(seat) if waits.sits(seat) => seat,
+            _ => waits.join(is_task, now),
+        };
+        let before = waits.line.rise(seat.at);
+        let seat = waits.overtake(seat, now, &mut called);
+        let slept = waits.sleep(seat, wakes, until, now);
+        drop(waits);
+        *place = Some(seat);
+        lose(self.wake_each(called, now));
+        drop(before);
+        slept.ok()
+    }
+
+    /// Leaves the line, and wakes the one that leads from then on. What a program's code panics with here is lost: the caller
+    /// may have a value in hand.
+    pub fn leave(&self, place: &mut Option<Seat>, now: u64) {
+        let Some(seat) = place.take() else { return };
+        let (slept, next) = self.left(seat, now);
+        lose(catch_unwind(AssertUnwindSafe(|| drop(slept))));
+        lose(self.wake_each(next, now));
+    }
+
+    fn left(&self, seat: Seat, now: u64) -> (Option<Sleeper>, Option<Sleeper>) {
+        let mut waits = self.waits();
+        if waits.sits(seat) {
+            waits.leave(seat, now)
+        } else {
+            (None, None)
+        }
+    }
+
+    /// Wakes the leader, which was rung.
+    #[cold]
+    pub fn ring(&self, rung: Rung, now: u64) -> thread::Result<()> {
+        let mut waits = self.waits();
+        let called = waits.line.ring(rung);
+        if called.is_some() {
+            waits.leads_from(now);
+        }
+        drop(waits);
+        self.wake_each(called.map(|Call(leader)| leader), now)
+    }
+
+    /// Wakes all that sleep.
+    pub fn wake_all(&self, now: u64) -> thread::Result<()> {
+        let all = self.waits().rise_all(now);
+        self.wake_each(all, now)
+    }
+
+    /// Closes for good: nobody sleeps any more. Those that are given are to be woken.
     #[must_use]
-    pub fn ring(&self) -> Option<W> {
-        let line = self.line();
-        self.armed.store(0, SeqCst);
-        line.leader.as_ref().map(|leader| leader.wakes.clone())
-    }
-
-    /// All who wait, whom the caller wakes.
-    #[must_use]
-    pub fn all(&self) -> Vec<W> {
-        let line = self.line();
-        line.leader
-            .iter()
-            .chain(&line.followers)
-            .map(|waiter| waiter.wakes.clone())
+    pub fn close(&self) -> Vec<Sleeper> {
+        let mut waits = self.waits();
+        iter::from_fn(|| waits.line.close())
+            .map(|Call(sleeper)| sleeper)
             .collect()
     }
 
-    /// From now on nobody waits. The caller wakes those that are given.
-    #[must_use]
-    pub fn close(&self) -> Vec<W> {
-        self.is_closed.store(true, SeqCst);
-        self.all()
-    }
-
-    pub fn is_closed(&self) -> bool {
-        self.is_closed.load(SeqCst)
-    }
-
-    /// Joins the line, as its leader where there is none.
-    fn join(&self, wakes: W) -> (u64, bool) {
-        let mut line = self.line();
-        let seat = line.next_seat;
-        line.next_seat += 1;
-        let waiter = Waiter { seat, wakes };
-        let leads = line.leader.is_none();
-        if leads {
-            line.leader = Some(waiter);
-        } else {
-            line.followers.push_back(waiter);
-        }
-        (seat, leads)
-    }
-
-    fn leads(&self, seat: u64) -> bool {
-        self.line().leader.as_ref().is_some_and(|leader| leader.seat == seat)
-    }
-
-    /// Leaves the line, and gives the new leader, whom the caller wakes.
-    fn leave(&self, seat: u64) -> Option<W> {
-        let mut line = self.line();
-        match &line.leader {
-            Some(leader) if leader.seat == seat => {
-                self.armed.store(0, SeqCst);
-                line.leader = line.followers.pop_front();
-                line.leader.as_ref().map(|leader| leader.wakes.clone())
-            }
-            _ => {
-                line.followers.retain(|waiter| waiter.seat != seat);
-                None
-            }
-        }
+    /// Wakes those that were called, and gives the first panic of a waker. Who has one that panics is out of the line, and the one
+    /// that leads then is woken.
+    pub fn wake_each(&self, called: impl IntoIterator<Item = Sleeper>, now: u64) -> thread::Result<()> {
+        first_panic(called.into_iter().map(|sleeper| {
+            let mut next = Some(sleeper);
+            first_panic(iter::from_fn(|| {
+                let Sleeper { seat, wakes } = next.take()?;
+                let woken = catch_unwind(AssertUnwindSafe(|| wakes.wake()));
+                if woken.is_err() {
+                    next = self.left(seat, now).1;
+                }
+                Some(woken)
+            }))
+        }))
     }
 }
 
-/// What a receiver that waits is to do next.
-#[derive(Clone, Copy, Debug, PartialEq, Eq)]
-pub(crate) enum Todo {
-    /// The next step.
-    Step,
-    /// To take what is due, and to leave where there is something.
-    Take,
-    /// To sleep, at most until a tick.
-    Sleep(u64),
-    /// To leave: the queue is closed.
-    Leave,
-}
-
-#[derive(Clone, Copy, Debug, PartialEq, Eq, Hash)]
-enum Stage {
-    /// It leads, and looks for something due.
-    Takes,
-    /// It reads the hints, for how long to sleep.
-    Reads,
-    Arms(u64),
-    /// It has said for how long it sleeps, and reads the hints again.
-    Looks(u64),
-    /// It asks whether the queue is closed, as the last before it sleeps.
-    Asks(u64),
-    /// It follows, and asks whether it leads now.
-    Follows,
-    /// It follows, and asks whether the queue is closed.
-    FollowerAsks,
-}
-
-/// The wait of one receiver.
-#[derive(Clone, Copy, Debug, PartialEq, Eq, Hash)]
-pub(crate) struct Wait {
-    seat: u64,
-    stage: Stage,
-}
-
-impl Wait {
-    pub fn join<W: Clone>(bell: &Bell<W>, wakes: W) -> Wait {
-        let (seat, leads) = bell.join(wakes);
-        Wait {
-            seat,
-            stage: if leads { Stage::Takes } else { Stage::FollowerAsks },
-        }
-    }
-
-    /// Makes one step. `least` is the least hint.
-    pub fn step<W: Clone>(&mut self, bell: &Bell<W>, least: impl FnOnce() -> u64) -> Todo {
-        let (stage, todo) = match self.stage {
-            Stage::Takes => (Stage::Reads, Todo::Take),
-            Stage::Reads => (Stage::Arms(least()), Todo::Step),
-            Stage::Arms(until) => {
-                bell.armed.store(until, SeqCst);
-                (Stage::Looks(until), Todo::Step)
-            }
-            Stage::Looks(until) if least() < until => (Stage::Takes, Todo::Step),
-            Stage::Looks(until) => (Stage::Asks(until), Todo::Step),
-            Stage::Asks(until) if !bell.is_closed() => (Stage::Takes, Todo::Sleep(until)),
-            Stage::FollowerAsks if !bell.is_closed() => (Stage::Follows, Todo::Sleep(NEVER)),
-            Stage::Asks(_) | Stage::FollowerAsks => (self.stage, Todo::Leave),
-            Stage::Follows if bell.leads(self.seat) => (Stage::Takes, Todo::Step),
-            Stage::Follows => (Stage::FollowerAsks, Todo::Step),
-        };
-        self.stage = stage;
-        todo
-    }
-
-    /// Leaves the line, and gives whom to wake, who leads now.
-    #[must_use]
-    pub fn leave<W: Clone>(self, bell: &Bell<W>) -> Option<W> {
-        bell.leave(self.seat)
-    }
-}
-
-/// Makes a call with each of them, all of which it makes though some panic, and gives the first panic.
-pub(crate) fn wake_each<W>(all: &[W], mut wake: impl FnMut(&W)) -> thread::Result<()> {
-    let mut woken = Ok(());
-    for one in all {
-        let called = catch_unwind(AssertUnwindSafe(|| wake(one)));
-        if woken.is_ok() {
-            woken = called;
+/// Makes all of some calls, and gives the first panic.
+pub(crate) fn first_panic(calls: impl Iterator<Item = thread::Result<()>>) -> thread::Result<()> {
+    let mut first = Ok(());
+    for called in calls {
+        if first.is_ok() {
+            first = called;
         } else {
             lose(called);
         }
     }
-    woken
+    first
 }
 
-/// Drops what a call panicked with.
+/// Drops what a call panicked with, where it did.
+#[inline]
 pub(crate) fn lose(called: thread::Result<()>) {
-    if let Err(within) = catch_unwind(AssertUnwindSafe(|| drop(called))) {
+    let Err(panic) = called else { return };
+    if let Err(within) = catch_unwind(AssertUnwindSafe(|| drop(panic))) {
         // A panic's value may panic as it is dropped, and so may that of this panic.
         mem::forget(within);
     }
 }
-
-#[cfg(test)]
-mod tests;

@@ -23,7 +23,7 @@ impl Seated {
     // The keeper's seat at a new table.
     pub(crate) fn at_new_table(rows: usize) -> Result<Seated, AllocError> {
         // requires rows ≤ CAPACITY_LIMIT
-        let table = Arc::new(Table::of_words(rows + 1)?);
+        let table = Arc::new(Table::of_words(rows + 1, 0)?);
         Ok(Seated {
             table,
             is_shared: false,
@@ -59,7 +59,7 @@ impl Seated {
         // requires IsFree (slice_index self.old.view.seen index)
         // requires stamp_of new ≡ stamp_of (slice_index self.old.view.seen index) + 1
         // requires mark_of new ≡ 0
-        self.table.store(self.is_shared, index, new);
+        self.table.store_as(self.is_shared, index, new);
     }
 
     pub(crate) fn settle(&mut self, index: usize, old: u64, new: u64) -> u64 {

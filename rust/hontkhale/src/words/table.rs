@@ -1,11 +1,12 @@
-//! A table of words that a keeper, its callers and whoever has its open words share.
+//! A table of words that threads share: a keeper, its callers and whoever has its open words; or those who write the hints of a
+//! queue's shards, and its receivers.
 //!
-//! Once the keeper has issued a caller or opened its words, each call is one atomic step, and all steps are sequentially
-//! consistent. Until then nobody else has the words, and the keeper's stores and settling exchanges are plain: `Relaxed`,
-//! which takes no fence. No step can tell the difference. The keeper makes its steps by `&mut`, so they come one after
-//! the other, whichever threads it goes through. A caller, or the open words, goes to another thread by something that
-//! synchronizes, as a spawn or a lock does, and it is made after all plain steps: so each step by it finds what they
-//! left, or something later. A caller that was given back, and open words that were dropped, still count.
+//! All steps are sequentially consistent, but those of a keeper that is alone. Until it has issued a caller or opened its words
+//! nobody else has them, and its stores and settling exchanges are plain: `Relaxed`, which takes no fence. No step can tell the
+//! difference. The keeper makes its steps by `&mut`, so they come one after the other, whichever threads it goes through. A caller,
+//! or the open words, goes to another thread by something that synchronizes, as a spawn or a lock does, and it is made after all
+//! plain steps: so each step by it finds what they left, or something later. A caller that was given back, and open words that
+//! were dropped, still count.
 
 use crate::index::nth;
 use crate::memory::{room_for, AllocError};
@@ -19,10 +20,10 @@ pub(crate) struct Table {
 }
 
 impl Table {
-    /// A table of so many words that are 0.
-    pub(crate) fn of_words(count: usize) -> Result<Table, AllocError> {
+    /// A table of so many words of that value.
+    pub(crate) fn of_words(count: usize, value: u64) -> Result<Table, AllocError> {
         let mut words = room_for(count)?;
-        words.resize_with(count, || AtomicU64::new(0));
+        words.resize_with(count, || AtomicU64::new(value));
         Ok(Table { words })
     }
 
@@ -31,15 +32,19 @@ impl Table {
         nth(&self.words, index).load(SeqCst)
     }
 
-    /// A plain step unless others have the words.
     #[inline(always)]
-    pub(crate) fn store(&self, is_shared: bool, index: usize, new: u64) {
-        let word = nth(&self.words, index);
+    pub(crate) fn store(&self, index: usize, new: u64) {
+        nth(&self.words, index).store(new, SeqCst);
+    }
+
+    /// The same; a plain step unless others have the words.
+    #[inline(always)]
+    pub(crate) fn store_as(&self, is_shared: bool, index: usize, new: u64) {
         if is_shared {
-            word.store(new, SeqCst);
+            self.store(index, new);
         } else {
             seldom();
-            word.store(new, Relaxed);
+            nth(&self.words, index).store(new, Relaxed);
         }
     }
 

@@ -1,6 +1,6 @@
 //! Tasks that receive, in the place of threads.
 
-use crate::kit::FAR;
+use crate::kit::{within_the_limit, FAR};
 use hontkhale::{DelayQueue, Expired, ManualClock, Receiver};
 use std::panic::{catch_unwind, panic_any, AssertUnwindSafe};
 use std::sync::atomic::{AtomicUsize, Ordering::SeqCst};
@@ -104,8 +104,11 @@ fn a_close_ends_a_task_once_nothing_is_due() {
     assert!(poll(&mut one, &wakes).is_pending() && poll(&mut other, &wakes).is_pending());
     queue.insert("due", Duration::ZERO).expect("room");
     queue.insert("waits", SECOND).expect("room");
-    assert_eq!(wakes.take(), 2);
+    // One of them leads.
+    assert_eq!(wakes.take(), 1);
     queue.close();
+    // The other.
+    assert_eq!(wakes.take(), 1);
     assert_eq!(poll(&mut one, &wakes), Poll::Ready(Some("due")));
     assert_eq!(
         (poll(&mut one, &wakes), poll(&mut other, &wakes)),
@@ -241,12 +244,14 @@ impl Drop for Bomb {
 
 #[test]
 fn a_panic_that_panics_as_it_is_dropped_keeps_nobody_asleep() {
-    let calls: [fn(&ManualClock, &DelayQueue<String>); 3] = [
-        |_, queue| _ = queue.insert("sooner".to_string(), SECOND),
-        |_, queue| queue.close(),
-        |clock, _| clock.advance(SECOND),
+    type Call = fn(&ManualClock, &DelayQueue<String>);
+    // How many of the panics are lost. An insert calls the one that leads, and the next one where its waker panics.
+    let calls: [(Call, usize); 3] = [
+        (|_, queue| _ = queue.insert("sooner".to_string(), SECOND), 0),
+        (|_, queue| queue.close(), 1),
+        (|clock, _| clock.advance(SECOND), 1),
     ];
-    for call in calls {
+    for (call, lost) in calls {
         let clock = ManualClock::new();
         let queue = DelayQueue::builder().clock(&clock).build();
         let (drops, wakes) = (Arc::<AtomicUsize>::default(), Arc::<Wakes>::default());
@@ -257,10 +262,10 @@ fn a_panic_that_panics_as_it_is_dropped_keeps_nobody_asleep() {
         }
         assert!(poll(&mut receivers[2], &wakes).is_pending());
         let panic = catch_unwind(AssertUnwindSafe(|| call(&clock, &queue))).expect_err("a waker's panic");
-        assert_eq!((wakes.take(), drops.load(SeqCst)), (1, 1));
+        assert_eq!((wakes.take(), drops.load(SeqCst)), (1, lost));
         assert!(panic.is::<Bomb>());
         assert!(catch_unwind(AssertUnwindSafe(|| drop(panic))).is_err());
-        assert_eq!(drops.load(SeqCst), 2);
+        assert_eq!(drops.load(SeqCst), lost + 1);
     }
 }
 
@@ -321,4 +326,156 @@ fn a_tasks_waker_calls_the_queue() {
     queue.insert(2, Duration::ZERO).expect("room");
     drop(receiver);
     assert_eq!(queue.len(), 2);
+}
+
+/// Receivers of a queue, each polled once, with what tells how often it was woken.
+fn waiting(queue: &DelayQueue<u64>, count: usize) -> Vec<(Receiver<u64>, Arc<Wakes>)> {
+    let waits = |_| {
+        let (mut receiver, wakes) = (queue.receiver(), Arc::<Wakes>::default());
+        assert!(poll(&mut receiver, &wakes).is_pending());
+        (receiver, wakes)
+    };
+    (0..count).map(waits).collect()
+}
+
+/// The places of those that were woken.
+fn woken(tasks: &[(Receiver<u64>, Arc<Wakes>)]) -> Vec<usize> {
+    (0..tasks.len()).filter(|at| tasks[*at].1.take() > 0).collect()
+}
+
+#[test]
+fn a_sooner_insert_wakes_one_of_many_tasks() {
+    let queue = DelayQueue::builder().clock(&ManualClock::new()).build();
+    let mut tasks = waiting(&queue, 100);
+    assert_eq!(woken(&tasks), []);
+    for seconds in [40, 30, 20, 10] {
+        queue.insert(seconds, seconds as u32 * SECOND).expect("room");
+        assert_eq!(woken(&tasks), [0]);
+        let (receiver, wakes) = &mut tasks[0];
+        assert!(poll(receiver, wakes).is_pending());
+        queue.insert(seconds, 50 * SECOND).expect("room");
+        assert_eq!(woken(&tasks), []);
+    }
+}
+
+/// The next one leads, and each that leaves as it leads wakes one.
+#[test]
+fn an_entry_that_a_task_takes_wakes_one_of_many_tasks() {
+    let clock = ManualClock::new();
+    let queue = DelayQueue::builder().clock(&clock).build();
+    let mut tasks = waiting(&queue, 100);
+    let mut leader = 0;
+    for _ in 0..1_000 {
+        queue.insert(1, Duration::ZERO).expect("room");
+        assert_eq!(woken(&tasks), [leader]);
+        let (receiver, wakes) = &mut tasks[leader];
+        assert_eq!(poll(receiver, wakes), Poll::Ready(Some(1)));
+        assert!(poll(receiver, wakes).is_pending());
+        let next = woken(&tasks);
+        assert!(next.len() == 1 && next != [leader]);
+        leader = next[0];
+        let (receiver, wakes) = &mut tasks[leader];
+        assert!(poll(receiver, wakes).is_pending());
+    }
+}
+
+#[test]
+fn many_tasks_that_are_dropped_wake_one_for_each_that_led() {
+    let queue = DelayQueue::builder().clock(&ManualClock::new()).build();
+    for takes_last in [false, true] {
+        let mut tasks = waiting(&queue, 10_000);
+        let mut led = 0;
+        while !tasks.is_empty() {
+            let at = if takes_last { tasks.len() - 1 } else { 0 };
+            let (receiver, wakes) = tasks.swap_remove(at);
+            drop(receiver);
+            let next = tasks.get(at.min(tasks.len().saturating_sub(1)));
+            led += next.map_or(0, |(_, wakes)| wakes.take());
+            assert_eq!(wakes.take(), 0);
+        }
+        assert_eq!(led, if takes_last { 0 } else { 9_999 });
+    }
+}
+
+/// By the least of a second and what the one that leads is late by at most.
+#[test]
+fn a_task_that_nobody_polls_keeps_no_other_task_from_an_entry() {
+    let clock = ManualClock::new();
+    let queue = DelayQueue::builder().clock(&clock).build();
+    let mut tasks = waiting(&queue, 2);
+    assert_eq!(tasks[0].0.wake_at(), None);
+    let again = tasks[1].0.wake_at().expect("it looks again");
+    assert!(again <= clock.now() + SECOND);
+    // The one that leads is woken, and isn't polled.
+    queue.insert(1, Duration::from_millis(1)).expect("room");
+    assert_eq!(woken(&tasks), [0]);
+    clock.advance(again - clock.now());
+    assert_eq!(woken(&tasks), [1]);
+    let (receiver, wakes) = &mut tasks[1];
+    assert_eq!(poll(receiver, wakes), Poll::Ready(Some(1)));
+    // It leads from now on.
+    queue.insert(2, 10 * SECOND).expect("room");
+    assert!(poll(receiver, wakes).is_pending());
+    assert_eq!(receiver.wake_at(), Some(clock.now() + 10 * SECOND));
+    queue.insert(3, SECOND).expect("room");
+    assert_eq!(wakes.take(), 1);
+}
+
+/// One that leads, and sleeps until a tick, may come a little late to it.
+#[test]
+fn a_task_waits_for_the_one_that_leads_a_little() {
+    let clock = ManualClock::new();
+    let queue = DelayQueue::builder().clock(&clock).build();
+    queue.insert(1, SECOND / 2).expect("room");
+    let tasks = waiting(&queue, 2);
+    let [leads, follows] = [0, 1].map(|at: usize| tasks[at].0.wake_at().expect("it looks again"));
+    assert_eq!(leads, clock.now() + SECOND / 2);
+    assert!(leads < follows && follows < leads + SECOND / 2);
+}
+
+#[test]
+fn a_task_that_lost_its_place_touches_nobody_elses() {
+    let clock = ManualClock::new();
+    let queue = DelayQueue::builder().clock(&clock).build();
+    let mut tasks = waiting(&queue, 2);
+    queue.insert(1, 100 * SECOND).expect("room");
+    // The first is woken, and isn't polled: the second takes the lead, and a third takes the first one's place.
+    clock.advance(2 * SECOND);
+    let (receiver, wakes) = &mut tasks[1];
+    assert!(poll(receiver, wakes).is_pending());
+    assert_eq!(receiver.wake_at(), Some(clock.now() + 98 * SECOND));
+    tasks.extend(waiting(&queue, 1));
+    woken(&tasks);
+    drop(tasks.remove(0));
+    assert_eq!(woken(&tasks), []);
+    // The second led, and the third leads now.
+    drop(tasks.remove(0));
+    assert_eq!(woken(&tasks), [0]);
+    let (receiver, wakes) = &mut tasks[0];
+    assert!(poll(receiver, wakes).is_pending());
+    assert_eq!(receiver.wake_at(), Some(clock.now() + 98 * SECOND));
+    queue.insert(2, SECOND).expect("room");
+    assert_eq!(wakes.take(), 1);
+}
+
+#[test]
+fn a_task_that_nobody_polls_keeps_no_thread_from_an_entry() {
+    within_the_limit(|| {
+        let clock = ManualClock::new();
+        let queue = DelayQueue::builder().clock(&clock).build();
+        let receiver = queue.clone();
+        // It may wait before the task does, or behind it.
+        let waits = thread::spawn(move || receiver.iter().map(|out| out.value).collect::<Vec<_>>());
+        let (idle, wakes) = waiting(&queue, 1).pop().expect("a task");
+        for number in 0..100 {
+            queue.insert(number, Duration::from_millis(number % 3)).expect("room");
+            while !queue.is_empty() {
+                clock.advance(Duration::from_millis(50));
+                thread::yield_now();
+            }
+        }
+        queue.close();
+        assert_eq!(waits.join().unwrap(), (0..100).collect::<Vec<_>>());
+        drop((idle, wakes));
+    });
 }
