@@ -7,7 +7,7 @@ use Rattle.std.specs.Map.{lookup}
 use Rattle.dq_ticks.specs.declared.keys.EntryId.{EntryId}
 use mathlib.Core.Logic.{dite}
 use native.Mathlib.Decide.{ℕ_discrete}
-use Rattle.dq_growing.specs.Notes.{Pairs, Book, AreNotes, AreMarked, HasNone, Forgets, mark_of, numbers_of, same_numbers, with_id, or_own, user_at, place_by, meant_place, SetsPair, TakesPair}
+use Rattle.dq_growing.specs.Notes.{Pairs, Book, AreNotes, AreMarked, HasNone, Forgets, note_mark, numbers_of, same_numbers, with_id, or_own, user_at, place_by, meant_place, SetsPair, TakesPair}
 use Rattle.dq_growing.proofs.Standing.{same_id, some_is}
 use Rattle.dq_growing.proofs.Leasts.{some_not_none}
 
@@ -127,10 +127,10 @@ module _ (p q : Pairs) (id : EntryId) (marks : List Bool) (marked : AreMarked p 
       (λ e. let P : ℕ → Type 0 = λ x. slice_index_or (slice_set marks m true) x false ≡ true in subst P (sym e) (get_or-set_same marks m true false inside))
       (λ n. get_or-set_other marks m j true false n ∙ was)
 
-  pub marks_more : (o : EntryId) (m : ℕ) → m ≡ mark_of id → m < length marks → SetsPair p id (Some o) q → AreMarked q (slice_set marks m true)
+  pub marks_more : (o : EntryId) (m : ℕ) → m ≡ note_mark id → m < length marks → SetsPair p id (Some o) q → AreMarked q (slice_set marks m true)
   marks_more other m is inside s k o at =
       ⊎_elim
       (λ (e : k ≡ id). let P : ℕ → Type 0 = λ x. slice_index_or (slice_set marks m true) x false ≡ true in
-      subst P (is ∙ ap mark_of (sym e)) (get_or-set_same marks m true false inside))
-      (λ (n : k ≢ id). kept_mark m inside (mark_of k) (marked k o (sym (s.else k n) ∙ at)))
+      subst P (is ∙ ap note_mark (sym e)) (get_or-set_same marks m true false inside))
+      (λ (n : k ≢ id). kept_mark m inside (note_mark k) (marked k o (sym (s.else k n) ∙ at)))
       (one_or_two k id)

@@ -23,13 +23,13 @@ abbrev pub with_id : Pairs → EntryId → Option EntryId
 with_id p id = lookup (same_numbers (numbers_of id)) p.entries
 
 -- the mark of an id
-abbrev pub mark_of : EntryId → ℕ
-mark_of id = id.index % 128
+abbrev pub note_mark : EntryId → ℕ
+note_mark id = id.index % 128
 
 -- each id that has another has its mark
 abbrev pub AreMarked : Pairs → List Bool → Type 0
 AreMarked p marks =
-    (k o : EntryId) → with_id p k ≡ Some o → slice_index_or marks (mark_of k) false ≡ true
+    (k o : EntryId) → with_id p k ≡ Some o → slice_index_or marks (note_mark k) false ≡ true
 
 -- an id has that with it, or nothing, and every other has what it had
 pub record SetsPair (p : Pairs) (id : EntryId) (o : Option EntryId) (q : Pairs) : Type 0 where

@@ -2,7 +2,7 @@
 
 ghost use Rattle.std.specs.Prelude.{◌≡◌, true, false, ◌<◌, ◌≤◌, IfOk, OnOk, None, Some};
 ghost use Rattle.dq_ticks.specs.Keys.{EntryName};
-ghost use Rattle.dq_growing.specs.Notes.{numbers_of, mark_of, with_id, HasNone, ArePastBy, ArePastIn, AllArePast, user_at, meant_place, SetsPair, SamePairs, TakesPair, AreNotes, HasNoteRoom, SameNotes, IsNoted, Forgets};
+ghost use Rattle.dq_growing.specs.Notes.{numbers_of, note_mark, with_id, HasNone, ArePastBy, ArePastIn, AllArePast, user_at, meant_place, SetsPair, SamePairs, TakesPair, AreNotes, HasNoteRoom, SameNotes, IsNoted, Forgets};
 
 use dq_core::{DelayCore, Words};
 use dq_ticks::EntryId;
@@ -37,8 +37,8 @@ const MARKS: usize = 128;
 
 // The mark of an id.
 #[inline(always)]
-fn mark_of(id: &EntryId) -> usize
-    ensures { result ≡ mark_of id.now }
+fn note_mark(id: &EntryId) -> usize
+    ensures { result ≡ note_mark id.now }
 {
     id.index() as usize % MARKS
 }
@@ -86,7 +86,7 @@ impl<A: Allocator + Clone> PairTable<A> {
     pub(crate) fn find(&self, id: &EntryId) -> Option<EntryId>
         ensures { result ≡ with_id self.now id.now }
     {
-        if !self.marks[mark_of(id)] {
+        if !self.marks[note_mark(id)] {
             return None;
         }
         self.look_up(id)
@@ -128,7 +128,7 @@ impl<A: Allocator + Clone> PairTable<A> {
         requires { 0 < self.old.room }
         ensures { SetsPair self.old id.now (Some other) self.new }
     {
-        self.marks[mark_of(id)] = true;
+        self.marks[note_mark(id)] = true;
         let Ok(_) = self.map.insert(numbers_of(id), other) else {
             unreachable!();
         };

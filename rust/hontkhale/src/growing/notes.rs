@@ -25,7 +25,7 @@ const MARKS: usize = 128;
 
 // The mark of an id.
 #[inline(always)]
-fn mark_of(id: &EntryId) -> usize {
+fn note_mark(id: &EntryId) -> usize {
     id.index() as usize % MARKS
 }
 
@@ -54,7 +54,7 @@ impl PairTable {
     // What an id has with it.
     #[inline]
     pub(crate) fn find(&self, id: &EntryId) -> Option<EntryId> {
-        if !*nth(&self.marks, mark_of(id)) {
+        if !*nth(&self.marks, note_mark(id)) {
             return None;
         }
         self.look_up(id)
@@ -84,7 +84,7 @@ impl PairTable {
     // Gives an id another.
     pub(crate) fn put(&mut self, id: &EntryId, other: EntryId) {
         // requires 0 < self.old.room
-        *nth_mut(&mut self.marks, mark_of(id)) = true;
+        *nth_mut(&mut self.marks, note_mark(id)) = true;
         self.map.insert(numbers_of(id), other);
     }
 

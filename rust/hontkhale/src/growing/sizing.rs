@@ -22,6 +22,7 @@ pub const CORES: usize = 64;
 /// Each so many ends it is looked whether the cores are of the right size, and at each of the last few: to look takes longer
 /// the more cores there are.
 const LOOKS: u64 = 128;
+
 const LAST: u64 = 16;
 
 /// Keeps a store at the right size.

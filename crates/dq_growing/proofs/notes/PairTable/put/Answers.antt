@@ -14,5 +14,5 @@ invariant_of-self g c =
     let u = c.in-Ok.ensures.updates in
     let was : Pairs = record { entries = c.self.inside.map.entries; room = spare c.self.inside.map } in
     let is : Pairs = record { entries = c.insert.new.self.entries; room = spare c.insert.new.self } in
-    marks_more was is c.args.id.now c.self.inside.marks c.self.invariant c.args.other c.mark_of.result c.mark_of.ensures (search rules)
+    marks_more was is c.args.id.now c.self.inside.marks c.self.invariant c.args.other c.note_mark.result c.note_mark.ensures (search rules)
     (sets_pair was is c.numbers_of.result c.args.id.now _ c.numbers_of.ensures u.1 u.2)
