@@ -427,6 +427,19 @@ mod tests {
         }
     }
 
+    /// It found the queue open before the close.
+    #[test]
+    fn an_insert_that_is_under_way_as_the_receivers_end_takes_its_entry_back() {
+        let queue = DelayQueue::builder().shards(1).build();
+        let first = queue.insert("first", FAR).expect("room");
+        assert_eq!(queue.remove(&first), Ok("first"));
+        queue.close_when_empty();
+        let mut store = queue.shared.lock(0);
+        let late = store.insert("late", 5);
+        assert_eq!(queue.shared.is_in(store, late), Err("late"));
+        assert!(queue.is_empty() && queue.recv().is_none());
+    }
+
     /// What a refused one made isn't there when the queue grows by itself.
     #[test]
     fn a_shard_counts_the_words_that_it_has() {

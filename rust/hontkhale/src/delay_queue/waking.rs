@@ -29,16 +29,17 @@ pub(crate) enum Wakes {
 }
 
 impl Wakes {
-    fn wake(self) {
-        match self {
+    /// Wakes it, and gives the panic of a waker.
+    fn wake(self) -> thread::Result<()> {
+        catch_unwind(AssertUnwindSafe(|| match self {
             Wakes::Thread(thread) => thread.unpark(),
             Wakes::Task(waker) => waker.wake(),
-        }
+        }))
     }
 }
 
 /// A place in line: the index there, and the number of this stay.
-#[derive(Clone, Copy, PartialEq, Eq)]
+#[derive(Clone, Copy)]
 pub(crate) struct Seat {
     at: usize,
     number: u64,
@@ -268,9 +269,12 @@ impl Waiting {
             let mut next = Some(sleeper);
             first_panic(iter::from_fn(|| {
                 let Sleeper { seat, wakes } = next.take()?;
-                let woken = catch_unwind(AssertUnwindSafe(|| wakes.wake()));
+                let woken = wakes.wake();
                 if woken.is_err() {
-                    next = self.left(seat, now).1;
+                    let (again, first) = self.left(seat, now);
+                    next = first;
+                    // It was polled meanwhile, and sleeps again.
+                    lose(again.map_or(Ok(()), |again| again.wakes.wake()));
                 }
                 Some(woken)
             }))

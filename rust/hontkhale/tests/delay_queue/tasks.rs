@@ -479,3 +479,28 @@ fn a_task_that_nobody_polls_keeps_no_thread_from_an_entry() {
         drop((idle, wakes));
     });
 }
+
+/// It slept without an end until the task came.
+#[test]
+fn a_thread_that_followed_another_looks_whether_a_task_leads() {
+    within_the_limit(|| {
+        let queue = DelayQueue::new();
+        let receives = |_| {
+            let queue = queue.clone();
+            thread::spawn(move || queue.recv().map(|out| out.value))
+        };
+        let threads: Vec<_> = (0..2).map(receives).collect();
+        // One of them leads by now, and the other one follows.
+        thread::sleep(Duration::from_millis(50));
+        let _idle = waiting(&queue, 1);
+        queue.insert(1, Duration::ZERO).expect("room");
+        while !queue.is_empty() {
+            thread::sleep(Duration::from_millis(1));
+        }
+        // The task leads, and isn't polled.
+        queue.insert(2, Duration::ZERO).expect("room");
+        let mut got: Vec<_> = threads.into_iter().map(|thread| thread.join().unwrap()).collect();
+        got.sort_unstable();
+        assert_eq!(got, [Some(1), Some(2)]);
+    });
+}
