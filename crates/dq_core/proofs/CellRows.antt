@@ -8,7 +8,7 @@ use Rattle.dq_core.specs.Values.{revalued_row}
 use Rattle.dq_core.specs.FreeSlots.{FreeIndexes, free_times, GivesBack}
 use Rattle.dq_core.specs.Deferred.{Deferred, deferred_at, DefersIf, Undefers, TakesDeferred}
 use Rattle.dq_core.specs.SlotRowsKept.{is_open, TakesSlot, GivesSlot, IsSlotRowsKept}
-use Rattle.dq_core.specs.Cells.{CellRow, AreTaken, TakesAny, unused_cell, rows_of, cell_at, AreAside, let_go_value, filled_cell, vacated_cell, let_go_cell, emptied_cell, forgotten_cell, raised_cell, revalued_cell}
+use Rattle.dq_core.specs.Cells.{CellRow, AreTaken, TakesAny, unused_cell, rows_of, cell_at, AreAside, let_go_value, filled_cell, let_go_cell, emptied_cell, forgotten_cell, raised_cell, revalued_cell}
 use Rattle.dq_core.proofs.SlotRows.{open_parts, free_is, taken_is, takes_given, waiting_is, not_free, held_inside, filled_is, freed_is, worn_is, raised_is, revalued_is, moved_is}
 use Rattle.dq_core.proofs.Renewing.{worn_not_free, worn_forgotten, free_forgotten}
 

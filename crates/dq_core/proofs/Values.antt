@@ -1,5 +1,5 @@
 -- The value of an entry, changed where it is.
-use Rattle.std.proofs.Common.{◌≡◌, ℕ, ◌<◌, ◌≤◌, ◌+◌, List, length, set, Option, Some, None, is_some, refl, sym, ap, ◌∙◌, subst, arith}
+use Rattle.std.proofs.Common.{◌≡◌, ℕ, ◌<◌, List, length, set, Option, Some, None, refl, sym, ap, ◌∙◌, subst, arith}
 use Rattle.std.proofs.lemmas.List.{length-set, set-get_or}
 use Rattle.dq_ticks.specs.declared.words.Parts.{Parts}
 use Rattle.dq_ticks.specs.declared.keys.EntryId.{EntryId}
@@ -59,10 +59,15 @@ changed_entry {T} {W} {R} Makes b c id a l (was, now, holds, makes, is) =
     ap (λ o. let t : TableRow T = record { stamp = (row_at rows i).stamp; entry = entry_of (held_with o now) w } in t) holds.1 in
     let table : table_of (set rows i r) b.known ≡ set (table_of rows b.known) i (table_row_of r w) = ap (λ ws. table_of (set rows i r) ws) (sym (set-get_or b.known i never)) ∙ table_set rows b.known i r w in
     let M : List (TableRow T) → Machine T = λ ss. record { tick = b.wheel.filing.tick; noted = b.noted; table = ss } in
-    let size = length-table rows b.known l.as_known in
-    (e, now, (omega (arith, size, inside), linked), refl, makes,
-    ap (λ (x : Core T W). machine x) is ∙ ap M (table ∙ ap (λ s. set (table_of rows b.known) i s) row)
-    ∙ ap (λ n. put (machine b) i n (Some (record e { value = now }))) (sym (ap (λ r. r.stamp) at)))
+    let size = length-table rows b.known l.as_known in (
+      e,
+      now,
+      (omega (arith, size, inside), linked),
+      refl,
+      makes,
+      ap (λ (x : Core T W). machine x) is ∙ ap M (table ∙ ap (λ s. set (table_of rows b.known) i s) row)
+          ∙ ap (λ n. put (machine b) i n (Some (record e { value = now }))) (sym (ap (λ r. r.stamp) at)),
+    )
 
 pub changed_same : {T W : Type 0} (b c : Core T W) (i : ℕ) (v : T) → c ≡ with_value_at b i v → SameCore b c
 changed_same {T} {W} b c i v is =

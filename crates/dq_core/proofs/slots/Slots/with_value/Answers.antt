@@ -27,9 +27,13 @@ returns-clause-changes g c =
     let r = read_cell cells i c.index_mut-cell.result.now (inside_cells c.self.invariant.0 c.self.invariant.3 i h) c.index_mut-cell.ensures.value in
     let m = c.with_value.ensures in
     let x = revalued_cell (cell_at cells i) m.1 in
-    rw (← c.self.view_is)
-    (m.0, m.1, ap (λ r. r.held) (rows_at cells i) ∙ ap (λ c. c.row.held) r ∙ m.2, m.3,
-    rw (m.4, ← r) (ap (λ rs. slots_of c.self.inside.last rs) (rows_changed cells i (λ r. revalued_row r m.1) x refl)))
+    rw (← c.self.view_is) (
+      m.0,
+      m.1,
+      ap (λ r. r.held) (rows_at cells i) ∙ ap (λ c. c.row.held) r ∙ m.2,
+      m.3,
+      rw (m.4, ← r) (ap (λ rs. slots_of c.self.inside.last rs) (rows_changed cells i (λ r. revalued_row r m.1) x refl)),
+    )
 
 pub returns-clause-aside : goal.returns-clause-aside
 returns-clause-aside g c =
