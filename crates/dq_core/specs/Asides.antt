@@ -43,8 +43,8 @@ IsCrowded s a =
     is_some (aside_at a i) ≡ true)
 
 -- a slot is left for an insert, and no value waits in it
-abbrev pub IsRoomy : {T : Type 0} → SlotRows T → Aside T → ℕ → Type 0
-IsRoomy s a i =
+abbrev pub IsUncrowded : {T : Type 0} → SlotRows T → Aside T → ℕ → Type 0
+IsUncrowded s a i =
     (i < length s.rows) × (is_free s.last_stamp (row_at s.rows i) ≡ true)
     × (a.drops ≡ true → aside_at a i ≡ None)
 

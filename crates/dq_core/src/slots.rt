@@ -434,7 +434,7 @@ impl<T, A: Allocator> Beside for Slots<T, A> {
 
 impl<T, A: Allocator> Slots<T, A> {
     ghost use Rattle.std.specs.Prelude.{IfErr, IsTrue, is_some};
-    ghost use Rattle.dq_core.specs.Asides.{aside_at, with_aside, waiting_in, IsCrowded, IsRoomy, SetsAsideBut, TakesAside, TakesCrowded};
+    ghost use Rattle.dq_core.specs.Asides.{aside_at, with_aside, waiting_in, IsCrowded, IsUncrowded, SetsAsideBut, TakesAside, TakesCrowded};
     ghost use Rattle.dq_core.specs.Slots.{SlotRows, row_at, is_free, is_held, is_worn, shown, vacated, raised, unused, IsBorn, IsFilled, IsSlotRows};
     ghost use Rattle.dq_core.specs.Renewals.{forgotten, never_used};
     ghost use Rattle.std.specs.Fn.{FnOnceReturnsAtMut};
@@ -525,8 +525,8 @@ impl<T, A: Allocator> Slots<T, A> {
     #[inline]
     pub fn next(&self) -> Option<usize>
         ensures { MatchOption result
-            ((i : ℕ) → ¬ IsRoomy (shown self.now) self.now.aside i)
-            (λ i. IsRoomy (shown self.now) self.now.aside i) }
+            ((i : ℕ) → ¬ IsUncrowded (shown self.now) self.now.aside i)
+            (λ i. IsUncrowded (shown self.now) self.now.aside i) }
     {
         self.free.next()
     }
