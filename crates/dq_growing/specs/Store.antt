@@ -125,10 +125,10 @@ module _ {T W : Type 0} where
   abbrev pub HasFor : StoreState T W → EntryId → T → Type 0
   HasFor s u v = (e : Entry T) × StandsFor s u e × (e.value ≡ v)
 
-  -- of the value of the entry that stands under a user's id a change made another, with that answer;
-  -- where none stands, no answer comes, and nothing changes
-  abbrev pub ChangesFor : {R : Type 0} → (T → R → T → Type 0) → StoreState T W → EntryId → Option R →
-      StoreState T W → Type 0
+  -- of the value of the entry that stands under a user's id a change made another, with that
+  -- answer; where none stands, no answer comes, and nothing changes
+  abbrev pub ChangesFor : {R : Type 0} → (T → R → T → Type 0) → StoreState T W → EntryId →
+      Option R → StoreState T W → Type 0
   ChangesFor Makes s u None t = NoneStandsFor s u × (t ≡ s)
   ChangesFor Makes s u (Some answer) t = OneChanges (StandsFor s) (StandsFor t) Makes u answer
 
@@ -174,9 +174,9 @@ module _ {T W : Type 0} where
       × (t.notes ≡ s.notes))
       ((r ≡ Err Missing) × (t ≡ s))
 
-  -- a change of a value by a user's id: that of the entry of the core at the place that the notes tell
-  abbrev pub ChangesThere : {R : Type 0} → (T → R → T → Type 0) → StoreState T W → EntryId → Option R →
-      StoreState T W → Type 0
+  -- a change of a value by a user's id: that of the entry at the place that the notes tell
+  abbrev pub ChangesThere : {R : Type 0} → (T → R → T → Type 0) → StoreState T W → EntryId →
+      Option R → StoreState T W → Type 0
   ChangesThere Makes s u r t =
       AtPlace s u
       (λ p. OnCoreOr p.shard (λ b c. ChangesValue Makes b p r c) (r ≡ None) s.cores t.cores

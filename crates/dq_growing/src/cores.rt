@@ -341,7 +341,8 @@ impl<T, W: Words, A: Allocator> Cores<T, W, A> {
         requires { F.IsAlwaysCallable call }
         // The entry has the value that the closure left, and its deadline as before; every other stays.
         ensures changes { IfSome result
-            (OneChanges (HasEntry self.old) (HasEntry self.new) (FnOnceReturnsAtMut F.FnOnce call) entry.now) }
+            (OneChanges (HasEntry self.old) (HasEntry self.new)
+            (FnOnceReturnsAtMut F.FnOnce call) entry.now) }
         ensures past { (id : EntryName) → IsPastIn self.old id → IsPastIn self.new id }
         ensures none { IfNone result (IsMissingIn self.old entry.now × (self.new ≡ self.old)) }
 
