@@ -42,28 +42,11 @@ pub(crate) struct Shard<T> {
 
 /// A shard while its lock is held.
 pub(crate) struct Locked<'s, T> {
-    shard: MutexGuard<'s, Shard<T>>,
+    /// None once the lock is let go.
+    shard: Option<MutexGuard<'s, Shard<T>>>,
     seen: &'s Seen,
     let_go: &'s LetGo<T>,
-    is_told: bool,
-    /// It comes last, and so is dropped while the lock is free.
-    owed: Owed<'s>,
-}
-
-/// Whom a guard rang that was just dropped.
-struct Owed<'s> {
     front: &'s Front,
-    rung: Rung,
-}
-
-impl Drop for Owed<'_> {
-    #[inline(always)]
-    fn drop(&mut self) {
-        if matches!(self.rung, Rung::Leader) {
-            let rung = mem::replace(&mut self.rung, Rung::Nobody);
-            lose(self.front.ring(rung));
-        }
-    }
 }
 
 impl Seen {
@@ -99,16 +82,18 @@ impl<T> Deref for Locked<'_, T> {
 
     #[inline(always)]
     fn deref(&self) -> &ShardStore<T> {
-        &self.shard.store
+        &self.shard.as_ref().expect(IS_HELD).store
     }
 }
 
 impl<T> DerefMut for Locked<'_, T> {
     #[inline(always)]
     fn deref_mut(&mut self) -> &mut ShardStore<T> {
-        &mut self.shard.store
+        &mut self.shard.as_mut().expect(IS_HELD).store
     }
 }
+
+const IS_HELD: &str = "the lock is held";
 
 impl<'s, T> Locked<'s, T> {
     #[inline(always)]
@@ -118,30 +103,33 @@ impl<'s, T> Locked<'s, T> {
         let_go: &'s LetGo<T>,
         front: &'s Front,
     ) -> Locked<'s, T> {
-        let rung = Rung::Nobody;
         Locked {
-            shard,
+            shard: Some(shard),
             seen,
             let_go,
-            is_told: false,
-            owed: Owed { front, rung },
+            front,
         }
     }
 
     /// Lets the lock go, and tells whom to wake.
     #[inline(always)]
     pub fn end(mut self) -> Rung {
-        self.is_told = true;
-        self.tell()
+        let rung = self.release();
+        // Nothing is left to be dropped.
+        mem::forget(self);
+        rung
     }
 
-    /// Tells those who hold no lock what the shard has come to.
+    /// Tells those who hold no lock what the shard has come to, and lets the lock go.
     #[inline(always)]
-    fn tell(&mut self) -> Rung {
-        if self.may_have_aside {
-            self.note_aside();
+    fn release(&mut self) -> Rung {
+        let Some(mut shard) = self.shard.take() else {
+            return Rung::Nobody;
+        };
+        let Shard { store, hint } = &mut *shard;
+        if store.may_have_aside {
+            note_aside(store, self.let_go);
         }
-        let Shard { store, hint } = &mut *self.shard;
         let rung = if hint.tick() == store.hint {
             Rung::Nobody
         } else {
@@ -154,15 +142,15 @@ impl<'s, T> Locked<'s, T> {
         }
         rung
     }
+}
 
-    /// Notes whether values are set aside, and counts the places where some are.
-    #[cold]
-    fn note_aside(&mut self) {
-        match self.shard.store.note_aside() {
-            (false, true) => self.let_go.count_place(),
-            (true, false) => self.let_go.uncount_place(),
-            _ => {}
-        }
+/// Notes whether values are set aside, and counts the places where some are.
+#[cold]
+fn note_aside<T>(store: &mut ShardStore<T>, let_go: &LetGo<T>) {
+    match store.note_aside() {
+        (false, true) => let_go.count_place(),
+        (true, false) => let_go.uncount_place(),
+        _ => {}
     }
 }
 
@@ -170,8 +158,7 @@ impl<T> Drop for Locked<'_, T> {
     /// The same where nobody asks whom to wake, as in a panic: the leader is woken, and the panic of its waker is lost.
     #[inline(always)]
     fn drop(&mut self) {
-        if !self.is_told {
-            self.owed.rung = self.tell();
-        }
+        let rung = self.release();
+        lose(self.front.ring(rung));
     }
 }
