@@ -192,7 +192,8 @@ impl Waiting {
     }
 
     /// Puts a receiver to sleep, which joins the line where it has no place there, and tells the tick at which it looks again by
-    /// itself. None where it may not sleep: the queue is closed, or it leads and something is due before `until`.
+    /// itself. None where it is to look again now: the queue is closed, it leads and something is due before `until`, or it has
+    /// called others.
     pub fn sleep(&self, place: &mut Option<Seat>, wakes: Wakes, until: u64, now: u64) -> Option<u64> {
         let is_task = matches!(wakes, Wakes::Task(_));
         let mut waits = self.waits();
@@ -211,9 +212,11 @@ impl Waiting {
         let slept = waits.sleep(seat, wakes, until, now);
         drop(waits);
         *place = Some(seat);
+        // A waker may park this thread, which takes the wake that was meant for it: whoever calls one looks again.
+        let calls_nobody = called.is_empty();
         lose(self.wake_each(called, now));
         drop(before);
-        slept.ok()
+        slept.ok().filter(|_| calls_nobody)
     }
 
     /// Leaves the line, and wakes the one that leads from then on. What a program's code panics with here is lost: the caller
