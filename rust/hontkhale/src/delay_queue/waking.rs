@@ -10,8 +10,9 @@
 use crate::bell::{Call, Hint, Hints, Line, Rung, NEVER};
 use crate::memory::AllocError;
 use std::alloc::{handle_alloc_error, Layout};
+use std::cell::{Cell, RefCell};
 use std::iter;
-use std::mem;
+use std::mem::{self, ManuallyDrop};
 use std::panic::{catch_unwind, AssertUnwindSafe};
 use std::sync::{Mutex, MutexGuard, PoisonError};
 use std::task::Waker;
@@ -21,6 +22,14 @@ use std::thread::{self, Thread};
 const GRACE: u64 = 50;
 /// For how many ticks one that follows sleeps at most, once a task has waited.
 const WATCH: u64 = 1_000;
+
+// They have no destructors, so that those of a thread's other values may wake receivers.
+thread_local! {
+    /// The line of which this thread calls a waker, by its address, and 0 where it calls none.
+    static CALLING: Cell<usize> = const { Cell::new(0) };
+    /// Those that are to be called once that waker has returned, each with its line.
+    static NEXT: ManuallyDrop<RefCell<Vec<(usize, Sleeper)>>> = const { ManuallyDrop::new(RefCell::new(Vec::new())) };
+}
 
 /// What wakes a receiver.
 pub(crate) enum Wakes {
@@ -48,6 +57,12 @@ pub(crate) struct Seat {
 pub(crate) struct Sleeper {
     seat: Seat,
     wakes: Wakes,
+}
+
+impl Sleeper {
+    fn is_task(&self) -> bool {
+        matches!(self.wakes, Wakes::Task(_))
+    }
 }
 
 /// Who is in line by an index.
@@ -220,21 +235,26 @@ impl Waiting {
     }
 
     /// Leaves the line, and wakes the one that leads from then on. What a program's code panics with here is lost: the caller
-    /// may have a value in hand.
+    /// may have a value in hand. Within a waker of the line the next one is called after it: where each of many wakers drops its
+    /// receiver, none is called on another one's stack.
     pub fn leave(&self, place: &mut Option<Seat>, now: u64) {
         let Some(seat) = place.take() else { return };
-        let (slept, next) = self.left(seat, now);
-        lose(catch_unwind(AssertUnwindSafe(|| drop(slept))));
-        lose(self.wake_each(next, now));
+        match self.left(seat, now) {
+            Some(next) if next.is_task() && CALLING.get() == self.address() => self.call_later(next),
+            next => lose(self.wake_each(next, now)),
+        }
     }
 
-    fn left(&self, seat: Seat, now: u64) -> (Option<Sleeper>, Option<Sleeper>) {
+    /// The one that leads once one has left, where that is to be woken.
+    fn left(&self, seat: Seat, now: u64) -> Option<Sleeper> {
         let mut waits = self.waits();
-        if waits.sits(seat) {
-            waits.leave(seat, now)
-        } else {
-            (None, None)
+        if !waits.sits(seat) {
+            return None;
         }
+        let (slept, next) = waits.leave(seat, now);
+        drop(waits);
+        lose(catch_unwind(AssertUnwindSafe(|| drop(slept))));
+        next
     }
 
     /// Wakes the leader, which was rung.
@@ -268,16 +288,43 @@ impl Waiting {
     /// that leads then is woken.
     pub fn wake_each(&self, called: impl IntoIterator<Item = Sleeper>, now: u64) -> thread::Result<()> {
         first_panic(called.into_iter().map(|sleeper| {
-            let mut next = Some(sleeper);
-            first_panic(iter::from_fn(|| {
-                let Sleeper { seat, wakes } = next.take()?;
-                let woken = catch_unwind(AssertUnwindSafe(|| wakes.wake()));
-                if woken.is_err() {
-                    next = self.left(seat, now).1;
-                }
-                Some(woken)
-            }))
+            let woken = self.wake(sleeper, now);
+            iter::from_fn(|| self.next_to_call()).for_each(|next| lose(self.wake(next, now)));
+            woken
         }))
+    }
+
+    fn wake(&self, Sleeper { seat, wakes }: Sleeper, now: u64) -> thread::Result<()> {
+        let around = CALLING.replace(self.address());
+        let woken = catch_unwind(AssertUnwindSafe(|| wakes.wake()));
+        CALLING.set(around);
+        if woken.is_err() {
+            let next = self.left(seat, now);
+            next.into_iter().for_each(|next| self.call_later(next));
+        }
+        woken
+    }
+
+    /// What tells the line from others.
+    fn address(&self) -> usize {
+        self as *const Waiting as usize
+    }
+
+    fn call_later(&self, sleeper: Sleeper) {
+        NEXT.with(|next| next.borrow_mut().push((self.address(), sleeper)));
+    }
+
+    fn next_to_call(&self) -> Option<Sleeper> {
+        NEXT.with(|next| {
+            let mut next = next.borrow_mut();
+            let at = next.iter().rposition(|(line, _)| *line == self.address())?;
+            let (_, sleeper) = next.swap_remove(at);
+            if next.is_empty() {
+                // Nobody drops the memory at the thread's end.
+                *next = Vec::new();
+            }
+            Some(sleeper)
+        })
     }
 }
 
