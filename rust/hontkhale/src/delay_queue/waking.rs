@@ -10,8 +10,9 @@
 use crate::bell::{Call, Hint, Hints, Line, Rung, NEVER};
 use crate::memory::AllocError;
 use std::alloc::{handle_alloc_error, Layout};
+use std::cell::{Cell, RefCell};
 use std::iter;
-use std::mem;
+use std::mem::{self, ManuallyDrop};
 use std::panic::{catch_unwind, AssertUnwindSafe};
 use std::sync::{Mutex, MutexGuard, PoisonError};
 use std::task::Waker;
@@ -21,6 +22,14 @@ use std::thread::{self, Thread};
 const GRACE: u64 = 50;
 /// For how many ticks one that follows sleeps at most, once a task has waited.
 const WATCH: u64 = 1_000;
+
+// They have no destructors, so that those of a thread's other values may wake receivers.
+thread_local! {
+    /// The line of which this thread calls a waker, by its address, and 0 where it calls none.
+    static CALLING: Cell<usize> = const { Cell::new(0) };
+    /// Those that are to be called once that waker has returned, each with its line.
+    static NEXT: ManuallyDrop<RefCell<Vec<(usize, Sleeper)>>> = const { ManuallyDrop::new(RefCell::new(Vec::new())) };
+}
 
 /// What wakes a receiver.
 pub(crate) enum Wakes {
@@ -49,6 +58,12 @@ pub(crate) struct Seat {
 pub(crate) struct Sleeper {
     seat: Seat,
     wakes: Wakes,
+}
+
+impl Sleeper {
+    fn is_task(&self) -> bool {
+        matches!(self.wakes, Wakes::Task(_))
+    }
 }
 
 /// Who is in line by an index.
@@ -193,7 +208,8 @@ impl Waiting {
     }
 
     /// Puts a receiver to sleep, which joins the line where it has no place there, and tells the tick at which it looks again by
-    /// itself. None where it may not sleep: the queue is closed, or it leads and something is due before `until`.
+    /// itself. None where it is to look again now: the queue is closed, it leads and something is due before `until`, or it has
+    /// called others.
     pub fn sleep(&self, place: &mut Option<Seat>, wakes: Wakes, until: u64, now: u64) -> Option<u64> {
         let is_task = matches!(wakes, Wakes::Task(_));
         let mut waits = self.waits();
@@ -212,18 +228,24 @@ impl Waiting {
         let slept = waits.sleep(seat, wakes, until, now);
         drop(waits);
         *place = Some(seat);
+        // A waker may park this thread, which takes the wake that was meant for it: whoever calls one looks again.
+        let calls_nobody = called.is_empty();
         lose(self.wake_each(called, now));
         drop(before);
-        slept.ok()
+        slept.ok().filter(|_| calls_nobody)
     }
 
     /// Leaves the line, and wakes the one that leads from then on. What a program's code panics with here is lost: the caller
-    /// may have a value in hand.
+    /// may have a value in hand. Within a waker of the line the next one is called after it: where each of many wakers drops its
+    /// receiver, none is called on another one's stack.
     pub fn leave(&self, place: &mut Option<Seat>, now: u64) {
         let Some(seat) = place.take() else { return };
         let (slept, next) = self.left(seat, now);
         lose(catch_unwind(AssertUnwindSafe(|| drop(slept))));
-        lose(self.wake_each(next, now));
+        match next {
+            Some(next) if next.is_task() && CALLING.get() == self.address() => self.call_later(next),
+            next => lose(self.wake_each(next, now)),
+        }
     }
 
     fn left(&self, seat: Seat, now: u64) -> (Option<Sleeper>, Option<Sleeper>) {
@@ -266,19 +288,45 @@ impl Waiting {
     /// that leads then is woken.
     pub fn wake_each(&self, called: impl IntoIterator<Item = Sleeper>, now: u64) -> thread::Result<()> {
         first_panic(called.into_iter().map(|sleeper| {
-            let mut next = Some(sleeper);
-            first_panic(iter::from_fn(|| {
-                let Sleeper { seat, wakes } = next.take()?;
-                let woken = wakes.wake();
-                if woken.is_err() {
-                    let (again, first) = self.left(seat, now);
-                    next = first;
-                    // It was polled meanwhile, and sleeps again.
-                    lose(again.map_or(Ok(()), |again| again.wakes.wake()));
-                }
-                Some(woken)
-            }))
+            let woken = self.wake(sleeper, now);
+            iter::from_fn(|| self.next_to_call()).for_each(|next| lose(self.wake(next, now)));
+            woken
         }))
+    }
+
+    fn wake(&self, Sleeper { seat, wakes }: Sleeper, now: u64) -> thread::Result<()> {
+        let around = CALLING.replace(self.address());
+        let woken = wakes.wake();
+        if woken.is_err() {
+            let (again, next) = self.left(seat, now);
+            // It was polled meanwhile, and sleeps again.
+            lose(again.map_or(Ok(()), |again| again.wakes.wake()));
+            next.into_iter().for_each(|next| self.call_later(next));
+        }
+        CALLING.set(around);
+        woken
+    }
+
+    /// What tells the line from others.
+    fn address(&self) -> usize {
+        self as *const Waiting as usize
+    }
+
+    fn call_later(&self, sleeper: Sleeper) {
+        NEXT.with(|next| next.borrow_mut().push((self.address(), sleeper)));
+    }
+
+    fn next_to_call(&self) -> Option<Sleeper> {
+        NEXT.with(|next| {
+            let mut next = next.borrow_mut();
+            let at = next.iter().rposition(|(line, _)| *line == self.address())?;
+            let (_, sleeper) = next.swap_remove(at);
+            if next.is_empty() {
+                // Nobody drops the memory at the thread's end.
+                *next = Vec::new();
+            }
+            Some(sleeper)
+        })
     }
 }
 

@@ -1,0 +1,113 @@
+//! Wakers that do what a runtime's may do at a bad moment, to receivers that wait.
+
+use hontkhale::{DelayQueue, Expired, Receiver};
+use std::panic::{catch_unwind, AssertUnwindSafe};
+use std::sync::atomic::{AtomicU64, AtomicUsize, Ordering::SeqCst};
+use std::sync::mpsc::channel;
+use std::sync::{Arc, Mutex, OnceLock};
+use std::task::{Context, Poll, Wake, Waker};
+use std::thread;
+use std::time::{Duration, Instant};
+
+const SECOND: Duration = Duration::from_secs(1);
+
+/// A waker that makes a call.
+struct Calls<F>(F);
+
+impl<F: Fn() + Send + Sync> Wake for Calls<F> {
+    fn wake(self: Arc<Self>) {
+        (self.0)();
+    }
+}
+
+fn waker(call: impl Fn() + Send + Sync + 'static) -> Waker {
+    Waker::from(Arc::new(Calls(call)))
+}
+
+fn poll<T>(receiver: &mut Receiver<T>, waker: &Waker) -> Poll<Option<Expired<T>>> {
+    receiver.poll_recv(&mut Context::from_waker(waker))
+}
+
+/// Runs a test in a thread of its own. It fails where the test does, and where it hangs.
+fn within_the_limit(test: impl FnOnce() + Send + 'static) {
+    let (done, waits) = channel();
+    let runs = thread::spawn(move || {
+        test();
+        let _ = done.send(());
+    });
+    match waits.recv_timeout(60 * SECOND) {
+        Err(std::sync::mpsc::RecvTimeoutError::Timeout) => panic!("it hangs"),
+        _ => runs.join().expect("the test passes"),
+    }
+}
+
+/// A clock that goes on without a word to those who wait.
+fn clock() -> Instant {
+    static START: OnceLock<Instant> = OnceLock::new();
+    *START.get_or_init(Instant::now) + Duration::from_millis(MILLIS.load(SeqCst))
+}
+
+static MILLIS: AtomicU64 = AtomicU64::new(0);
+
+/// A thread takes the lead from a task that is late, and calls its waker, which waits as a full channel does.
+#[test]
+fn a_waker_that_parks_its_caller_takes_no_wake_from_it() {
+    within_the_limit(|| {
+        let queue = DelayQueue::builder().read_clock(clock).build();
+        queue.insert("early", Duration::from_millis(1)).expect("room");
+        let (mut late, inserts) = (queue.receiver(), queue.clone());
+        let parks = waker(move || {
+            let inserts = inserts.clone();
+            let inserted = thread::spawn(move || inserts.insert("late", Duration::ZERO).map(drop).is_ok());
+            assert!(inserted.join().expect("no panic"));
+            thread::park_timeout(Duration::from_millis(1));
+        });
+        assert!(poll(&mut late, &parks).is_pending());
+        MILLIS.fetch_add(1_000, SeqCst);
+        assert_eq!(queue.try_recv().map(|out| out.value), Ok("early"));
+        assert_eq!(queue.recv().map(|out| out.value), Some("late"));
+    });
+}
+
+/// Each drops its own receiver, as that of a runtime which has ended does. So the next one is called, and none stands on another
+/// one's stack.
+#[test]
+fn many_wakers_that_drop_their_receivers_take_little_of_the_stack() {
+    within_the_limit(|| {
+        let queue = DelayQueue::new();
+        let tasks: Vec<Arc<Mutex<Option<Receiver<u64>>>>> = (0..10_000).map(|_| Arc::default()).collect();
+        for task in &tasks {
+            let (mut receiver, own) = (queue.receiver(), Arc::clone(task));
+            let drops = waker(move || drop(own.lock().map(|mut own| own.take())));
+            assert!(poll(&mut receiver, &drops).is_pending());
+            *task.lock().expect("no panic") = Some(receiver);
+        }
+        queue.insert(1, Duration::ZERO).expect("room");
+        assert!(tasks.iter().all(|task| task.lock().expect("no panic").is_none()));
+        assert_eq!(queue.recv().map(|out| out.value), Some(1));
+    });
+}
+
+/// The next one is called after the waker, and its own panic is lost.
+#[test]
+fn a_waker_that_leaves_and_panics_keeps_nobody_asleep() {
+    let queue = DelayQueue::new();
+    let own = Arc::new(Mutex::new(None::<Receiver<u64>>));
+    let (mut leads, dropped) = (queue.receiver(), Arc::clone(&own));
+    let leaves = waker(move || {
+        let own = dropped.lock().expect("no panic").take();
+        drop(own);
+        panic!("a waker that has left");
+    });
+    let panics = waker(|| panic!("a waker that panics"));
+    let woken = Arc::new(AtomicUsize::new(0));
+    let counts = Arc::clone(&woken);
+    let (mut next, mut last) = (queue.receiver(), queue.receiver());
+    assert!(poll(&mut leads, &leaves).is_pending());
+    *own.lock().expect("no panic") = Some(leads);
+    let last_waker = waker(move || _ = counts.fetch_add(1, SeqCst));
+    assert!(poll(&mut next, &last_waker).is_pending() && poll(&mut last, &panics).is_pending());
+    let panic = catch_unwind(AssertUnwindSafe(|| queue.insert(1, SECOND))).expect_err("a waker's panic");
+    assert_eq!(panic.downcast_ref(), Some(&"a waker that has left"));
+    assert_eq!(woken.load(SeqCst), 1);
+}
