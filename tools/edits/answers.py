@@ -1,6 +1,5 @@
 """What a check said, and what became of the edits in it. All that is known of the prover's words stands here at the top."""
 
-import pathlib
 import re
 
 # What a check says of a function: behind a comma stands what else is known of it, as `may wait`.
@@ -70,9 +69,6 @@ OURS = "`not_searched`"
 # How a run tells what isn't refused.
 WORDS = {"proved": "NOT REFUSED", "bad": "BAD EDIT", "elsewhere": "REFUSED ELSEWHERE", "not judged": "NOT JUDGED",
          "by no goal": "REFUSED BY NO GOAL OF THE RIGHT BODY"}
-# A crate has a file of this name beside its edits where it isn't settled yet that each is refused by such a goal: there an answer that
-# names what is gone counts too. Whoever settles one takes it out, runs --goals and --right, and mends the edits that these name.
-CRATES, UNSETTLED = pathlib.Path(__file__).resolve().parents[2] / "crates", "edits/unsettled"
 
 
 def alone(text, goal):
@@ -86,8 +82,7 @@ class Answer:
     """What a check of a round said."""
 
     def __init__(self, crate, status, text, searched=(), taken=(), asks_right=False):
-        self.asks_right, self.is_settled = asks_right, not (CRATES / crate / UNSETTLED).exists()
-        text = WRAPPED.sub(" ", text) if self.is_settled else text
+        self.asks_right, text = asks_right, WRAPPED.sub(" ", text)
         self.status, self.text, self.searched, self.taken = status, text, searched, taken
         self.lines = text.rstrip("\n").split("\n")
         self.functions = {it[1].partition("::")[2]: (it[2], it[3] or "") for it in LINE.finditer(text)}
@@ -154,13 +149,12 @@ class Answer:
         # with a word behind it, another function's proof is what it lacks
         if (how, said) != ("not proved", ""):
             return ""
-        stale = next(iter(self.errors_of(name)), "")
-        return f"fn {name}: not proved" if not stale else "" if self.is_settled else stale
+        return f"fn {name}: not proved" if not any(self.errors_of(name)) else ""
 
     def fault_of(self, name):
         """What a right body must not have: such a reason, or an answer that names what isn't there."""
         how, _ = self.functions.get(name, ("", ""))
-        stale = self.errors_of(name) if self.is_settled and how not in ("", "proved") else ()
+        stale = self.errors_of(name) if how not in ("", "proved") else ()
         return self.own_reason(name) or next(iter(stale), "")
 
     def has_goal(self, function, goal):
@@ -202,8 +196,7 @@ def judge_alone(edit, answer):
         told = [it for it in answer.lines if PLACED.match(it)]
         edit.came_to, edit.why = "refused", answer.reason_of(edit) or next((it for it in told if not NAMES.search(it)), "")
         if not edit.why:
-            edit.came_to = "by no goal" if answer.is_settled else "refused"
-            edit.why = f"a proof names what it took away: {next(iter(told), '')}"
+            edit.came_to, edit.why = "by no goal", f"a proof names what it took away: {next(iter(told), '')}"
     elif answer.status == 3 and LIMIT.search(answer.text):
         edit.came_to, edit.why = "refused", f"by a limit of the prover alone: {LIMIT.search(answer.text)[0]}"
     else:
