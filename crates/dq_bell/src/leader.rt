@@ -3,10 +3,10 @@ ghost use Rattle.std.specs.Prelude.{◌≡◌, ℕ, ◌+◌, ◌<◌, ◌≤◌,
 ghost use Rattle.dq_bell.specs.Seats.{AtSameBell, DealsHint, IsFreshLeader, SeesOneMore, FindsEarlier};
 ghost use Rattle.dq_bell.specs.declared.TheConstants.{NEVER};
 
-use crate::{APART, NEVER};
 use crate::hint::Hint;
 use crate::hints::Hints;
 use crate::rule::{Arms, BellSeat, BellTable, Deals, Looks};
+use crate::{APART, NEVER};
 use atomic_table::Table;
 use std::alloc::{AllocError, Allocator, Global};
 use std::marker::Model;
@@ -125,7 +125,10 @@ impl<A: Allocator> Leader<A> {
         ensures seen { self.old.until ≤ result → SeesOneMore self.old self.new }
         ensures found { result < self.old.until → FindsEarlier self.old self.new }
     {
-        let found = self.table.shared.load::<Looks>(&mut self.seat, (at + 1) * APART);
+        let found = self
+            .table
+            .shared
+            .load::<Looks>(&mut self.seat, (at + 1) * APART);
         found
     }
 

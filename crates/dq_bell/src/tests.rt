@@ -104,7 +104,10 @@ fn two_wait<A: Allocator + Clone>(
     );
     assert!(rt; told_by(line.ring(due.lower(50))) == 1, "it sleeps beyond");
     assert!(rt; told_by(line.ring(due.lower(40))) == 0, "it was rung");
-    assert!(rt; hints.tick(1) == 40 && hints.tick(0) != 0, "as it was lowered");
+    assert!(rt;
+        hints.tick(1) == 40 && hints.tick(0) != 0,
+        "as it was lowered"
+    );
     assert!(rt; line.first() == Some(first), "it leads");
     assert!(rt; line.rise(first).is_none(), "it was called");
     assert!(rt; told_by(line.leave(first)) == 2, "the next one leads");
