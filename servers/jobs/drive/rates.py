@@ -9,6 +9,7 @@ import contextlib
 import os
 import pathlib
 import re
+import statistics
 import sys
 import time
 
@@ -74,15 +75,18 @@ def measure(programs):
 
 
 def table():
-    """Each turn, those first in which other machines took the least: how late jobs are hangs on that more than on the program."""
+    """Medians of the turns; and the p99 of each beside the cores that others took: how late jobs are hangs on that first."""
     note, _, *lines = STORED.read_text().splitlines()
-    turns = sorted((int(rate), float(row[-1]), name, *row[:-1]) for rate, name, *row in (line.split("\t") for line in lines))
-    rows = ["| A second | Others took, cores | Program | p50 ms | p99 ms | max ms | cores of workers | of database |"]
-    rows.append("| --: | --: | --- |" + " --: |" * 5)
-    for rate, taken, name, *late, of_workers, of_database in turns:
-        cells = [f"{taken:.3f}", name, *late, f"{float(of_workers):.2f}", f"{float(of_database):.2f}"]
-        rows.append(f"| {rate:,} | {' | '.join(cells)} |")
-    text = f"{note[2:]}.\n\n" + "\n".join(rows)
+    turns = {}
+    for rate, name, *row in (line.split("\t") for line in lines):
+        turns.setdefault((int(rate), name), []).append([float(it) for it in row])
+    rows = ["| A second | Program | p50 ms | p99 ms (cores that others took) | max ms | cores of workers | of database |"]
+    rows.append("| --: | --- | --: | --- | --: | --: | --: |")
+    for (rate, name), its in sorted(turns.items()):
+        p50, _, most, *cores, _ = (f"{statistics.median(it):.3g}" for it in zip(*its))
+        p99 = ", ".join(f"{it[1]:g} ({it[-1]:.2f})" for it in sorted(its, key=lambda it: it[-1]))
+        rows.append(f"| {rate:,} | {' | '.join([name, p50, p99, most, *cores])} |")
+    text = f"{note[2:]}. Medians of {len(its)} turns.\n\n" + "\n".join(rows)
     page = HERE / "README.md"
     mark = re.compile("(<!-- table jobs -->\n).*?(\n<!-- end -->)", re.S)
     page.write_text(mark.sub(lambda it: it[1] + text + it[2], page.read_text(), count=1))

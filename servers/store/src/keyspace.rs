@@ -163,8 +163,9 @@ impl Keyspace {
 
     /// Changes a key, or makes it, while nobody else reads or changes its shard.
     pub fn change<O>(&self, name: &[u8], change: impl FnOnce(&mut Place<'_, '_>) -> O) -> O {
-        let (shard, now) = (self.shard_of(name), self.clock.now());
-        let mut names = self.shards[shard].write();
+        let mut names = self.shards[self.shard_of(name)].write();
+        // What is over by the time that it waited isn't set.
+        let now = self.clock.now();
         let life = self.settle(&mut names, name, now);
         change(&mut Place { keyspace: self, names: &mut names, name, now, life })
     }
