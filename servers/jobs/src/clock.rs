@@ -2,6 +2,7 @@
 
 use crate::enter;
 use std::collections::VecDeque;
+use std::sync::atomic::{AtomicI64, Ordering::SeqCst};
 use std::sync::Mutex;
 use std::time::{Duration, Instant};
 
@@ -12,26 +13,33 @@ const ANSWERS: usize = 8;
 /// microseconds since 1970.
 pub struct Clock {
     begun: Instant,
-    /// What the database's clock showed when this one began, at least and at most, by each of its last answers.
+    /// What the database's clock showed when it began, at least and at most.
+    since: AtomicI64,
+    since_at_most: AtomicI64,
     answers: Mutex<VecDeque<(i64, i64)>>,
 }
 
 impl Clock {
     pub fn new() -> Clock {
-        Clock { begun: Instant::now(), answers: Mutex::default() }
+        Clock {
+            begun: Instant::now(),
+            since: AtomicI64::new(0),
+            since_at_most: AtomicI64::new(0),
+            answers: Mutex::new(VecDeque::new()),
+        }
     }
 
     /// The database said that it was at this microsecond. It was asked at an uptime, and the answer has just come.
     pub fn note(&self, asked: Duration, said: i64) {
         let since = (said - self.uptime().as_micros() as i64, said - asked.as_micros() as i64);
         let mut answers = enter(&self.answers);
-        answers.push_front(since);
-        answers.truncate(ANSWERS);
-    }
-
-    /// Each answer is older when it comes than when it was given: the latest is the closest.
-    fn since(&self) -> i64 {
-        enter(&self.answers).iter().map(|it| it.0).max().unwrap_or(0)
+        if answers.len() == ANSWERS {
+            answers.pop_front();
+        }
+        answers.push_back(since);
+        // Each answer is older when it comes than when it was given: the latest sum is the closest.
+        self.since.store(answers.iter().map(|it| it.0).max().unwrap_or(since.0), SeqCst);
+        self.since_at_most.store(answers.iter().map(|it| it.1).min().unwrap_or(since.1), SeqCst);
     }
 
     pub fn uptime(&self) -> Duration {
@@ -43,18 +51,18 @@ impl Clock {
     }
 
     pub fn at(&self, moment: Instant) -> i64 {
-        self.since() + moment.saturating_duration_since(self.begun).as_micros() as i64
+        self.since.load(SeqCst) + moment.saturating_duration_since(self.begun).as_micros() as i64
     }
 
     /// The moment at which this clock shows a microsecond, or shortly after it began where that was before.
     pub fn moment(&self, micros: i64) -> Instant {
-        self.begun + Duration::from_micros(micros.saturating_sub(self.since()).max(0) as u64)
+        self.begun + Duration::from_micros(micros.saturating_sub(self.since.load(SeqCst)).max(0) as u64)
     }
 
     /// How many whole milliseconds it is until a microsecond at least: whatever the way of the answers was.
     pub fn left_until(&self, micros: i64) -> i64 {
-        let since_at_most = enter(&self.answers).iter().map(|it| it.1).min().unwrap_or(0);
-        (micros - since_at_most - self.uptime().as_micros() as i64).div_euclid(1_000)
+        let at_most = self.since_at_most.load(SeqCst) + self.uptime().as_micros() as i64;
+        (micros - at_most).div_euclid(1_000)
     }
 }
 
