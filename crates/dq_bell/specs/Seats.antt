@@ -14,11 +14,6 @@ pub record HintSeat : Type 0 where
   pub tick : ℕ
   pub rings : ℕ
 
--- a place: when its first entry is due, and its hint
-pub record DuePlace : Type 0 where
-  pub next : ℕ
-  pub hint : HintSeat
-
 -- who closes: its hint, and whether it has closed
 pub record CloserSeat : Type 0 where
   pub hint : HintSeat

@@ -10,7 +10,6 @@
 #![tactic(auto)]
 
 mod closer;
-mod due;
 mod hint;
 mod hints;
 mod laws;
@@ -24,7 +23,6 @@ mod sleepers;
 mod tests;
 
 pub use closer::Closer;
-pub use due::Due;
 pub use hint::Hint;
 pub use hints::Hints;
 pub use laws::{no_wake_is_lost, nobody_sleeps_once_closed};

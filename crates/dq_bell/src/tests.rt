@@ -3,7 +3,6 @@ ghost use Rattle.dq_bell.specs.Lines.{IsFreshLine};
 ghost use Rattle.dq_bell.specs.Seats.{IsFreshLeader};
 
 use crate::closer::Closer;
-use crate::due::Due;
 use crate::leader::Leader;
 use crate::line::Line;
 use crate::sleepers::Call;
@@ -22,19 +21,19 @@ fn play<A: Allocator + Clone>(rt: &impl Abort, heap: A) -> Result<(), AllocError
 fn play_two<A: Allocator>(rt: &impl Abort, leader: &mut Leader<A>) -> Result<(), AllocError>
     requires { IsFreshLeader 3 leader.old }
 {
-    let mut one = Due::new(leader.add_place()?);
-    let mut two = Due::new(leader.add_place()?);
+    let mut one = leader.add_place()?;
+    let mut two = leader.add_place()?;
     let mut closer = Closer::new(leader.add_place()?);
-    assert!(rt; !one.lower(100).is_leader(), "nobody sleeps");
+    assert!(rt; !one.set(100).is_leader(), "nobody sleeps");
     assert!(rt; !leader.may_sleep(101), "an entry is due before");
     assert!(rt; leader.may_sleep(100), "none is due before");
-    assert!(rt; !two.lower(200).is_leader(), "it sleeps no longer");
-    assert!(rt; two.lower(50).is_leader(), "it sleeps beyond");
-    assert!(rt; !two.lower(40).is_leader(), "it was rung");
+    assert!(rt; !two.set(200).is_leader(), "it sleeps no longer");
+    assert!(rt; two.set(50).is_leader(), "it sleeps beyond");
+    assert!(rt; !two.set(40).is_leader(), "it was rung");
     assert!(rt; !leader.may_sleep(100), "an entry came meanwhile");
     assert!(rt; leader.may_sleep(40), "none is due before");
-    assert!(rt; !two.raise(300).is_leader(), "it wakes before");
-    assert!(rt; two.next() == 300 && one.next() == 100, "as they were told");
+    assert!(rt; !two.set(300).is_leader(), "it wakes before");
+    assert!(rt; two.tick() == 300 && one.tick() == 100, "as they were told");
     assert!(rt; leader.may_sleep(90) && !closer.is_closed(), "it is open");
     assert!(rt;
         closer.close().is_leader() && closer.is_closed(),
@@ -45,7 +44,7 @@ fn play_two<A: Allocator>(rt: &impl Abort, leader: &mut Leader<A>) -> Result<(),
     Ok(())
 }
 
-// promise: bell.set bell.may-sleep bell.due bell.close
+// promise: bell.set bell.may-sleep bell.close
 #[test]
 fn a_sleeper_is_rung_once(rt: HostRuntime) -> Result<(), AllocError> {
     play(&rt, rt.alloc())
@@ -84,7 +83,7 @@ fn two_wait<A: Allocator + Clone>(
 ) -> Result<(), AllocError>
     requires { IsFreshLine 1 line.old }
 {
-    let mut due = Due::new(line.add_place()?);
+    let mut hint = line.add_place()?;
     let hints = line.hints()?;
     assert!(rt; line.first().is_none(), "nobody leads");
     let first = line.join()?;
@@ -99,11 +98,11 @@ fn two_wait<A: Allocator + Clone>(
     );
     assert!(rt; line.sleep(first, 100, again).is_err(), "it sleeps already");
     assert!(rt;
-        told_by(line.ring(due.lower(100))) == 0,
+        told_by(line.ring(hint.set(100))) == 0,
         "it sleeps no longer"
     );
-    assert!(rt; told_by(line.ring(due.lower(50))) == 1, "it sleeps beyond");
-    assert!(rt; told_by(line.ring(due.lower(40))) == 0, "it was rung");
+    assert!(rt; told_by(line.ring(hint.set(50))) == 1, "it sleeps beyond");
+    assert!(rt; told_by(line.ring(hint.set(40))) == 0, "it was rung");
     assert!(rt;
         hints.tick(1) == 40 && hints.tick(0) != 0,
         "as it was lowered"
