@@ -180,7 +180,7 @@ impl<T> DelayQueue<T> {
     }
 
     /// Puts a value in, to come out at `when`, or at once if that is over, and returns its key. A receiver that waits for a
-    /// later one is woken. It reads no clock, and takes the lock of one shard for constant time. Of others' values it drops
+    /// later one is woken, and else no clock is read. It takes the lock of one shard for constant time. Of others' values it drops
     /// what [`insert`](DelayQueue::insert) does.
     ///
     /// # Errors
@@ -266,7 +266,8 @@ impl<T> DelayQueue<T> {
     /// entry's shard.
     ///
     /// `change` is called at most once, while the shard's lock is held, so it is to be short. What it drops is dropped under the
-    /// lock. Two threads whose closures call queues may wait for each other for ever, as with any two locks.
+    /// lock, and whom it wakes, as by a close, is woken there. Two threads whose closures call queues may wait for each other for
+    /// ever, as with any two locks.
     ///
     /// # Errors
     /// In this order:
@@ -307,7 +308,7 @@ impl<T> DelayQueue<T> {
     }
 
     /// Puts a value in, to come out at `when`, or at once if that is over, and returns a guard, as
-    /// [`guard`](DelayQueue::guard) does. It reads no clock.
+    /// [`guard`](DelayQueue::guard) does. It reads no clock, unless it wakes a receiver.
     ///
     /// # Errors
     /// The value comes back. In this order:
@@ -336,8 +337,8 @@ impl<T> DelayQueue<T> {
         self.shared.reset(key, self.shared.front.time.tick_in(after))
     }
 
-    /// Gives an entry the deadline `when`, sooner or later than the one that it has. It reads no clock. Where the deadline isn't
-    /// sooner it takes no lock, and the key stays as it is. Else it takes the lock of the entry's shard for constant time, and
+    /// Gives an entry the deadline `when`, sooner or later than the one that it has. Where the deadline isn't sooner it reads no
+    /// clock and takes no lock, and the key stays as it is. Else it takes the lock of the entry's shard for constant time, and
     /// returns the entry's key, which is equal to the old one; the old one serves as well, but an
     /// [`extend`](DelayQueue::extend) by it takes a lock from then on.
     ///

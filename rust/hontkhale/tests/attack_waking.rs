@@ -1,9 +1,9 @@
 //! Wakers that do what a runtime's may do at a bad moment, to receivers that wait.
 
-use hontkhale::{DelayQueue, Expired, Receiver};
+use hontkhale::{DelayQueue, Expired, ManualClock, Receiver};
 use std::panic::{catch_unwind, AssertUnwindSafe};
 use std::sync::atomic::{AtomicU64, AtomicUsize, Ordering::SeqCst};
-use std::sync::mpsc::channel;
+use std::sync::mpsc::{channel, RecvTimeoutError};
 use std::sync::{Arc, Mutex, OnceLock};
 use std::task::{Context, Poll, Wake, Waker};
 use std::thread;
@@ -35,10 +35,12 @@ fn within_the_limit(test: impl FnOnce() + Send + 'static) {
         test();
         let _ = done.send(());
     });
-    match waits.recv_timeout(60 * SECOND) {
-        Err(std::sync::mpsc::RecvTimeoutError::Timeout) => panic!("it hangs"),
-        _ => runs.join().expect("the test passes"),
-    }
+    assert_ne!(
+        waits.recv_timeout(60 * SECOND),
+        Err(RecvTimeoutError::Timeout),
+        "it hangs"
+    );
+    runs.join().expect("the test passes");
 }
 
 /// A clock that goes on without a word to those who wait.
@@ -59,7 +61,7 @@ fn a_waker_that_parks_its_caller_takes_no_wake_from_it() {
         let parks = waker(move || {
             let inserts = inserts.clone();
             let inserted = thread::spawn(move || inserts.insert("late", Duration::ZERO).map(drop).is_ok());
-            assert!(inserted.join().expect("no panic"));
+            assert!(inserted.join().is_ok_and(|is_in| is_in));
             thread::park_timeout(Duration::from_millis(1));
         });
         assert!(poll(&mut late, &parks).is_pending());
@@ -69,8 +71,7 @@ fn a_waker_that_parks_its_caller_takes_no_wake_from_it() {
     });
 }
 
-/// Each drops its own receiver, as that of a runtime which has ended does. So the next one is called, and none stands on another
-/// one's stack.
+/// Each drops its own receiver, as that of a runtime which has ended does, and so the next one is called.
 #[test]
 fn many_wakers_that_drop_their_receivers_take_little_of_the_stack() {
     within_the_limit(|| {
@@ -95,19 +96,55 @@ fn a_waker_that_leaves_and_panics_keeps_nobody_asleep() {
     let own = Arc::new(Mutex::new(None::<Receiver<u64>>));
     let (mut leads, dropped) = (queue.receiver(), Arc::clone(&own));
     let leaves = waker(move || {
-        let own = dropped.lock().expect("no panic").take();
-        drop(own);
+        drop(dropped.lock().map(|mut own| own.take()));
         panic!("a waker that has left");
     });
     let panics = waker(|| panic!("a waker that panics"));
     let woken = Arc::new(AtomicUsize::new(0));
     let counts = Arc::clone(&woken);
+    let last_waker = waker(move || _ = counts.fetch_add(1, SeqCst));
     let (mut next, mut last) = (queue.receiver(), queue.receiver());
     assert!(poll(&mut leads, &leaves).is_pending());
     *own.lock().expect("no panic") = Some(leads);
-    let last_waker = waker(move || _ = counts.fetch_add(1, SeqCst));
     assert!(poll(&mut next, &last_waker).is_pending() && poll(&mut last, &panics).is_pending());
     let panic = catch_unwind(AssertUnwindSafe(|| queue.insert(1, SECOND))).expect_err("a waker's panic");
     assert_eq!(panic.downcast_ref(), Some(&"a waker that has left"));
     assert_eq!(woken.load(SeqCst), 1);
+}
+
+/// They slept until they are called, as long as no task had waited.
+#[test]
+fn threads_that_slept_before_the_first_task_came_wait_for_it_a_little() {
+    within_the_limit(|| {
+        let queue = DelayQueue::new();
+        let threads =
+            [queue.clone(), queue.clone()].map(|queue| thread::spawn(move || queue.recv().map(|out| out.value)));
+        // They sleep by then, or the test tells nothing.
+        thread::sleep(Duration::from_millis(50));
+        let mut idle = queue.receiver();
+        assert!(poll(&mut idle, &waker(|| {})).is_pending());
+        // The thread that leads takes one and goes. Then the task leads, and nobody polls it.
+        let _keys = [1, 2].map(|number| queue.insert(number, Duration::ZERO).expect("room"));
+        let mut taken = threads.map(|thread| thread.join().expect("no panic"));
+        taken.sort_unstable();
+        assert_eq!(taken, [Some(1), Some(2)]);
+    });
+}
+
+#[test]
+fn a_task_that_is_called_to_lead_has_a_moment_for_it() {
+    let clock = ManualClock::new();
+    let queue: DelayQueue<u64> = DelayQueue::builder().clock(&clock).build();
+    let mut tasks: Vec<_> = (0..3).map(|_| queue.receiver()).collect();
+    let mut follows = |task: &mut Receiver<u64>| {
+        assert!(poll(task, &waker(|| {})).is_pending());
+        let soon = clock.now() + SECOND;
+        task.wake_at().is_some_and(|again| clock.now() < again && again < soon)
+    };
+    tasks.iter_mut().for_each(|task| _ = follows(task));
+    // All are woken, and then the last one leads. Neither of those that lead is polled.
+    clock.advance(10 * SECOND);
+    assert!(follows(&mut tasks[1]));
+    drop(tasks.remove(0));
+    assert!(follows(&mut tasks[0]));
 }

@@ -213,8 +213,8 @@ impl<T> Timeout<T> {
         Ok(())
     }
 
-    /// Gives the deadline `when`, sooner or later than the one that it has. It reads no clock, and takes the lock of one
-    /// shard.
+    /// Gives the deadline `when`, sooner or later than the one that it has. It reads no clock, unless it wakes a receiver, and
+    /// takes the lock of one shard.
     ///
     /// # Errors
     /// Nothing changes then. In this order:

@@ -10,6 +10,9 @@ use std::time::{Duration, Instant};
 
 /// A clock that stands still until it is advanced, for tests. A clone is the same clock.
 ///
+/// The moment after which a task that nobody polls is passed over counts by it, too: while it stands, such a task keeps what is
+/// due from the receivers that wait behind it.
+///
 /// ```
 /// use hontkhale::{DelayQueue, ManualClock};
 /// use std::time::Duration;
