@@ -2,7 +2,7 @@
 
 use hontkhale::{DelayQueue, Expired, ManualClock, Receiver};
 use std::panic::{catch_unwind, AssertUnwindSafe};
-use std::sync::atomic::{AtomicU64, AtomicUsize, Ordering::SeqCst};
+use std::sync::atomic::{AtomicBool, AtomicU64, AtomicUsize, Ordering::SeqCst};
 use std::sync::mpsc::{channel, RecvTimeoutError};
 use std::sync::{Arc, Mutex, OnceLock};
 use std::task::{Context, Poll, Wake, Waker};
@@ -147,4 +147,28 @@ fn a_task_that_is_called_to_lead_has_a_moment_for_it() {
     assert!(follows(&mut tasks[1]));
     drop(tasks.remove(0));
     assert!(follows(&mut tasks[0]));
+}
+
+static IS_BROKEN: AtomicBool = AtomicBool::new(false);
+
+fn breaking_clock() -> Instant {
+    assert!(!IS_BROKEN.load(SeqCst), "a clock that panics");
+    Instant::now()
+}
+
+/// It is read where a leader is rung.
+#[test]
+fn a_clock_that_panics_keeps_nobody_asleep() {
+    let queue = DelayQueue::builder().read_clock(breaking_clock).build();
+    let woken = Arc::new(AtomicUsize::new(0));
+    let counts = Arc::clone(&woken);
+    queue.insert("later", 1_000 * SECOND).expect("room");
+    let mut task = queue.receiver();
+    assert!(poll(&mut task, &waker(move || _ = counts.fetch_add(1, SeqCst))).is_pending());
+    let due = Instant::now() + SECOND;
+    IS_BROKEN.store(true, SeqCst);
+    let inserted = catch_unwind(AssertUnwindSafe(|| queue.insert_at("in", due)));
+    IS_BROKEN.store(false, SeqCst);
+    assert!(inserted.is_err());
+    assert_eq!((woken.load(SeqCst), queue.len()), (1, 2));
 }

@@ -13,7 +13,7 @@ use crate::memory::AllocError;
 use crate::ticks;
 use crate::words::OpenWords;
 use std::cell::Cell;
-use std::panic::resume_unwind;
+use std::panic::{catch_unwind, resume_unwind, AssertUnwindSafe};
 use std::sync::atomic::{AtomicU32, AtomicUsize, Ordering::SeqCst};
 use std::thread;
 
@@ -216,12 +216,17 @@ impl Front {
         self.hints.tick(0) == 0
     }
 
-    /// Wakes the leader of the receivers where that was rung, and gives the panic of a waker. No lock is held.
+    /// Wakes the leader of the receivers where that was rung, and gives the panic of the clock or of a waker. No lock is held.
     #[inline(always)]
     pub fn ring(&self, rung: Rung) -> thread::Result<()> {
         match rung {
             Rung::Nobody => Ok(()),
-            Rung::Leader => self.receivers.ring(rung, self.time.tick()),
+            Rung::Leader => {
+                // A program's clock that panics keeps nobody asleep.
+                let now = catch_unwind(AssertUnwindSafe(|| self.time.tick()));
+                let woken = self.receivers.ring(rung, *now.as_ref().unwrap_or(&0));
+                now.map(drop).and(woken)
+            }
         }
     }
 

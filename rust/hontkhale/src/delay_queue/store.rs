@@ -475,7 +475,9 @@ impl<T> ShardStore<T> {
     /// Moves a few of the last entries of cores that drain, which aren't due, into the open one.
     fn move_stragglers(&mut self, now: u64) {
         for _ in 0..MOVED_AT_ONCE {
-            let Some(entry) = self.sizing.straggler(&self.store) else { break };
+            let Some(entry) = self.sizing.straggler(&self.store) else {
+                break;
+            };
             match self.store.deadline(&entry) {
                 Ok(deadline) if deadline > now => {
                     if self.relocate(&entry, NextDeadline::Same).is_err() {
