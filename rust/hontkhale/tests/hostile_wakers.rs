@@ -172,3 +172,44 @@ fn a_clock_that_panics_keeps_nobody_asleep() {
     assert!(inserted.is_err());
     assert_eq!((woken.load(SeqCst), queue.len()), (1, 2));
 }
+
+#[test]
+fn a_waker_that_a_close_calls_may_ask_whether_the_queue_is_empty() {
+    within_the_limit(|| {
+        let queue: DelayQueue<u64> = DelayQueue::new();
+        let (mut task, asks) = (queue.receiver(), queue.clone());
+        let asked = Arc::new(AtomicUsize::new(0));
+        let counts = Arc::clone(&asked);
+        let waits = waker(move || _ = counts.fetch_add(usize::from(asks.wait_empty(Duration::ZERO)), SeqCst));
+        assert!(poll(&mut task, &waits).is_pending());
+        queue.close_when_empty();
+        assert_eq!(asked.load(SeqCst), 1);
+        assert!(matches!(poll(&mut task, &waits), Poll::Ready(None)));
+    });
+}
+
+/// What it holds calls the queue as it is dropped.
+struct Inserts(DelayQueue<u64>);
+
+impl Drop for Inserts {
+    fn drop(&mut self) {
+        let _ = self.0.insert(1, Duration::ZERO);
+    }
+}
+
+#[test]
+fn a_waker_may_insert_as_it_is_dropped() {
+    within_the_limit(|| {
+        let queue = DelayQueue::new();
+        let inserts = || {
+            let inserts = Inserts(queue.clone());
+            waker(move || _ = inserts.0.len())
+        };
+        let mut task = queue.receiver();
+        // One whose place another one takes, and one that leaves.
+        assert!(poll(&mut task, &inserts()).is_pending());
+        assert!(poll(&mut task, &inserts()).is_pending());
+        drop(task);
+        assert_eq!(queue.len(), 2);
+    });
+}
