@@ -7,8 +7,6 @@
 
 #[path = "models/draw.rs"]
 mod draw;
-#[path = "growing/drawn.rs"]
-mod drawn;
 #[path = "growing/lives.rs"]
 mod lives;
 #[path = "growing/model.rs"]
@@ -24,3 +22,94 @@ mod run;
 mod store;
 #[path = "models/value.rs"]
 mod value;
+
+mod drawn {
+    //! Drawn calls of a row of cores, and of a store, each answer of which the model knows.
+
+    use super::draw::{calls, Draw};
+    use super::run::Run;
+    use super::store;
+
+    // The calls of a round, each as often as its weight.
+    type Calls<R> = &'static [(u64, fn(&mut R))];
+
+    const CALLS: Calls<Run> = &[
+        (30, Run::insert),
+        (3, Run::remove),
+        (14, Run::reset),
+        (4, Run::deadline),
+        (4, Run::reap),
+        (10, Run::extend),
+        (5, Run::cancel),
+        (4, Run::look),
+        (12, Run::polls),
+        (3, Run::polls_all),
+        (2, Run::next_wake),
+        (2, Run::peek),
+        (8, Run::take_aside),
+        (4, Run::sweep_some),
+        (1, Run::clear_core),
+        (6, Run::exchange),
+        (1, Run::take_refused),
+        (10, Run::take_drained),
+        (8, Run::unfold),
+        (4, Run::open),
+        (2, Run::cores),
+    ];
+
+    const STORE_CALLS: Calls<store::Run> = &[
+        (30, store::Run::insert),
+        (4, store::Run::remove),
+        (14, store::Run::reset),
+        (10, store::Run::relocate),
+        (4, store::Run::deadline),
+        (6, store::Run::with_value),
+        (12, store::Run::step),
+        (4, store::Run::reap),
+        (14, store::Run::poll),
+        (2, store::Run::peek),
+        (8, store::Run::take_aside),
+        (4, store::Run::sweep_some),
+        (4, store::Run::names),
+        (8, store::Run::exchange),
+        (1, store::Run::take_refused),
+        (10, store::Run::take_drained),
+        (4, store::Run::open),
+    ];
+
+    /// How many calls are made of one row.
+    const ROUND: u64 = 2_000;
+
+    fn draws<R>(run: &mut R, calls: Calls<R>, draw: fn(&mut R) -> &mut Draw) {
+        let all: u64 = calls.iter().map(|it| it.0).sum();
+        for _ in 0..ROUND {
+            let mut drawn = draw(run).below(all);
+            let call = calls.iter().find(|it| {
+                let is_it = drawn < it.0;
+                drawn = drawn.saturating_sub(it.0);
+                is_it
+            });
+            call.expect("a call of that weight").1(run);
+        }
+    }
+
+    // promise: growing.number growing.insert growing.reset growing.poll growing.poll-some growing.take-drained growing.folds
+    #[test]
+    fn drawn_calls_of_a_row_answer_as_the_model_does() {
+        for round in 0..calls().div_ceil(ROUND) {
+            let mut run = Run::new(round);
+            draws(&mut run, CALLS, |run| &mut run.draw);
+            run.ends();
+        }
+    }
+
+    // promise: core.next-key growing.by-id growing.notes growing.upkeep
+    #[test]
+    fn drawn_calls_of_a_store_answer_as_the_model_does() {
+        for round in 0..calls().div_ceil(ROUND) {
+            let mut run = store::Run::new(round);
+            draws(&mut run, STORE_CALLS, |run| &mut run.draw);
+            run.ends();
+        }
+    }
+}

@@ -136,7 +136,7 @@ fn a_task_that_is_called_to_lead_has_a_moment_for_it() {
     let clock = ManualClock::new();
     let queue: DelayQueue<u64> = DelayQueue::builder().clock(&clock).build();
     let mut tasks: Vec<_> = (0..3).map(|_| queue.receiver()).collect();
-    let mut follows = |task: &mut Receiver<u64>| {
+    let follows = |task: &mut Receiver<u64>| {
         assert!(poll(task, &waker(|| {})).is_pending());
         let soon = clock.now() + SECOND;
         task.wake_at().is_some_and(|again| clock.now() < again && again < soon)
