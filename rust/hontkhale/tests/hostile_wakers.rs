@@ -213,3 +213,30 @@ fn a_waker_may_insert_as_it_is_dropped() {
         assert_eq!(queue.len(), 2);
     });
 }
+
+/// Another one that goes on without a word.
+fn other_clock() -> Instant {
+    static START: OnceLock<Instant> = OnceLock::new();
+    *START.get_or_init(Instant::now) + Duration::from_millis(OTHER_MILLIS.load(SeqCst))
+}
+
+static OTHER_MILLIS: AtomicU64 = AtomicU64::new(0);
+
+#[test]
+fn who_follows_a_task_that_was_called_and_is_not_polled_takes_the_lead() {
+    let queue = DelayQueue::builder().read_clock(other_clock).build();
+    let (mut idle, mut follows) = (queue.receiver(), queue.receiver());
+    let called = Arc::new(AtomicUsize::new(0));
+    let counts = Arc::clone(&called);
+    assert!(poll(&mut idle, &waker(move || _ = counts.fetch_add(1, SeqCst))).is_pending());
+    let polls = |follows: &mut Receiver<u64>| {
+        assert!(poll(follows, &waker(|| {})).is_pending());
+        follows.wake_at().map(|when| when - other_clock())
+    };
+    assert_eq!(polls(&mut follows), Some(SECOND));
+    queue.insert(1, 10 * SECOND).expect("room");
+    OTHER_MILLIS.fetch_add(100, SeqCst);
+    // It leads, until the entry is due. The one that led was called.
+    assert_eq!(polls(&mut follows), Some(Duration::from_millis(9_900)));
+    assert_eq!(called.load(SeqCst), 1);
+}
