@@ -225,7 +225,7 @@ static OTHER_MILLIS: AtomicU64 = AtomicU64::new(0);
 #[test]
 fn who_follows_a_task_that_was_called_and_is_not_polled_takes_the_lead() {
     let queue = DelayQueue::builder().read_clock(other_clock).build();
-    let (mut idle, mut follows) = (queue.receiver(), queue.receiver());
+    let [mut idle, mut follows, mut last] = [(); 3].map(|()| queue.receiver());
     let called = Arc::new(AtomicUsize::new(0));
     let counts = Arc::clone(&called);
     assert!(poll(&mut idle, &waker(move || _ = counts.fetch_add(1, SeqCst))).is_pending());
@@ -233,7 +233,7 @@ fn who_follows_a_task_that_was_called_and_is_not_polled_takes_the_lead() {
         assert!(poll(follows, &waker(|| {})).is_pending());
         follows.wake_at().map(|when| when - other_clock())
     };
-    assert_eq!(polls(&mut follows), Some(SECOND));
+    assert_eq!([polls(&mut follows), polls(&mut last)], [Some(SECOND); 2]);
     queue.insert(1, 10 * SECOND).expect("room");
     OTHER_MILLIS.fetch_add(100, SeqCst);
     // It leads, until the entry is due. The one that led was called.
