@@ -246,7 +246,8 @@ impl<T> DelayQueue<T> {
     /// - `Ended` if the entry came out, was removed, or was cancelled.
     ///
     /// # Panics
-    /// If `read` panics, which changes nothing, or makes a call of this queue that wants the lock which is held.
+    /// If `read` panics, which changes nothing, or makes a call of this queue that wants the lock which is held. So may the waker
+    /// of a receiver that it wakes, as by a close.
     ///
     /// ```
     /// use hontkhale::DelayQueue;
