@@ -24,7 +24,7 @@ use Rattle.dq_core.specs.declared.outcomes.Piece.TheVariants.{Answer, Working}
 use Rattle.dq_wheel.specs.State.{Filing}
 use Rattle.dq_core.specs.Pieces.{PollsSome}
 use Rattle.dq_growing.specs.Cores.{CoreRow, IsCoreAt, with_core, lowered_to}
-use Rattle.dq_growing.specs.Polls.{OthersAreQuiet}
+use Rattle.dq_growing.specs.Polls.{OthersAreQuiet, AreBounded, KeepsTurns, TurnState, bound_at}
 use Rattle.dq_growing.proofs.Rows.{at_after}
 use Rattle.dq_growing.proofs.Leasts.{earlier, none_ever}
 
@@ -147,8 +147,8 @@ module _ {T : Type 0} where
   reaps_late shared last t m k run before = late_run (IsReaping shared) last t (reaping_late shared t) m k run.0 run.1 run.2 before
 
 -- before tick 0 nothing is live
-pub quiet_at_first : {T : Type 0} (m : Machine T) → NoneLiveBefore m 0
-quiet_at_first m i e d linked due = omega arith
+pub quiet_fresh : {T : Type 0} (m : Machine T) (u : ℕ) → u ≡ 0 → NoneLiveBefore m u
+quiet_fresh m u none i e d linked due = omega arith
 
 module _ {T W : Type 0} (shared : Bool) (b c : Core T W) (t : ℕ) (before : NoneLiveBefore (machine b) t) where
   unchanged : c ≡ b → NoneLiveBefore (machine c) t
@@ -257,6 +257,20 @@ module _ {T W : Type 0} where
       (λ (y : (j ≢ i) × IsCoreAt s.cores j d). earlier (machine d) u t (quiet j d ne y.1) le)
       (at_after s.cores i j c d at.0 there)
 
+  -- and so what is known of each core
+  pub bounds_after : (s : CoreRow T W) (known new : List ℕ) (i : ℕ) (b c : Core T W) → AreBounded s known → IsCoreAt s.cores i b
+      → ((j : ℕ) → bound_at new j ≤ bound_at known j) → (NoneLiveBefore (machine b) (bound_at new i) → NoneLiveBefore (machine c) (bound_at new i))
+      → AreBounded (with_core s i c) new
+  bounds_after s known new i b c before at le change j d there =
+      ⊎_elim
+      (λ (y : (j ≡ i) × (d ≡ c)).
+      let own = change (earlier (machine b) (bound_at known i) (bound_at new i) (before i b at) (le i)) in
+      let P : Core T W → Type 0 = λ k. NoneLiveBefore (machine k) (bound_at new i) in
+      let R : ℕ → Type 0 = λ k. NoneLiveBefore (machine d) (bound_at new k) in
+      subst R (sym y.0) (subst P (sym y.1) own))
+      (λ (y : (j ≢ i) × IsCoreAt s.cores j d). earlier (machine d) (bound_at known j) (bound_at new j) (before j d y.1) (le j))
+      (at_after s.cores i j c d at.0 there)
+
   -- where a core gets an entry with a later deadline
   pub quiet_later : (s : CoreRow T W) (turn u when i : ℕ) (b c : Core T W) → OthersAreQuiet s turn u → IsCoreAt s.cores i b
       → ((t : ℕ) → t ≤ when → NoneLiveBefore (machine b) t → NoneLiveBefore (machine c) t)
@@ -270,6 +284,32 @@ module _ {T W : Type 0} where
             (at_after s.cores i j c d at.0 there))
         | inr other ↦ rw (is_unequal i turn other) (quiet_after s turn u (min u when) i b c quiet at (omega arith) (change (min u when) (omega arith)))
       ]
+
+  -- so where a core gets the turn
+  pub turns_given : (s : CoreRow T W) (t u : TurnState) (place others : ℕ) → KeepsTurns s t → OthersAreQuiet s place others → u.place ≡ place
+      → u.others ≡ others → ((i : ℕ) → bound_at u.bounds i ≤ bound_at t.bounds i) → KeepsTurns s u
+  turns_given s t u place others keeps quiet is at bounds =
+      let P : ℕ → Type 0 = λ p. OthersAreQuiet s p u.others in
+      let Q : ℕ → Type 0 = λ o. OthersAreQuiet s place o in
+      (subst P (sym is) (subst Q (sym at) quiet), λ i c there. earlier (machine c) (bound_at t.bounds i) (bound_at u.bounds i) (keeps.1 i c there) (bounds i))
+
+  -- what is known of the turns stays so where one core changes, and gets no earlier deadline
+  pub turns_after : (s : CoreRow T W) (t : TurnState) (i : ℕ) (b c : Core T W) → KeepsTurns s t → IsCoreAt s.cores i b
+      → ((u : ℕ) → NoneLiveBefore (machine b) u → NoneLiveBefore (machine c) u) → KeepsTurns (with_core s i c) t
+  turns_after s t i b c keeps at change =
+      (quiet_after s t.place t.others t.others i b c keeps.0 at (omega arith) (change t.others), bounds_after s t.bounds t.bounds i b c keeps.1 at (λ j. omega arith) (change (bound_at t.bounds i)))
+
+  -- or one that isn't before what is known from then on
+  pub turns_later : (s : CoreRow T W) (t u : TurnState) (when i : ℕ) (b c : Core T W) → KeepsTurns s t → IsCoreAt s.cores i b
+      → ((x : ℕ) → x ≤ when → NoneLiveBefore (machine b) x → NoneLiveBefore (machine c) x) → u.place ≡ t.place
+      → u.others ≡ lowered_to t.others when (nat_eq i t.place) → ((j : ℕ) → bound_at u.bounds j ≤ bound_at t.bounds j) → bound_at u.bounds i ≤ when
+      → KeepsTurns (with_core s i c) u
+  turns_later s t u when i b c keeps at change place others bounds low =
+      let Q : ℕ → ℕ → Type 0 = λ p o. OthersAreQuiet (with_core s i c) p o in
+      let quiet = quiet_later s t.place t.others when i b c keeps.0 at change in
+      let P : ℕ → Type 0 = λ o. Q t.place o in
+      let R : ℕ → Type 0 = λ p. Q p u.others in
+      (subst R (sym place) (subst P (sym others) quiet), bounds_after s t.bounds u.bounds i b c keeps.1 at bounds (change (bound_at u.bounds i) low))
 
 -- what no call but a poll does: note a later tick
 module _ {T W : Type 0} (shared : Bool) (b c : Core T W) where

@@ -1,6 +1,6 @@
 -- How a store is polled: by pieces of its cores, each up to the tick before which no other core has
 -- anything to give.
-use Rattle.std.specs.Prelude.{◌≡◌, ◌≢◌, ◌⊎◌, ℕ, ◌<◌, ◌≤◌, Bool, min, max, List, length}
+use Rattle.std.specs.Prelude.{◌≡◌, ◌≢◌, ◌⊎◌, ℕ, ◌<◌, ◌≤◌, Bool, min, max, List, length, slice_index_or}
 use Rattle.std.specs.Prelude.{if◌then◌else◌, nat_lt, nat_eq, Option, Some, None, Result, Ok, Err}
 use Rattle.dq_ticks.specs.declared.TheConstants.{LAST_TICK}
 use Rattle.dq_core.specs.declared.errors.CoreError.{CoreError}
@@ -41,6 +41,21 @@ told noted others (Answer Idle) =
     if nat_lt noted others then
     (if nat_eq others NEVER then Answer Idle else Answer (Waiting others))
     else Working
+
+-- the core that has the turn, a tick before which no other one has a live entry with a deadline, and
+-- such a tick of each of the first cores
+pub record TurnState : Type 0 where
+  pub place : ℕ
+  pub others : ℕ
+  pub bounds : List ℕ
+
+-- what is known of the core at a place, 0 where nothing is
+abbrev pub bound_at : List ℕ → ℕ → ℕ
+bound_at bounds i = slice_index_or bounds i 0
+
+-- nothing is known of the core that has the turn
+abbrev pub AreTurns : TurnState → Type 0
+AreTurns t = bound_at t.bounds t.place ≡ 0
 
 -- what a core's next wake says of its entries: none where nothing is linked, and else a tick before
 -- which no live entry has a deadline
@@ -92,6 +107,15 @@ module _ {T W : Type 0} where
   abbrev pub OthersAreQuiet : CoreRow T W → ℕ → ℕ → Type 0
   OthersAreQuiet s place t =
       (i : ℕ) (c : Core T W) → i ≢ place → IsCoreAt s.cores i c → NoneLiveBefore (machine c) t
+
+  -- no live entry of a core has a deadline before what is known of it
+  abbrev pub AreBounded : CoreRow T W → List ℕ → Type 0
+  AreBounded s bounds =
+      (i : ℕ) (c : Core T W) → IsCoreAt s.cores i c → NoneLiveBefore (machine c) (bound_at bounds i)
+
+  -- what is known of the turns is so
+  abbrev pub KeepsTurns : CoreRow T W → TurnState → Type 0
+  KeepsTurns s t = OthersAreQuiet s t.place t.others × AreBounded s t.bounds
 
   -- a core has the turn: no other one has anything up to the noted tick, or it wakes by what they have
   abbrev pub HasTurn : CoreRow T W → ℕ → ℕ → Type 0

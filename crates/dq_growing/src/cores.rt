@@ -13,8 +13,9 @@ ghost use Rattle.dq_growing.specs.Stands.{IsThere, IsPastAt, IsPastIn, HasEntry,
 ghost use Rattle.dq_ticks.specs.declared.TheConstants.{LAST_TICK};
 ghost use Rattle.dq_growing.specs.declared.cores.TakeError.TheVariants.{NoMemory};
 ghost use Rattle.dq_core.specs.Folds.{IsFoldable};
-ghost use Rattle.dq_growing.specs.Cores.{MayComeIn, CoreRow, AreCores, IsCoreAt, HasAt, HasNo, OnCoreOr, HoldsIn, IsMissingIn, InsertsIn, TellsNextIn, TakesIn, TakeRefused, HasDrained, GivesDrained, NoneDrained, closed_error, missing_error, lowered_to, opened_without};
+ghost use Rattle.dq_growing.specs.Cores.{MayComeIn, CoreRow, AreCores, IsCoreAt, HasAt, HasNo, OnCoreOr, HoldsIn, IsMissingIn, InsertsIn, TellsNextIn, TakesIn, TakeRefused, HasDrained, GivesDrained, NoneDrained, closed_error, missing_error, opened_without};
 
+use crate::least::Turns;
 use dq_core::{CoreError, DelayCore, Removed, Words};
 use dq_ticks::{EntryId, Key, LAST_TICK};
 use std::alloc::{AllocError, Allocator, Global};
@@ -41,14 +42,12 @@ pub struct Cores<T, W: Words, A: Allocator = Global> {
     pub(crate) opened: usize,
     pub(crate) next: u32,
     pub(crate) noted: u64,
-    // The core whose turn it is to be polled. No other one has a live entry with a deadline before `others`.
-    pub(crate) turn: usize,
-    pub(crate) others: u64,
+    pub(crate) turns: Turns,
 }
 
 impl<T, W: Words, A: Allocator> Model for Cores<T, W, A> {
     ghost use Rattle.dq_growing.specs.Cores.{CoreRow, AreCores};
-    ghost use Rattle.dq_growing.specs.Polls.{OthersAreQuiet};
+    ghost use Rattle.dq_growing.specs.Polls.{KeepsTurns};
 
     ghost Value = { CoreRow T W };
 
@@ -56,7 +55,7 @@ impl<T, W: Words, A: Allocator> Model for Cores<T, W, A> {
 
     ghost invariant = { λ s.
         AreCores (record { cores = s.cores.items; opened = s.opened; next = s.next; noted = s.noted })
-        × OthersAreQuiet (record { cores = s.cores.items; opened = s.opened; next = s.next; noted = s.noted }) s.turn s.others };
+        × KeepsTurns (record { cores = s.cores.items; opened = s.opened; next = s.next; noted = s.noted }) s.turns };
 }
 
 // Why a reset is refused where no core has the entry's number.
@@ -102,15 +101,6 @@ fn remove_from<T, W: Words, A: Allocator>(
     answer
 }
 
-// The tick before which no core but the one whose turn it is has a live entry with a deadline, once an entry got a
-// deadline.
-#[inline(always)]
-pub(crate) fn lowered(others: u64, when: u64, is_turn: bool) -> u64
-    ensures { result ≡ lowered_to others when is_turn }
-{
-    if is_turn { others } else { others.min(when) }
-}
-
 // The place of the open core, once the core at a place is gone.
 fn opened_after(opened: usize, at: usize) -> usize
     ensures { result ≡ opened_without opened at }
@@ -138,8 +128,7 @@ impl<T, W: Words, A: Allocator> Cores<T, W, A> {
             opened: 0,
             next: 0,
             noted: 0,
-            turn: 0,
-            others: 0,
+            turns: Turns::new(),
         }
     }
 
@@ -294,7 +283,7 @@ impl<T, W: Words, A: Allocator> Cores<T, W, A> {
         let Some(at) = self.place_of(entry.shard()) else {
             return Err(missing_at(when));
         };
-        self.others = lowered(self.others, when, at == self.turn);
+        self.turns.lower(at, when);
         let answer = self.cores[at].reset(entry, when);
         answer
     }
@@ -379,7 +368,7 @@ impl<T, W: Words, A: Allocator> Cores<T, W, A> {
         if self.opened >= self.cores.len() {
             return (Err((closed_at(when), value)), None);
         }
-        self.others = lowered(self.others, when, self.opened == self.turn);
+        self.turns.lower(self.opened, when);
         let answer = self.cores[self.opened].insert_deferring(value, when);
         answer
     }
@@ -438,7 +427,7 @@ impl<T, W: Words, A: Allocator> Cores<T, W, A> {
         self.next = self.next.max(number + 1);
         self.noted = self.noted.max(core.noted());
         self.opened = self.cores.len();
-        self.others = 0;
+        self.turns = Turns::new();
         self.cores.push_reserved(core);
         Ok(())
     }
@@ -466,7 +455,7 @@ impl<T, W: Words, A: Allocator> Cores<T, W, A> {
             return None;
         };
         self.opened = opened_after(self.opened, at);
-        self.others = 0;
+        self.turns = Turns::new();
         let core = self.cores.remove(at);
         Some(core)
     }

@@ -15,7 +15,7 @@ ghost use Rattle.dq_growing.specs.Stands.{IsThere, IsPastAt, IsPastIn, IsAheadIn
 ghost use Rattle.dq_growing.specs.Cores.{OnCoreAt};
 ghost use Rattle.dq_ticks.specs.Keys.{EntryName};
 
-use crate::cores::{Cores, lowered};
+use crate::cores::Cores;
 use dq_core::{CoreError, DelayCore, Removed, Words};
 use dq_ticks::{EntryId, Key, LAST_TICK};
 use std::alloc::Allocator;
@@ -136,7 +136,7 @@ impl<T, W: Words, A: Allocator> Cores<T, W, A> {
         ensures begins { HasBegunIn W.begun self.old result.0 deadline self.new }
         ensures words { KeepsWords W.origin W.begun self.old self.new }
     {
-        self.others = lowered(self.others, deadline, self.opened == self.turn);
+        self.turns.lower(self.opened, deadline);
         let put = put_in(&mut self.cores[self.opened], value, deadline);
         put
     }

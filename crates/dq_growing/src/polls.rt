@@ -8,11 +8,11 @@ ghost use Rattle.dq_core.specs.Machine.{NoneLinked, NoneLiveBefore};
 ghost use Rattle.dq_core.specs.Calls.{TellsWake};
 ghost use Rattle.dq_growing.specs.Cores.{IsCoreAt};
 ghost use Rattle.dq_growing.specs.Stands.{Ages, KeepsWords};
-ghost use Rattle.dq_growing.specs.Polls.{TellsLeastBelow, WakeBounds, PollsRow, DoesPoll, DoesPiece, TellsDue, told, IfPieceOut, IfPieceRests, OthersAreQuiet, PollsCore, HasTurn, NoneLiveIn, TellsWakeIn, PeeksIn, NoneWaits, TakesAsideIn};
+ghost use Rattle.dq_growing.specs.Polls.{IsLeastBelow, TellsLeastBelow, WakeBounds, PollsRow, DoesPoll, DoesPiece, TellsDue, told, IfPieceOut, IfPieceRests, OthersAreQuiet, PollsCore, HasTurn, NoneLiveIn, TellsWakeIn, PeeksIn, NoneWaits, TakesAsideIn};
 
 use crate::NEVER;
 use crate::cores::Cores;
-use crate::least::{Due, Least, joined};
+use crate::least::{Due, KNOWN, Least, joined};
 use dq_core::laws::wakes_bound_deadlines;
 use dq_core::{CoreError, DelayCore, Piece, Turn, Words};
 use dq_ticks::{Key, LAST_TICK};
@@ -29,11 +29,12 @@ fn wake_of<T, W: Words, A: Allocator>(core: &DelayCore<T, W, A>) -> Option<u64>
     wake
 }
 
-// Whether a core wakes by a tick.
-fn wakes_by<T, W: Words, A: Allocator>(core: &DelayCore<T, W, A>, tick: u64) -> bool
-    ensures { result ≡ true → (w : ℕ) × TellsWake core.now (Some w) × (w ≤ tick) }
+// Whether a core that wakes so wakes by a tick.
+#[inline(always)]
+fn wakes_by(wake: Option<u64>, tick: u64) -> bool
+    ensures { result ≡ true → (w : ℕ) × (wake ≡ Some w) × (w ≤ tick) }
 {
-    match wake_of(core) {
+    match wake {
         Some(wake) => wake <= tick,
         None => false,
     }
@@ -61,6 +62,7 @@ fn as_told<T>(piece: Piece<T>, noted: u64, others: u64) -> Piece<T>
 
 impl<T, W: Words, A: Allocator> Cores<T, W, A> {
     // Which core wakes first, none where nothing is linked.
+    #[inline(never)]
     fn least(&self) -> Option<Least>
         ensures { TellsLeastBelow self.now.cores (length self.now.cores) result }
     {
@@ -77,27 +79,29 @@ impl<T, W: Words, A: Allocator> Cores<T, W, A> {
         ensures same { self.new ≡ self.old }
         ensures due { TellsDue self.old result }
     {
-        if self.turn < self.cores.len()
-            && (self.noted < self.others || wakes_by(&self.cores[self.turn], self.others))
-        {
-            return Due::In {
-                place: self.turn,
-                others: self.others,
-            };
+        let (place, others) = (self.turns.place(), self.turns.others());
+        if place < self.cores.len() {
+            if self.noted < others {
+                return Due::In { place, others };
+            }
+            let wake = wake_of(&self.cores[place]);
+            if wakes_by(wake, others) {
+                return Due::In { place, others };
+            }
+            self.turns.note(place, wake.unwrap_or(NEVER));
         }
         self.take_turns()
     }
 
     // Gives the turn to the core that wakes first.
+    #[inline(always)]
     fn take_turns(&mut self) -> Due
         ensures same { self.new ≡ self.old }
         ensures due { TellsDue self.old result }
     {
-        let Some(least) = self.least() else {
+        let Some(least) = self.next_turn() else {
             return Due::Rests(None);
         };
-        self.turn = least.place;
-        self.others = least.others;
         if least.wake > self.noted {
             return Due::Rests(Some(least.wake));
         }
@@ -105,6 +109,69 @@ impl<T, W: Words, A: Allocator> Cores<T, W, A> {
             place: least.place,
             others: least.others,
         }
+    }
+
+    // The core that wakes first. It has the turn then.
+    #[inline(always)]
+    fn next_turn(&mut self) -> Option<Least>
+        ensures same { self.new ≡ self.old }
+        ensures least { TellsLeastBelow self.old.cores (length self.old.cores) result }
+    {
+        if let Some(least) = self.sought() {
+            return Some(least);
+        }
+        let Some(least) = self.least() else {
+            return None;
+        };
+        self.turns.give(least.place, least.others);
+        Some(least)
+    }
+
+    // The same by what is known of the cores, none where that takes a look at each.
+    #[inline(always)]
+    fn sought(&mut self) -> Option<Least>
+        ensures same { self.new ≡ self.old }
+        ensures least { IfSome result
+            (λ l. IsLeastBelow self.old.cores (length self.old.cores) l) }
+    {
+        let cores = self.cores.len();
+        if cores > KNOWN {
+            return None;
+        }
+        for _ in 0..KNOWN + 1 {
+            let Some((place, others)) = self.turns.first(cores) else {
+                return None;
+            };
+            if let Some(least) = self.tries(place, others) {
+                return Some(least);
+            }
+        }
+        None
+    }
+
+    // Gives the core at a place the turn if it wakes by what the others have.
+    #[inline(always)]
+    fn tries(&mut self, place: usize, others: u64) -> Option<Least>
+        requires place { place < length self.old.cores }
+        requires quiet { OthersAreQuiet self.old place others }
+        ensures same { self.new ≡ self.old }
+        ensures least { IfSome result
+            (λ l. IsLeastBelow self.old.cores (length self.old.cores) l) }
+    {
+        let Some(wake) = wake_of(&self.cores[place]) else {
+            self.turns.note(place, NEVER);
+            return None;
+        };
+        if wake > others {
+            self.turns.note(place, wake);
+            return None;
+        }
+        self.turns.give(place, others);
+        Some(Least {
+            place,
+            wake,
+            others,
+        })
     }
 
     /// Notes a tick, of one millisecond, and polls one core: it takes out one entry whose deadline in force is reached by

@@ -169,12 +169,18 @@ impl<T> Shared<T> {
             row.reserve(room);
             let mut store = self.lock(at);
             let is_whole = store.is_small(POLLED_WHOLE);
+            let mut is_next = false;
             while row.len() < first + room {
-                let Polled::Out(key, tick, value) = store.poll(now, is_whole) else {
-                    break;
-                };
-                let deadline = self.front.time.moment(tick);
-                row.push(Expired { key, deadline, value });
+                match store.poll(now, is_whole) {
+                    Polled::Out(key, tick, value) => {
+                        is_next = false;
+                        let deadline = self.front.time.moment(tick);
+                        row.push(Expired { key, deadline, value });
+                    }
+                    // Another core is next. The lock is kept for no more than one that has nothing to give.
+                    Polled::Works if is_whole && !is_next => is_next = true,
+                    Polled::Works | Polled::Rests => break,
+                }
             }
             if row.len() == first + room {
                 store.note_next();

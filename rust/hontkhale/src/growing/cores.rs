@@ -1,6 +1,7 @@
 //! The cores of one owner, and the calls on them.
 
 use crate::core::{CoreError, DelayCore, Removed, Words};
+use crate::growing::least::Turns;
 use crate::index::{nth, nth_mut};
 use crate::memory::AllocError;
 use crate::ticks::{EntryId, Key, LAST_TICK};
@@ -26,9 +27,7 @@ pub struct Cores<T, W: Words> {
     pub(crate) opened: usize,
     pub(crate) next: u32,
     pub(crate) noted: u64,
-    // The core whose turn it is to be polled. No other one has a live entry with a deadline before `others`.
-    pub(crate) turn: usize,
-    pub(crate) others: u64,
+    pub(crate) turns: Turns,
 }
 
 // Why a reset is refused where no core has the entry's number.
@@ -48,17 +47,6 @@ fn is_foldable<T, W: Words>(core: &DelayCore<T, W>) -> bool {
 #[inline(always)]
 fn remove_from<T, W: Words>(core: &mut DelayCore<T, W>, entry: &EntryId) -> Result<Removed<T>, CoreError> {
     core.remove(entry)
-}
-
-// The tick before which no core but the one whose turn it is has a live entry with a deadline, once an entry got a
-// deadline.
-#[inline(always)]
-pub(crate) fn lowered(others: u64, when: u64, is_turn: bool) -> u64 {
-    if is_turn {
-        others
-    } else {
-        others.min(when)
-    }
 }
 
 // The place of the open core, once the core at a place is gone.
@@ -86,8 +74,7 @@ impl<T, W: Words> Cores<T, W> {
             opened: 0,
             next: 0,
             noted: 0,
-            turn: 0,
-            others: 0,
+            turns: Turns::new(),
         }
     }
 
@@ -183,7 +170,7 @@ impl<T, W: Words> Cores<T, W> {
         let Some(at) = self.place_of(entry.shard()) else {
             return Err(missing_at(when));
         };
-        self.others = lowered(self.others, when, at == self.turn);
+        self.turns.lower(at, when);
         nth_mut(&mut self.cores, at).reset(entry, when)
     }
 
@@ -231,7 +218,7 @@ impl<T, W: Words> Cores<T, W> {
         if self.opened >= self.cores.len() {
             return (Err((closed_at(when), value)), None);
         }
-        self.others = lowered(self.others, when, self.opened == self.turn);
+        self.turns.lower(self.opened, when);
         nth_mut(&mut self.cores, self.opened).insert_deferring(value, when)
     }
 
@@ -277,7 +264,7 @@ impl<T, W: Words> Cores<T, W> {
         self.next = self.next.max(number + 1);
         self.noted = self.noted.max(core.noted());
         self.opened = self.cores.len();
-        self.others = 0;
+        self.turns = Turns::new();
         self.cores.push(core);
         Ok(())
     }
@@ -297,7 +284,7 @@ impl<T, W: Words> Cores<T, W> {
     pub fn take_drained(&mut self) -> Option<DelayCore<T, W>> {
         let at = self.drained()?;
         self.opened = opened_after(self.opened, at);
-        self.others = 0;
+        self.turns = Turns::new();
         let core = self.cores.remove(at);
         Some(core)
     }

@@ -5,7 +5,7 @@
 //! is the one with which it goes on.
 
 use crate::core::{CoreError, DelayCore, Removed, Words};
-use crate::growing::cores::{lowered, Cores};
+use crate::growing::cores::Cores;
 use crate::index::{nth, nth_mut};
 use crate::ticks::{EntryId, Key, LAST_TICK};
 
@@ -95,7 +95,7 @@ impl<T, W: Words> Cores<T, W> {
     fn put_in_open(&mut self, value: T, deadline: u64) -> (Key, Option<T>) {
         // requires deadline ≤ LAST_TICK
         // requires HasOpenRoom self.old
-        self.others = lowered(self.others, deadline, self.opened == self.turn);
+        self.turns.lower(self.opened, deadline);
         put_in(nth_mut(&mut self.cores, self.opened), value, deadline)
     }
 

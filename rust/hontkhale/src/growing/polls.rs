@@ -2,7 +2,7 @@
 
 use crate::core::{CoreError, DelayCore, Piece, Turn, Words};
 use crate::growing::cores::Cores;
-use crate::growing::least::{joined, Due, Least};
+use crate::growing::least::{joined, Due, Least, KNOWN};
 use crate::growing::NEVER;
 use crate::index::{nth, nth_mut};
 use crate::ticks::{Key, LAST_TICK};
@@ -12,9 +12,10 @@ fn wake_of<T, W: Words>(core: &DelayCore<T, W>) -> Option<u64> {
     core.next_wake()
 }
 
-// Whether a core wakes by a tick.
-fn wakes_by<T, W: Words>(core: &DelayCore<T, W>, tick: u64) -> bool {
-    match wake_of(core) {
+// Whether a core that wakes so wakes by a tick.
+#[inline(always)]
+fn wakes_by(wake: Option<u64>, tick: u64) -> bool {
+    match wake {
         Some(wake) => wake <= tick,
         None => false,
     }
@@ -40,6 +41,7 @@ fn as_told<T>(piece: Piece<T>, noted: u64, others: u64) -> Piece<T> {
 
 impl<T, W: Words> Cores<T, W> {
     // Which core wakes first, none where nothing is linked.
+    #[inline(never)]
     fn least(&self) -> Option<Least> {
         let mut least = None;
         for at in 0..self.cores.len() {
@@ -51,30 +53,77 @@ impl<T, W: Words> Cores<T, W> {
     // What is to be polled next: the core whose turn it is, as long as it wakes before the others.
     #[inline(always)]
     fn due(&mut self) -> Due {
-        if self.turn < self.cores.len()
-            && (self.noted < self.others || wakes_by(nth(&self.cores, self.turn), self.others))
-        {
-            return Due::In {
-                place: self.turn,
-                others: self.others,
-            };
+        let (place, others) = (self.turns.place(), self.turns.others());
+        if place < self.cores.len() {
+            if self.noted < others {
+                return Due::In { place, others };
+            }
+            let wake = wake_of(nth(&self.cores, place));
+            if wakes_by(wake, others) {
+                return Due::In { place, others };
+            }
+            self.turns.note(place, wake.unwrap_or(NEVER));
         }
         self.take_turns()
     }
 
     // Gives the turn to the core that wakes first.
+    #[inline(always)]
     fn take_turns(&mut self) -> Due {
-        let Some(least) = self.least() else {
+        let Some(least) = self.next_turn() else {
             return Due::Rests(None);
         };
-        self.turn = least.place;
-        self.others = least.others;
         if least.wake > self.noted {
             return Due::Rests(Some(least.wake));
         }
         Due::In {
             place: least.place,
             others: least.others,
+        }
+    }
+
+    // The core that wakes first. It has the turn then.
+    #[inline(always)]
+    fn next_turn(&mut self) -> Option<Least> {
+        if let Some(least) = self.sought() {
+            return Some(least);
+        }
+        let least = self.least()?;
+        self.turns.give(least.place, least.others);
+        Some(least)
+    }
+
+    // The same by what is known of the cores, none where that takes a look at each.
+    #[inline(always)]
+    fn sought(&mut self) -> Option<Least> {
+        let cores = self.cores.len();
+        if cores > KNOWN {
+            return None;
+        }
+        for _ in 0..KNOWN + 1 {
+            let (place, others) = self.turns.first(cores)?;
+            if let Some(least) = self.tries(place, others) {
+                return Some(least);
+            }
+        }
+        None
+    }
+
+    // Gives the core at a place the turn if it wakes by what the others have.
+    #[inline(always)]
+    fn tries(&mut self, place: usize, others: u64) -> Option<Least> {
+        // requires place < length self.old.cores
+        // requires OthersAreQuiet self.old place others
+        let wake = wake_of(nth(&self.cores, place));
+        match wake {
+            Some(wake) if wake <= others => {
+                self.turns.give(place, others);
+                Some(Least { place, wake, others })
+            }
+            _ => {
+                self.turns.note(place, wake.unwrap_or(NEVER));
+                None
+            }
         }
     }
 

@@ -1,6 +1,6 @@
 use Rattle.std.proofs.Common.{sym, arith, length, ◌<◌, rules}
 use Rattle.dq_growing.specs.Cores.{CoreRow, IsCoreAt}
-use Rattle.dq_growing.proofs.Quiet.{quiet_after, clears_late}
+use Rattle.dq_growing.proofs.Quiet.{turns_after, clears_late}
 use Rattle.dq_growing.proofs.Rows.{keeps_law, on_place}
 use Rattle.dq_growing.proofs.cores.Cores.clear_core.Goals as goal
 
@@ -20,4 +20,4 @@ invariant_of-self g c =
     let inside : c.args.place < length i.cores.items = search rules in
     let at : IsCoreAt s.cores c.args.place b = (inside, sym c.index_mut.ensures.value) in
     let noted = c.clear_deferring-ended.ensures.noted in
-    (keeps_law s c.args.place b a c.self.invariant.0 at c.clear_deferring-ended.ensures.same.0 (omega arith), quiet_after s i.turn i.others i.others c.args.place b a c.self.invariant.1 at (omega arith) (λ before. clears_late _ b a i.others before _ c.clear_deferring-ended.ensures.clears))
+    (keeps_law s c.args.place b a c.self.invariant.0 at c.clear_deferring-ended.ensures.same.0 (omega arith), turns_after s i.turns c.args.place b a c.self.invariant.1 at (λ u before. clears_late _ b a u before _ c.clear_deferring-ended.ensures.clears))

@@ -1,6 +1,6 @@
 use Rattle.std.proofs.Common.{sym, arith}
 use Rattle.dq_growing.specs.Cores.{CoreRow, IsCoreAt}
-use Rattle.dq_growing.proofs.Quiet.{quiet_after, tells_noted, tells_late}
+use Rattle.dq_growing.proofs.Quiet.{turns_after, tells_noted, tells_late}
 use Rattle.dq_growing.proofs.Rows.{keeps_law, on_found, missing_in}
 use Rattle.dq_growing.proofs.Standing.{found_at, words_in}
 use Rattle.dq_growing.proofs.cores.Cores.deadline.Goals as goal
@@ -26,7 +26,7 @@ invariant_of-self g c =
     let inside = (rw (c.shard.ensures, ← c.self.view_is) at c.in-Some.ensures.found).1.0.0 in
     let at : IsCoreAt s.cores c.in-Some.at b = (inside, sym c.index_mut.ensures.value) in
     let noted = tells_noted _ b a c.args.entry.now _ c.deadline-answer.ensures.tells in
-    (keeps_law s c.in-Some.at b a c.self.invariant.0 at c.deadline-answer.ensures.same.0 (omega arith), quiet_after s i.turn i.others i.others c.in-Some.at b a c.self.invariant.1 at (omega arith) (λ before. tells_late _ b a i.others before c.args.entry.now _ c.deadline-answer.ensures.tells))
+    (keeps_law s c.in-Some.at b a c.self.invariant.0 at c.deadline-answer.ensures.same.0 (omega arith), turns_after s i.turns c.in-Some.at b a c.self.invariant.1 at (λ u before. tells_late _ b a u before c.args.entry.now _ c.deadline-answer.ensures.tells))
 
 pub returns-clause-words : goal.returns-clause-words
 returns-clause-words g c =

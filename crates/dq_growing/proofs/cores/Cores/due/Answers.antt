@@ -1,18 +1,17 @@
-use Rattle.std.proofs.Common.{sym, ◌∙◌, arith}
+use Rattle.std.proofs.Common.{◌<◌, ℕ, Option, length, refl, subst, rules}
+use Rattle.dq_core.specs.Calls.{TellsWake}
 use Rattle.dq_growing.specs.Cores.{CoreRow}
-use Rattle.dq_growing.proofs.Leasts.{now_turn, wakes_turn}
-use Rattle.dq_growing.proofs.cores.Cores.due.Goals.{then-self, else-self}
+use Rattle.dq_growing.proofs.Leasts.{wakes_turn}
 use Rattle.dq_growing.proofs.cores.Cores.due.Goals as goal
 
 pub returns-then-wakes_by-clause-due : goal.returns-then-wakes_by-clause-due
 returns-then-wakes_by-clause-due g c =
     let i = c.self.inside in
     let s : CoreRow g.row.T.Denot g.row.W.Denot = record { cores = i.cores.items; opened = i.opened; next = i.next; noted = i.noted } in
-    let is = c.len.ensures in
-    let below = c.if-self-len.true in
+    let b = c.index.result.now in
+    let inside : c.place-place.result < length i.cores.items = search rules in
+    let quiet = rw (← c.place-place.ensures, ← c.others-others.ensures) at c.self.invariant.1.0 in
+    let w = c.if-wakes_by.ensures refl in
+    let P : Option ℕ → Type 0 = λ r. TellsWake b r in
     rw (← c.self.view_is)
-    (elim c.if-self.branch [
-      | then-self w ↦ now_turn s i.turn i.others (omega arith) c.self.invariant.1 w.if-self.true
-      | else-self w ↦ wakes_turn s i.turn i.others w.index.result.now (omega arith) c.self.invariant.1 w.index.ensures
-          (w.wakes_by.ensures (sym w.value-is ∙ c.if-wakes_by.true))
-    ])
+    (wakes_turn s c.place-place.result c.others-others.result b inside quiet c.index.ensures (w.0, subst P w.1 c.wake_of-wake.ensures.tells, w.2))

@@ -1,7 +1,7 @@
 use Rattle.std.proofs.Common.{sym, arith}
 use Rattle.dq_growing.specs.Cores.{CoreRow, IsCoreAt}
 use Rattle.dq_growing.proofs.Rows.{keeps_law}
-use Rattle.dq_growing.proofs.Quiet.{quiet_after, polls_late}
+use Rattle.dq_growing.proofs.Quiet.{turns_after, polls_late}
 use Rattle.dq_core.specs.declared.outcomes.Piece.TheVariants.{Answer}
 use Rattle.dq_growing.proofs.Aging.{ages_at, poll_run}
 use Rattle.dq_growing.proofs.Leasts.{polls_core, rests_core, ahead_core}
@@ -33,7 +33,7 @@ invariant_of-self g c =
     let at : IsCoreAt s.cores c.args.place b = (inside, sym c.index_mut.ensures.value) in
     let noted = c.in-Ok.ensures.noted in
     let until = c.min.ensures in
-    (keeps_law s c.args.place b a c.self.invariant.0 at c.poll_deferring-answer.ensures.same.0 (omega arith), quiet_after s i.turn i.others i.others c.args.place b a c.self.invariant.1 at (omega arith) (λ before. polls_late _ b a i.others before _ _ c.in-Ok.ensures.polls))
+    (keeps_law s c.args.place b a c.self.invariant.0 at c.poll_deferring-answer.ensures.same.0 (omega arith), turns_after s i.turns c.args.place b a c.self.invariant.1 at (λ u before. polls_late _ b a u before _ _ c.in-Ok.ensures.polls))
 
 pub returns-clause-ages : goal.returns-clause-ages
 returns-clause-ages g c =

@@ -1,6 +1,6 @@
 use Rattle.std.proofs.Common.{◌<◌, length, sym, [], Ok, arith, rules}
 use Rattle.dq_growing.specs.Cores.{CoreRow, IsCoreAt}
-use Rattle.dq_growing.proofs.Quiet.{quiet_later, inserts_late, inserts_noted}
+use Rattle.dq_growing.proofs.Quiet.{turns_later, inserts_late, inserts_noted}
 use Rattle.dq_growing.proofs.Rows.{keeps_law, on_place}
 use Rattle.dq_growing.proofs.Standing.{words_in}
 use Rattle.dq_growing.proofs.Moves.{open_comes, open_ahead, open_begun, open_ages, open_past}
@@ -74,5 +74,5 @@ invariant_of-self g c =
     let at : IsCoreAt s.cores i.opened b = (inside, sym c.index_mut.ensures.value) in
     let noted = inserts_noted g.W.Words.shared b a v d (Ok p.result.0) p.ensures.puts.0 in (
       keeps_law s i.opened b a c.self.invariant.0 at p.ensures.same.0 (omega arith),
-      rw c.lowered-self-inside.ensures (quiet_later s i.turn i.others d i.opened b a c.self.invariant.1 at (λ t late before. inserts_late g.W.Words.shared b a t before v d (Ok p.result.0) late p.ensures.puts.0)),
+      turns_later s i.turns c.lower.new.self d i.opened b a c.self.invariant.1 at (λ t late before. inserts_late g.W.Words.shared b a t before v d (Ok p.result.0) late p.ensures.puts.0) c.lower.ensures.place c.lower.ensures.others c.lower.ensures.bounds c.lower.ensures.low,
     )

@@ -1,6 +1,6 @@
 use Rattle.std.proofs.Common.{sym, arith}
 use Rattle.dq_growing.specs.Cores.{CoreRow, IsCoreAt}
-use Rattle.dq_growing.proofs.Quiet.{quiet_after, reap_late}
+use Rattle.dq_growing.proofs.Quiet.{turns_after, reap_late}
 use Rattle.dq_growing.proofs.Rows.{keeps_law, on_found}
 use Rattle.dq_growing.proofs.Aging.{ages_at, reap_run}
 use Rattle.dq_growing.proofs.Standing.{found_at, words_in}
@@ -21,7 +21,7 @@ invariant_of-self g c =
     let inside = (rw (c.shard.ensures, ← c.self.view_is) at c.in-Some.ensures.found).1.0.0 in
     let at : IsCoreAt s.cores c.in-Some.at b = (inside, sym c.index_mut.ensures.value) in
     let noted = c.reap_deferring-answer.ensures.noted in
-    (keeps_law s c.in-Some.at b a c.self.invariant.0 at c.reap_deferring-answer.ensures.same.0 (omega arith), quiet_after s i.turn i.others i.others c.in-Some.at b a c.self.invariant.1 at (omega arith) (λ before. reap_late _ b a i.others before c.args.entry.now _ c.reap_deferring-answer.ensures.reaps))
+    (keeps_law s c.in-Some.at b a c.self.invariant.0 at c.reap_deferring-answer.ensures.same.0 (omega arith), turns_after s i.turns c.in-Some.at b a c.self.invariant.1 at (λ u before. reap_late _ b a u before c.args.entry.now _ c.reap_deferring-answer.ensures.reaps))
 
 pub returns-clause-ages : goal.returns-clause-ages
 returns-clause-ages g c =

@@ -1,6 +1,6 @@
 use Rattle.std.proofs.Common.{sym, arith, length, ◌<◌, rules}
 use Rattle.dq_growing.specs.Cores.{CoreRow, IsCoreAt}
-use Rattle.dq_growing.proofs.Quiet.{quiet_after, sweeps_late}
+use Rattle.dq_growing.proofs.Quiet.{turns_after, sweeps_late}
 use Rattle.dq_growing.proofs.Rows.{keeps_law, on_place}
 use Rattle.dq_growing.proofs.Aging.{ages_at, sweep_run}
 use Rattle.dq_growing.proofs.Standing.{words_in}
@@ -30,7 +30,7 @@ invariant_of-self g c =
     let inside : c.args.place < length i.cores.items = search rules in
     let at : IsCoreAt s.cores c.args.place b = (inside, sym c.index_mut.ensures.value) in
     let noted = c.sweep_some_deferring-swept.ensures.noted in
-    (keeps_law s c.args.place b a c.self.invariant.0 at c.sweep_some_deferring-swept.ensures.same.0 (omega arith), quiet_after s i.turn i.others i.others c.args.place b a c.self.invariant.1 at (omega arith) (λ before. sweeps_late _ b a i.others before _ _ _ c.sweep_some_deferring-swept.ensures.sweeps))
+    (keeps_law s c.args.place b a c.self.invariant.0 at c.sweep_some_deferring-swept.ensures.same.0 (omega arith), turns_after s i.turns c.args.place b a c.self.invariant.1 at (λ u before. sweeps_late _ b a u before _ _ _ c.sweep_some_deferring-swept.ensures.sweeps))
 
 pub returns-clause-words : goal.returns-clause-words
 returns-clause-words g c =

@@ -1,7 +1,7 @@
 use Rattle.std.proofs.Common.{sym, arith}
 use Rattle.std.specs.Fn.{FnOnceReturnsAtMut}
 use Rattle.dq_growing.specs.Cores.{CoreRow, IsCoreAt}
-use Rattle.dq_growing.proofs.Quiet.{quiet_after, changes_late, changes_noted}
+use Rattle.dq_growing.proofs.Quiet.{turns_after, changes_late, changes_noted}
 use Rattle.dq_growing.proofs.Rows.{keeps_law, on_found}
 use Rattle.dq_growing.proofs.Standing.{found_at, found_changes, found_missing, still_past, changed_stamps}
 use Rattle.dq_growing.proofs.cores.Cores.with_value.Goals as goal
@@ -48,4 +48,4 @@ invariant_of-self g c =
     let inside = (rw (c.shard.ensures, ← c.self.view_is) at c.in-Some.ensures.found).1.0.0 in
     let at : IsCoreAt s.cores c.in-Some.at b = (inside, sym c.index_mut.ensures.value) in
     let noted = changes_noted Makes b a c.args.entry.now r.result r.ensures.changes in
-    (keeps_law s c.in-Some.at b a c.self.invariant.0 at r.ensures.same.0 (omega arith), quiet_after s i.turn i.others i.others c.in-Some.at b a c.self.invariant.1 at (omega arith) (λ before. changes_late Makes b a c.args.entry.now i.others before r.result r.ensures.changes r.ensures.entry))
+    (keeps_law s c.in-Some.at b a c.self.invariant.0 at r.ensures.same.0 (omega arith), turns_after s i.turns c.in-Some.at b a c.self.invariant.1 at (λ u before. changes_late Makes b a c.args.entry.now u before r.result r.ensures.changes r.ensures.entry))
