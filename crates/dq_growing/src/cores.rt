@@ -311,8 +311,8 @@ impl<T, W: Words, A: Allocator> Cores<T, W, A> {
         answer
     }
 
-    /// Returns the key that the next insert gives, in the open core. It returns none if no core is open, or no slot of it
-    /// is left in which no value waits for its drop. Constant time.
+    /// Returns the key that an insert may give next: that of a free slot of the open core in which no value waits for its
+    /// drop. It returns none if no core is open, or no such slot is left. Constant time.
     pub fn next_key(&self) -> Option<Key>
         ensures { TellsNextIn self.now result }
     {

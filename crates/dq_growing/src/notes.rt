@@ -75,6 +75,7 @@ impl<A: Allocator + Clone> PairTable<A> {
 
     // Whether no id has another.
     #[inline]
+    #[tactic(auto, using(crate::proofs::Pairing::none_listed))]
     fn is_empty(&self) -> bool
         ensures { result ≡ true → HasNone self.now }
     {
@@ -146,7 +147,7 @@ impl<A: Allocator + Clone> PairTable<A> {
         }
     }
 
-    // The same, with its mark.
+    // Takes away what is noted of an id. Its mark stays, as other ids may have it.
     fn remove(&mut self, id: &EntryId)
         ensures at { SetsPair self.old id.now None self.new }
         ensures room { self.old.room ≤ self.new.room }
@@ -210,6 +211,7 @@ impl<A: Allocator + Clone> Notes<A> {
 
     /// The place that a user's id means: its own, where nothing is noted; none, where another's entry is there.
     #[inline]
+    #[tactic(auto, using(crate::proofs::Pairing::own_place))]
     pub fn place(&self, user: &EntryId) -> Option<EntryId>
         ensures { result ≡ meant_place self.now user.now }
     {
@@ -227,6 +229,7 @@ impl<A: Allocator + Clone> Notes<A> {
 
     /// The id that the user of a place has: its own, where nothing is noted.
     #[inline]
+    #[tactic(auto, using(crate::proofs::Pairing::own_user))]
     pub fn user(&self, place: &EntryId) -> EntryId
         ensures { result ≡ user_at self.now place.now }
     {

@@ -95,6 +95,7 @@ impl<T, W: Words, A: Allocator> Cores<T, W, A> {
 
     // Gives the turn to the core that wakes first.
     #[inline(always)]
+    #[tactic(auto, using(crate::proofs::Leasts::takes_turn))]
     fn take_turns(&mut self) -> Due
         ensures same { self.new ≡ self.old }
         ensures due { TellsDue self.old result }
@@ -300,6 +301,7 @@ impl<T, W: Words, A: Allocator> Cores<T, W, A> {
 
     /// Returns the tick, of one millisecond, at which the store has something to do next. It returns none if no entry is
     /// linked. No live entry has a deadline before that tick; the least deadline may be later.
+    #[tactic(auto, using(crate::proofs::Leasts::quiet_in))]
     pub fn next_wake(&self) -> Option<u64>
         ensures quiet { IfSome result (λ w. NoneLiveIn self.now w) }
         ensures wake { TellsWakeIn self.now result }

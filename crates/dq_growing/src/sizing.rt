@@ -412,6 +412,7 @@ impl Sizing {
 
     /// Returns an entry that may be moved into the open core, so that its own one drains: the one that is scheduled first
     /// in a core that isn't open and of which a sixteenth is used at most.
+    #[tactic(auto, using(crate::proofs::Sizes::elsewhere))]
     pub fn straggler<T, W: Words, A: Allocator + Clone>(
         &self,
         store: &Store<T, W, A>,

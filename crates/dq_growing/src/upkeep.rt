@@ -52,8 +52,8 @@ impl<T, W: Words, A: Allocator + Clone> Store<T, W, A> {
         core.get(&place)
     }
 
-    /// Returns the key that the next insert gives. It returns none if no core is open, or no slot of the open one is left
-    /// in which no value waits for its drop. Constant time.
+    /// Returns the key that an insert may give next: that of a free slot of the open core in which no value waits for its
+    /// drop. It returns none if no core is open, or no such slot is left. Constant time.
     pub fn next_key(&self) -> Option<Key>
         // It is what the open core tells: a new entry has no other id for its user.
         ensures { TellsNextIn self.now.cores result }

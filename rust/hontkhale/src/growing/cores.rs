@@ -187,8 +187,8 @@ impl<T, W: Words> Cores<T, W> {
         nth_mut(&mut self.cores, at).deadline(entry)
     }
 
-    /// Returns the key that the next insert gives, in the open core. It returns none if no core is open, or no slot of it
-    /// is left in which no value waits for its drop. Constant time.
+    /// Returns the key that an insert may give next: that of a free slot of the open core in which no value waits for its
+    /// drop. It returns none if no core is open, or no such slot is left. Constant time.
     pub fn next_key(&self) -> Option<Key> {
         if self.opened >= self.cores.len() {
             return None;

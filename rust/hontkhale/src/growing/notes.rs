@@ -97,7 +97,7 @@ impl PairTable {
         }
     }
 
-    // The same, with its mark.
+    // Takes away what is noted of an id. Its mark stays, as other ids may have it.
     fn remove(&mut self, id: &EntryId) {
         let _ = self.map.remove(&numbers_of(id));
     }

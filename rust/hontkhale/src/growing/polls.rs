@@ -114,17 +114,16 @@ impl<T, W: Words> Cores<T, W> {
     fn tries(&mut self, place: usize, others: u64) -> Option<Least> {
         // requires place < length self.old.cores
         // requires OthersAreQuiet self.old place others
-        let wake = wake_of(nth(&self.cores, place));
-        match wake {
-            Some(wake) if wake <= others => {
-                self.turns.give(place, others);
-                Some(Least { place, wake, others })
-            }
-            _ => {
-                self.turns.note(place, wake.unwrap_or(NEVER));
-                None
-            }
+        let Some(wake) = wake_of(nth(&self.cores, place)) else {
+            self.turns.note(place, NEVER);
+            return None;
+        };
+        if wake > others {
+            self.turns.note(place, wake);
+            return None;
         }
+        self.turns.give(place, others);
+        Some(Least { place, wake, others })
     }
 
     /// Notes a tick, of one millisecond, and polls one core: it takes out one entry whose deadline in force is reached by
