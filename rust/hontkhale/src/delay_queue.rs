@@ -715,7 +715,7 @@ impl<T> DelayQueue<T> {
     }
 
     /// Waits until no entry waits, at most for `timeout`, and returns whether that came: each came out, or was removed or
-    /// cancelled. It waits for ever where no clock reaches that moment, as with [`Duration::MAX`], and with a time of zero it
+    /// cancelled. Whoever received the last of them may be at work on it yet. It waits for ever where no clock reaches that moment, as with [`Duration::MAX`], and with a time of zero it
     /// only looks. The time is counted by the queue's clock: with a [`ManualClock`] it passes by
     /// [`advance`](ManualClock::advance) alone, which wakes whoever waits. It takes the lock of each shard in turn.
     ///

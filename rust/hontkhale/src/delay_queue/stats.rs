@@ -93,9 +93,9 @@ pub trait Metrics {
     fn counter(&mut self, name: &str, total: u64);
     /// What rises and falls. Lengths of time are in seconds.
     fn gauge(&mut self, name: &str, value: f64);
-    /// A bucket of a histogram: how often less than that long was measured, so that it counts what the buckets before it do. A place
-    /// of [`Stats::lateness`] doesn't. The buckets come in rising order; the length of the last one is [`Duration::MAX`], and its
-    /// count is the total.
+    /// A bucket of a histogram: how often less than that long was measured. So it counts what the buckets before it count, unlike a
+    /// place of [`Stats::lateness`]. The buckets come in rising order; the length of the last one is [`Duration::MAX`], and its count
+    /// is the total.
     fn bucket(&mut self, name: &str, below: Duration, count: u64);
 }
 
