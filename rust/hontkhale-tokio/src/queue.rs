@@ -187,7 +187,8 @@ impl<T> DelayQueue<T> {
     ///
     /// Whether the present millisecond is reached, tokio's timer decides, which rounds up to milliseconds of its runtime. So where a
     /// running runtime's time is paused, by `tokio::time::pause()`, an entry for `Instant::now()` may be pending until the time is
-    /// advanced by a millisecond, as is tokio's `sleep_until(Instant::now())`. In a runtime that began with paused time it is ready.
+    /// advanced by a millisecond, as is tokio's `sleep_until(Instant::now())`. In a runtime that began with paused time, and went on by
+    /// whole milliseconds, it is ready.
     pub fn poll_expired(&mut self, cx: &mut Context<'_>) -> Poll<Option<Expired<T>>> {
         if self.streak.is_over() {
             return self.end_streak(cx);
