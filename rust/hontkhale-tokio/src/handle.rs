@@ -52,7 +52,8 @@ impl Handle {
     }
 
     /// Raises the deadline of an entry to `timeout` from now, and returns the deadline that is then in force: that one, or
-    /// a later one that it had. No extend that was accepted is lost. It reads the clock, and makes one atomic step.
+    /// a later one that it had. No extend that was accepted is lost. An entry that is due and hasn't come out yet is put off, too. It
+    /// reads the clock, and makes one atomic step.
     ///
     /// # Errors
     /// In this order:

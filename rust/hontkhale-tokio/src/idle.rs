@@ -191,6 +191,7 @@ impl WakerCell {
 /// Each read and each write that moved a byte gives it the whole time anew. That takes no lock, but for a thread's first calls;
 /// it reads the clock, and of several within a millisecond one makes the two atomic steps. A flush, a shutdown, an empty read or
 /// write and the end of the other side's bytes move none. So a connection whose other side has ended goes on as long as it writes.
+/// While the other side waits for an answer no byte moves either: [`set_timeout`](IdleTimeout::set_timeout) gives it another time.
 ///
 /// # The timeout
 /// The task ends the connection at its deadline or after it, and never before. A read and a write that are pending then are both
@@ -229,6 +230,15 @@ impl Entry {
         }
     }
 
+    /// Begins another time, unless the task has taken the entry out: it ends the connection then.
+    fn begin(&mut self, after: Duration) {
+        let is_out = self.place.take().is_some_and(|(key, _)| self.timeouts.queue.remove(&key).is_err());
+        if !is_out {
+            self.after = after;
+            self.place = self.timeouts.place(&self.waits, after);
+        }
+    }
+
     /// A write of some kind.
     fn poll_write(
         &mut self,
@@ -260,6 +270,37 @@ impl<IO> IdleTimeout<IO> {
     /// The reader and writer. What is read and written by it doesn't count.
     pub fn get_mut(&mut self) -> &mut IO {
         &mut self.io
+    }
+
+    /// Gives another idle timeout, which begins now: [`Duration::MAX`], which never ends, while the client waits for the server, and a
+    /// shorter one before the server waits for the client again. A connection that has timed out stays so.
+    ///
+    /// `after` is taken as [`wrap`](IdleTimeouts::wrap) takes it. It reads the clock, and takes the locks of two shards of the queue at
+    /// most, one after the other, each for constant time.
+    ///
+    /// # Panics
+    /// If memory is refused, or as many connections are there as `wrap` takes. The connection has no timeout then.
+    ///
+    /// ```
+    /// # #[tokio::main(flavor = "current_thread", start_paused = true)]
+    /// # async fn main() -> std::io::Result<()> {
+    /// # use hontkhale_tokio::IdleTimeouts;
+    /// # use std::time::Duration;
+    /// # use tokio::io::{duplex, AsyncReadExt, AsyncWriteExt};
+    /// # let (timeouts, idle) = (IdleTimeouts::new(), Duration::from_secs(30));
+    /// # let (mut client, server) = duplex(64);
+    /// # let work = || tokio::time::sleep(2 * idle);
+    /// let mut connection = timeouts.wrap(server, idle);
+    /// connection.set_timeout(Duration::MAX);
+    /// work().await;
+    /// connection.set_timeout(idle);
+    /// connection.write_all(b"done").await?;
+    /// # client.read_exact(&mut [0; 4]).await?;
+    /// # assert!(connection.read_u8().await.is_err());
+    /// # Ok(()) }
+    /// ```
+    pub fn set_timeout(&mut self, after: Duration) {
+        self.entry.begin(after);
     }
 
     /// The reader and writer, without a timeout.

@@ -145,7 +145,8 @@ impl<T> DelayQueue<T> {
         self.fresh = Budget::of(steps);
     }
 
-    /// Puts a value in that comes out at `when`, or at once where `when` is over. Constant time, but that the queue may grow.
+    /// Puts a value in that comes out at `when`, or at once where `when` is over. The present millisecond may not be over by tokio's
+    /// timer: see [`poll_expired`](DelayQueue::poll_expired). Constant time, but that the queue may grow.
     ///
     /// # Panics
     /// If `when` is more than 139 years after the queue's making, if the queue would hold 2³² entries, or if memory is refused.
@@ -183,6 +184,11 @@ impl<T> DelayQueue<T> {
     /// - No deadline is reached. The task is woken for the next one.
     /// - The [budget](DelayQueue::set_budget) is spent. The task is woken at once.
     /// - It was given 128 entries in a row, with no pending poll between them. The task is woken at once.
+    ///
+    /// Whether the present millisecond is reached, tokio's timer decides, which rounds up to milliseconds of its runtime. So where a
+    /// running runtime's time is paused, by `tokio::time::pause()`, an entry for `Instant::now()` may be pending until the time is
+    /// advanced by a millisecond, as is tokio's `sleep_until(Instant::now())`. In a runtime that began with paused time, and went on by
+    /// whole milliseconds, it is ready.
     pub fn poll_expired(&mut self, cx: &mut Context<'_>) -> Poll<Option<Expired<T>>> {
         if self.streak.is_over() {
             return self.end_streak(cx);
@@ -426,7 +432,9 @@ impl<T> DelayQueue<T> {
         out
     }
 
-    /// Gives an entry another deadline, earlier or later, under the same key. Constant time.
+    /// Gives an entry another deadline, earlier or later, under the same key. An entry that is due and hasn't come out yet is put off,
+    /// too. By a moment of the present millisecond the entry may be pending yet: see [`poll_expired`](DelayQueue::poll_expired).
+    /// Constant time.
     ///
     /// # Panics
     /// If `when` is more than 139 years after the queue's making, or if no entry is in the queue under that key: it came out, was

@@ -2,7 +2,9 @@
 
 pub use crate::key_sleep::KeySleep;
 pub use crate::stream::QueueStream;
-use hontkhale::{Builder, DelayQueue, InsertError, InsertErrorKind, Key, KeyError};
+use hontkhale::{Builder, DelayQueue};
+#[doc(inline)]
+pub use hontkhale::{InsertError, InsertErrorKind, Key, KeyError};
 use std::fmt;
 use std::time::Duration;
 use tokio::time::Instant;
@@ -131,7 +133,9 @@ impl<T> SharedQueue<T> {
         self.queue.reset_at(key, when.into_std())
     }
 
-    /// Raises the deadline of an entry to `after` from now, without a lock, and returns the deadline that is then in force.
+    /// Raises the deadline of an entry to `after` from now, without a lock, and returns the deadline that is then in force. An entry
+    /// that is due and hasn't come out yet is put off, too: whoever wants to refuse that calls
+    /// [`remove_if_due`](SharedQueue::remove_if_due) first. So it is with a reset.
     ///
     /// # Errors
     /// Those of [`DelayQueue::extend`].

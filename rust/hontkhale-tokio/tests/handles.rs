@@ -67,6 +67,23 @@ fn an_extended_entry_comes_out_later_and_wakes_nobody() {
 }
 
 #[test]
+fn an_entry_that_is_due_is_put_off_until_it_comes_out() {
+    ends(|| {
+        paused().block_on(async {
+            let mut queue = DelayQueue::new();
+            let (handle, start) = (queue.handle(), Instant::now());
+            let key = queue.insert("a", ms(10));
+            advance(ms(20)).await;
+            assert_eq!(handle.extend(&key, ms(10)), Ok(start + ms(30)));
+            advance(ms(20)).await;
+            queue.reset(&key, ms(10));
+            assert_eq!((next(&mut queue).await, start.elapsed()), (Some("a"), ms(50)));
+            assert_eq!(handle.extend(&key, ms(10)), Err(EntryError::Ended));
+        });
+    });
+}
+
+#[test]
 fn a_cancelled_value_is_dropped_by_the_next_poll() {
     ends(|| {
         paused().block_on(async {

@@ -251,6 +251,47 @@ fn a_zero_timeout_is_over_at_once_and_the_longest_never() {
     });
 }
 
+#[test]
+fn another_timeout_takes_the_place_of_the_one_before() {
+    ends(|| {
+        paused().block_on(async {
+            let (timeouts, start) = (IdleTimeouts::new(), Instant::now());
+            let (mut client, mut server) = connected(&timeouts, IDLE);
+            let mut passed = Duration::ZERO;
+            for after in [4 * IDLE, Duration::MAX, Duration::MAX, IDLE, 3 * IDLE, IDLE] {
+                server.set_timeout(after);
+                let works = after.min(5 * IDLE) - ms(1);
+                sleep(works).await;
+                passed += works;
+                client.write_u8(1).await.unwrap();
+                server.read_u8().await.unwrap();
+            }
+            server.set_timeout(IDLE / 2);
+            assert!(is_over(server.read_u8().await));
+            assert_eq!(start.elapsed(), passed + IDLE / 2);
+            for after in [IDLE, Duration::MAX] {
+                server.set_timeout(after);
+                assert!(is_over(server.read_u8().await) && is_over(server.write_u8(1).await));
+            }
+        });
+    });
+}
+
+#[test]
+fn a_byte_gives_the_whole_of_the_timeout_that_was_set_last() {
+    ends(|| {
+        paused().block_on(async {
+            let (_client, mut server) = connected(&IdleTimeouts::new(), 9 * IDLE);
+            server.set_timeout(IDLE);
+            sleep(IDLE / 2).await;
+            server.write_u8(1).await.unwrap();
+            let start = Instant::now();
+            assert!(is_over(server.read_u8().await));
+            assert_eq!(start.elapsed(), IDLE);
+        });
+    });
+}
+
 /// Plays a drawn connection against a model: it times out a while after the last byte, and not before.
 async fn play(timeouts: IdleTimeouts, seed: u64) {
     let mut dice = Dice(seed);

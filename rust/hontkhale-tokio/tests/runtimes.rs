@@ -2,12 +2,15 @@
 
 mod common;
 
-use common::{ends, ms, paused, Dice};
+use common::{ends, ms, paused, running, Dice, Wakes};
 use hontkhale_tokio::{DelayQueue, SharedQueue};
 use std::collections::BTreeMap;
-use std::future::poll_fn;
+use std::future::{poll_fn, Future};
+use std::pin::pin;
+use std::sync::Arc;
+use std::task::{Context, Waker};
 use tokio::runtime::Runtime;
-use tokio::time::{timeout, Instant};
+use tokio::time::{advance, pause, sleep_until, timeout, Instant};
 
 /// The next value in a runtime.
 fn next(runtime: &Runtime, queue: &mut DelayQueue<&'static str>) -> Option<&'static str> {
@@ -266,6 +269,33 @@ fn what_the_peer_gives_in_either_of_two_runtimes_ours_gives() {
         }
         println!("{outs} entries came out, {outs_of_peer} of the peer");
         assert!(outs_of_peer > 1_000 && outs >= outs_of_peer);
+    });
+}
+
+/// tokio's timer rounds a moment up to milliseconds of its runtime, at none of which a clock stands that is paused later.
+#[test]
+fn an_entry_for_now_is_as_ready_as_tokios_sleep_where_time_is_paused_later() {
+    ends(|| {
+        running().block_on(async {
+            pause();
+            let waker = Waker::from(Arc::<Wakes>::default());
+            let mut cx = Context::from_waker(&waker);
+            let mut queue = DelayQueue::new();
+            let key = queue.insert("a", ms(60_000));
+            advance(ms(5)).await;
+            for round in 0..2 {
+                match round {
+                    0 => queue.reset_at(&key, Instant::now()),
+                    _ => drop(queue.insert_at("b", Instant::now())),
+                }
+                let is_ready = pin!(sleep_until(Instant::now())).poll(&mut cx).is_ready();
+                assert_eq!(queue.poll_expired(&mut cx).is_ready(), is_ready);
+                if !is_ready {
+                    advance(ms(1)).await;
+                    assert!(queue.poll_expired(&mut cx).is_ready());
+                }
+            }
+        });
     });
 }
 

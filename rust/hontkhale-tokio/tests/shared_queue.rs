@@ -3,8 +3,7 @@
 mod common;
 
 use common::{ends, ms, paused, running, threaded, Dice, Wakes};
-use hontkhale_tokio::hontkhale::{InsertErrorKind, KeyError};
-use hontkhale_tokio::shared_queue::{Handle, KeySleep};
+use hontkhale_tokio::shared_queue::{Handle, InsertErrorKind, KeyError, KeySleep};
 use hontkhale_tokio::SharedQueue;
 use std::future::Future;
 use std::pin::Pin;

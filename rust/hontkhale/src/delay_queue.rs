@@ -87,7 +87,7 @@ use std::time::{Duration, Instant};
 /// | Input | What it comes to |
 /// |---|---|
 /// | a time of zero, or a moment that is over, of an insert, a guard or a reset | the entry is due at once |
-/// | the same of an extend | the deadline stays, unless it is over: it is never lowered |
+/// | the same of an extend | a deadline that is later stays; an earlier one is raised to that moment, and the entry is due |
 /// | [`Duration::MAX`], or any deadline of more than 139 years | `TooFar` |
 /// | [`Duration::MAX`] of [`recv_timeout`](DelayQueue::recv_timeout) or [`wait_empty`](DelayQueue::wait_empty) | it waits for ever |
 /// | a time of zero, or a moment that is over, of these and of [`recv_deadline`](DelayQueue::recv_deadline) | it doesn't wait |
@@ -325,7 +325,7 @@ impl<T> DelayQueue<T> {
     /// Gives an entry the deadline `after` from now, sooner or later than the one that it has. It reads the clock. Where the
     /// deadline isn't sooner it takes no lock, and the key stays as it is. Else it takes the lock of the entry's shard for constant
     /// time, and returns the entry's key, which is equal to the old one; the old one serves as well, but an
-    /// [`extend`](DelayQueue::extend) by it takes a lock from then on.
+    /// [`extend`](DelayQueue::extend) by it takes a lock from then on. It puts off an entry that is due, as an extend does.
     ///
     /// # Errors
     /// Nothing changes then. In this order:
@@ -341,7 +341,7 @@ impl<T> DelayQueue<T> {
     /// Gives an entry the deadline `when`, sooner or later than the one that it has. Where the deadline isn't sooner it reads no
     /// clock and takes no lock, and the key stays as it is. Else it takes the lock of the entry's shard for constant time, and
     /// returns the entry's key, which is equal to the old one; the old one serves as well, but an
-    /// [`extend`](DelayQueue::extend) by it takes a lock from then on.
+    /// [`extend`](DelayQueue::extend) by it takes a lock from then on. It puts off an entry that is due, as an extend does.
     ///
     /// # Errors
     /// Nothing changes then. In this order:
@@ -357,6 +357,9 @@ impl<T> DelayQueue<T> {
     /// Raises the deadline of an entry to `after` from now, and returns the deadline that is then in force: that one, or a
     /// later one that it had. It reads the clock. It takes constant time and no lock, but by a key from before a sooner reset, or
     /// of an entry that the queue has moved.
+    ///
+    /// An entry that is due and hasn't come out yet is put off, too. Whoever wants to refuse that calls
+    /// [`remove_if_due`](DelayQueue::remove_if_due) first.
     ///
     /// # Errors
     /// In this order:
@@ -382,7 +385,7 @@ impl<T> DelayQueue<T> {
 
     /// Raises the deadline of an entry to `when`, and returns the deadline that is then in force: that one, or a later one
     /// that it had. It reads no clock. It takes constant time and no lock, but by a key from before a sooner reset, or of an entry
-    /// that the queue has moved.
+    /// that the queue has moved. It puts off an entry that is due, as [`extend`](DelayQueue::extend) does.
     ///
     /// # Errors
     /// In this order:
@@ -481,7 +484,8 @@ impl<T> DelayQueue<T> {
     }
 
     /// Takes an entry out that is due, and waits at most that long until one is: for ever where no clock reaches that moment,
-    /// as with [`Duration::MAX`]. With a time of zero it doesn't wait.
+    /// as with [`Duration::MAX`]. With a time of zero it doesn't wait. The time is counted by the queue's clock: with a
+    /// [`ManualClock`] it passes by [`advance`](ManualClock::advance) alone, which wakes whoever waits.
     ///
     /// # Errors
     /// - `Timeout` if none came due in time.
@@ -503,7 +507,7 @@ impl<T> DelayQueue<T> {
         self.shared.receive_within(timeout)
     }
 
-    /// Takes an entry out that is due, and waits until `when` at most. Where that is over it doesn't wait.
+    /// Takes an entry out that is due, and waits until `when` at most, by the queue's clock. Where that is over it doesn't wait.
     ///
     /// # Errors
     /// - `Timeout` if none came due in time.
@@ -711,8 +715,9 @@ impl<T> DelayQueue<T> {
     }
 
     /// Waits until no entry waits, at most for `timeout`, and returns whether that came: each came out, or was removed or
-    /// cancelled. It waits for ever where no clock reaches that moment, as with [`Duration::MAX`], and with a time of zero it
-    /// only looks. It takes the lock of each shard in turn.
+    /// cancelled. Whoever received the last of them may be at work on it yet. It waits for ever where no clock reaches that moment, as with [`Duration::MAX`], and with a time of zero it
+    /// only looks. The time is counted by the queue's clock: with a [`ManualClock`] it passes by
+    /// [`advance`](ManualClock::advance) alone, which wakes whoever waits. It takes the lock of each shard in turn.
     ///
     /// Others may insert again before it returns: after [`close_when_empty`](DelayQueue::close_when_empty) nobody does.
     ///

@@ -22,7 +22,7 @@ use std::time::{Duration, Instant};
 fn a_connection_that_is_idle_is_closed_and_one_that_talks_is_not() {
     let listener = TcpListener::bind("127.0.0.1:0").unwrap();
     let address = listener.local_addr().unwrap();
-    thread::spawn(move || idle_timeouts::serve(listener, Duration::from_millis(400)));
+    thread::spawn(move || idle_timeouts::serve(listener, DelayQueue::new(), Duration::from_millis(400)));
     let (mut talks, mut idles) = (TcpStream::connect(address).unwrap(), TcpStream::connect(address).unwrap());
     let ended = thread::spawn(move || idles.read(&mut [0]).unwrap());
     let start = Instant::now();
@@ -37,13 +37,33 @@ fn a_connection_that_is_idle_is_closed_and_one_that_talks_is_not() {
     assert_eq!(talks.read(&mut [0]).unwrap(), 0, "it idles now");
 }
 
+/// What was answered has extended the deadline, so the test's clock may go on.
+#[test]
+fn a_connection_is_closed_once_the_clock_was_advanced_by_the_idle_time() {
+    const IDLE: Duration = Duration::from_secs(30);
+    let listener = TcpListener::bind("127.0.0.1:0").unwrap();
+    let mut client = TcpStream::connect(listener.local_addr().unwrap()).unwrap();
+    let clock = ManualClock::new();
+    let queue = DelayQueue::builder().clock(&clock).build();
+    let connections = queue.clone();
+    thread::spawn(move || idle_timeouts::serve(listener, connections, IDLE));
+    for _ in 0..9 {
+        client.write_all(b"ping").unwrap();
+        client.read_exact(&mut [0; 4]).unwrap();
+        clock.advance(IDLE * 2 / 3);
+    }
+    clock.advance(IDLE / 3);
+    assert!(queue.wait_empty(Duration::MAX));
+    assert_eq!(client.read(&mut [0]).unwrap(), 0);
+}
+
 /// A server may open so many descriptors at most.
 #[cfg(target_os = "linux")]
 #[test]
 fn a_connection_takes_one_descriptor() {
     let listener = TcpListener::bind("127.0.0.1:0").unwrap();
     let address = listener.local_addr().unwrap();
-    thread::spawn(move || idle_timeouts::serve(listener, Duration::from_secs(600)));
+    thread::spawn(move || idle_timeouts::serve(listener, DelayQueue::new(), Duration::from_secs(600)));
     let mut client = TcpStream::connect(address).unwrap();
     client.write_all(b"ping").unwrap();
     client.read_exact(&mut [0; 4]).unwrap();

@@ -48,7 +48,8 @@ impl Handle {
     }
 
     /// Raises the deadline of an entry to `after` from now, and returns the deadline that is then in force: that one, or a
-    /// later one that it had. It takes no lock and constant time; after a sooner reset of the entry it may take one.
+    /// later one that it had. It takes no lock and constant time; after a sooner reset of the entry it may take one. It puts off an
+    /// entry that is due and hasn't come out yet, as [`DelayQueue::extend`](crate::DelayQueue::extend) does.
     ///
     /// # Errors
     /// In this order:
@@ -168,7 +169,7 @@ impl<T> Timeout<T> {
     }
 
     /// Raises the deadline to `after` from now, and returns the deadline that is then in force: that one, or a later one that
-    /// it had. It takes no lock.
+    /// it had. It takes no lock. Like a reset it puts off a value that is due and hasn't come out yet.
     ///
     /// # Errors
     /// In this order:

@@ -11,6 +11,22 @@ use std::time::Duration;
 ///
 /// While other threads change the queue each number is about right. Where none does, `inserted` is `expired`, `removed`, `cancels`
 /// and `waiting` together.
+///
+/// Its [`Display`](fmt::Display) is one line for a log, which counts the entries that wait, those that were cancelled and hold their
+/// values yet, and the bytes of `memory`, and tells `late` and `latest`:
+///
+/// ```
+/// # use hontkhale::{DelayQueue, ManualClock};
+/// # use std::time::Duration;
+/// # let clock = ManualClock::new();
+/// # let queue = DelayQueue::builder().clock(&clock).build();
+/// # queue.insert("session", Duration::from_secs(1))?;
+/// # clock.advance(Duration::from_secs(3));
+/// let mut stats = queue.stats();
+/// stats.memory = 2_048;
+/// assert_eq!(stats.to_string(), "1 waiting, 0 cancelled, 2048 bytes, 2.000 s late, at most 2.000 s");
+/// # Ok::<(), Box<dyn std::error::Error>>(())
+/// ```
 #[derive(Clone, Copy, Debug, PartialEq, Eq)]
 #[non_exhaustive]
 pub struct Stats {
@@ -59,7 +75,8 @@ pub struct Stats {
 ///         self.0 += &format!("sessions_{name} {value}\n");
 ///     }
 ///     fn bucket(&mut self, name: &str, below: Duration, count: u64) {
-///         self.0 += &format!("sessions_{name}_bucket{{le=\"{}\"}} {count}\n", below.as_secs_f64());
+///         let le = if below == Duration::MAX { "+Inf".into() } else { below.as_secs_f64().to_string() };
+///         self.0 += &format!("sessions_{name}_bucket{{le=\"{le}\"}} {count}\n");
 ///     }
 /// }
 ///
@@ -68,6 +85,7 @@ pub struct Stats {
 /// let mut text = Text(String::new());
 /// queue.stats().report(&mut text);
 /// assert!(text.0.contains("sessions_inserted_total 1\n") && text.0.contains("sessions_waiting 1\n"));
+/// assert!(text.0.ends_with("sessions_lateness_seconds_bucket{le=\"+Inf\"} 0\n"));
 /// # Ok::<(), Box<dyn std::error::Error>>(())
 /// ```
 pub trait Metrics {
@@ -75,8 +93,9 @@ pub trait Metrics {
     fn counter(&mut self, name: &str, total: u64);
     /// What rises and falls. Lengths of time are in seconds.
     fn gauge(&mut self, name: &str, value: f64);
-    /// A bucket of a histogram: how often less than that long was measured. They come in rising order, and of the last one the
-    /// length is [`Duration::MAX`].
+    /// A bucket of a histogram: how often less than that long was measured. So it counts what the buckets before it count, unlike a
+    /// place of [`Stats::lateness`]. The buckets come in rising order; the length of the last one is [`Duration::MAX`], and its count
+    /// is the total.
     fn bucket(&mut self, name: &str, below: Duration, count: u64);
 }
 

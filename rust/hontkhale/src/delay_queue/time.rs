@@ -53,7 +53,8 @@ impl ManualClock {
         self.0.start + Duration::from_nanos(self.0.passed.load(SeqCst))
     }
 
-    /// Goes on by that much, at most to 584 years after its start, and wakes the receivers that wait for it.
+    /// Goes on by that much, at most to 584 years after its start, and wakes the receivers that wait for it, and whoever is in
+    /// [`wait_empty`](crate::DelayQueue::wait_empty).
     ///
     /// # Panics
     /// If a task's waker panics. The receivers of all queues are woken before, and of several panics the first goes on.

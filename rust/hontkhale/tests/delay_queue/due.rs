@@ -27,6 +27,36 @@ fn an_entry_is_taken_out_at_its_deadline_and_not_before() {
     assert!(queue.try_recv().is_err());
 }
 
+/// Until a receiver takes it out or a reader ends it, an entry that is due can be put off by whoever has its key.
+#[test]
+fn what_is_due_is_put_off_by_an_extend_or_a_reset_until_it_comes_out() {
+    let clock = ManualClock::new();
+    let queue = DelayQueue::builder().clock(&clock).build();
+    let handle = queue.handle();
+    let mut guard = queue.guard("lease", ms(10)).expect("room");
+    let key = guard.key();
+    for call in 0..8 {
+        clock.advance(ms(11));
+        let when = clock.now() + ms(10);
+        let is_put_off = match call {
+            0 => queue.extend(&key, ms(10)).is_ok(),
+            1 => queue.extend_at(&key, when).is_ok(),
+            2 => handle.extend(&key, ms(10)).is_ok(),
+            3 => handle.extend_at(&key, when).is_ok(),
+            4 => queue.reset(&key, ms(10)).is_ok(),
+            5 => queue.reset_at(&key, when).is_ok(),
+            6 => guard.extend(ms(10)).is_ok(),
+            _ => guard.reset(ms(10)).is_ok(),
+        };
+        assert!(is_put_off && queue.deadline(&key) == Ok(when), "{call}");
+        clock.advance(ms(9));
+        assert_eq!((queue.try_recv().is_err(), queue.remove_if_due(&key)), (true, Ok(None)));
+    }
+    clock.advance(ms(1));
+    assert_eq!(queue.remove_if_due(&key), Ok(Some("lease")));
+    assert_eq!(queue.extend(&key, ms(10)), Err(KeyError::Ended));
+}
+
 #[test]
 fn a_key_of_another_queue_and_one_that_was_cancelled_end_nothing() {
     let (queue, other) = (DelayQueue::new(), DelayQueue::<u64>::new());

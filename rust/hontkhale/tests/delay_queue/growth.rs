@@ -1,7 +1,7 @@
 //! A queue grows as entries come, up to its bound, and uses again what has ended.
 
 use crate::kit::{ms, within_the_limit, Drops, FAR};
-use hontkhale::{DelayQueue, InsertErrorKind, ManualClock};
+use hontkhale::{DelayQueue, InsertErrorKind, ManualClock, Metrics};
 use std::cell::Cell;
 use std::sync::{Barrier, OnceLock};
 use std::thread;
@@ -75,6 +75,17 @@ fn no_more_wait_than_may_and_what_has_ended_makes_room() {
         }
         assert_eq!(queue.len(), most);
     }
+}
+
+#[test]
+fn what_is_due_counts_against_the_bound_until_it_comes_out() {
+    let queue = DelayQueue::builder().max_entries(2).build();
+    for number in [1, 2] {
+        queue.insert(number, Duration::ZERO).expect("room");
+    }
+    assert_eq!(queue.insert(3, FAR).unwrap_err().kind(), InsertErrorKind::Full);
+    queue.recv().expect("it is due");
+    queue.insert(3, FAR).expect("room");
 }
 
 /// Cancelled entries give their slots back without a receiver, so a queue doesn't grow by them without end.
@@ -223,6 +234,18 @@ fn each_entry_is_counted_by_its_end() {
     assert!(expired > 0 && removed > 0 && cancels > 0);
 }
 
+#[derive(Default)]
+struct Buckets(Vec<(Duration, u64)>);
+
+impl Metrics for Buckets {
+    fn counter(&mut self, _: &str, _: u64) {}
+    fn gauge(&mut self, _: &str, _: f64) {}
+    fn bucket(&mut self, _: &str, below: Duration, count: u64) {
+        self.0.push((below, count));
+    }
+}
+
+/// A bucket that is reported counts what those before it do.
 #[test]
 fn the_lateness_is_told_by_powers_of_two_until_it_is_reset() {
     let clock = ManualClock::new();
@@ -235,6 +258,11 @@ fn the_lateness_is_told_by_powers_of_two_until_it_is_reset() {
     let stats = queue.stats();
     assert_eq!(stats.lateness, [2, 2, 2, 1, 0, 0, 0, 0, 0, 1, 2, 2]);
     assert_eq!(stats.latest, ms(1 << 40));
+    let mut buckets = Buckets::default();
+    stats.report(&mut buckets);
+    let lengths = (1..12).map(|power| ms(1 << power)).chain([Duration::MAX]);
+    let counts = [2, 4, 6, 7, 7, 7, 7, 7, 7, 8, 10, 12];
+    assert_eq!(buckets.0, lengths.zip(counts).collect::<Vec<_>>());
     queue.reset_lateness();
     let stats = queue.stats();
     assert_eq!(

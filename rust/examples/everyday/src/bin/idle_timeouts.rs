@@ -8,9 +8,8 @@ use std::sync::Arc;
 use std::thread;
 use std::time::Duration;
 
-pub fn serve(listener: TcpListener, idle: Duration) {
-    let queue = DelayQueue::new();
-    let idle_ones: DelayQueue<Arc<TcpStream>> = queue.clone();
+pub fn serve(listener: TcpListener, queue: DelayQueue<Arc<TcpStream>>, idle: Duration) {
+    let idle_ones = queue.clone();
     thread::spawn(move || {
         for expired in &idle_ones {
             let _ = expired.value.shutdown(Shutdown::Both);
@@ -29,15 +28,16 @@ fn echo(stream: TcpStream, queue: &DelayQueue<Arc<TcpStream>>, idle: Duration) -
     let mut stream = &*stream;
     let mut buffer = [0; 4_096];
     loop {
-        match stream.read(&mut buffer)? {
-            0 => return Ok(()),
-            count => stream.write_all(&buffer[..count])?,
+        let count = stream.read(&mut buffer)?;
+        if count == 0 {
+            return Ok(());
         }
         timeout.extend(idle)?;
+        stream.write_all(&buffer[..count])?;
     }
 }
 
 #[allow(dead_code)]
 fn main() {
-    serve(TcpListener::bind("127.0.0.1:7007").expect("a free port"), Duration::from_secs(30));
+    serve(TcpListener::bind("127.0.0.1:7007").expect("a free port"), DelayQueue::new(), Duration::from_secs(30));
 }
