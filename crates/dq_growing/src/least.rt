@@ -83,13 +83,14 @@ impl Model for Turns {
 }
 
 impl Turns {
-    /// Nobody has the turn, and nothing is known.
+    /// Nothing is known.
     pub fn new() -> Turns
         ensures others { result.others ≡ 0 }
         ensures bounds { (i : ℕ) → bound_at result.bounds i ≡ 0 }
     {
+        // The one core of most stores goes on with the turn.
         Turns {
-            place: NOBODY,
+            place: 0,
             others: 0,
             bounds: [0; KNOWN],
         }

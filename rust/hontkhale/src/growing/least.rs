@@ -65,10 +65,11 @@ pub(crate) struct Turns {
 }
 
 impl Turns {
-    /// Nobody has the turn, and nothing is known.
+    /// Nothing is known.
     pub fn new() -> Turns {
+        // The one core of most stores goes on with the turn.
         Turns {
-            place: NOBODY,
+            place: 0,
             others: 0,
             bounds: [0; KNOWN],
         }
