@@ -1,6 +1,7 @@
 //! Wakers that do what a runtime's may do at a bad moment, to receivers that wait.
 
 use hontkhale::{DelayQueue, Expired, ManualClock, Receiver};
+use std::cell::{Cell, RefCell};
 use std::panic::{catch_unwind, AssertUnwindSafe};
 use std::sync::atomic::{AtomicBool, AtomicU64, AtomicUsize, Ordering::SeqCst};
 use std::sync::mpsc::{channel, RecvTimeoutError};
@@ -239,4 +240,79 @@ fn who_follows_a_task_that_was_called_and_is_not_polled_takes_the_lead() {
     // It leads, until the entry is due. The one that led was called.
     assert_eq!(polls(&mut follows), Some(Duration::from_millis(9_900)));
     assert_eq!(called.load(SeqCst), 1);
+}
+
+thread_local! {
+    /// How far this thread's clock is, and what is done as it is read, but for a reading within that.
+    static PASSED: Cell<Duration> = const { Cell::new(Duration::ZERO) };
+    static AT_READING: RefCell<Option<Box<dyn FnMut()>>> = const { RefCell::new(None) };
+}
+
+fn hooked_clock() -> Instant {
+    static START: OnceLock<Instant> = OnceLock::new();
+    if let Some(mut call) = AT_READING.take() {
+        call();
+        AT_READING.set(Some(call));
+    }
+    *START.get_or_init(Instant::now) + PASSED.get()
+}
+
+fn at_each_reading(call: impl FnMut() + 'static) {
+    AT_READING.set(Some(Box::new(call)));
+}
+
+/// It looks again after a second, which is over by this clock before it sleeps. Its own time is over after days.
+#[test]
+fn a_thread_with_a_time_limit_looks_again_whether_a_task_acts() {
+    within_the_limit(|| {
+        let queue = DelayQueue::builder().read_clock(hooked_clock).build();
+        queue.insert(1, 100 * SECOND).expect("room");
+        let mut idle = queue.receiver();
+        assert!(poll(&mut idle, &waker(|| {})).is_pending());
+        at_each_reading(|| PASSED.set(PASSED.get() + SECOND));
+        let received = queue.recv_timeout(1_000_000 * SECOND);
+        assert_eq!(received.map(|out| out.value), Ok(1));
+    });
+}
+
+/// It takes the entry, or is to poll again at once.
+#[test]
+fn a_task_misses_no_entry_that_comes_while_it_falls_asleep() {
+    for reading in 1.. {
+        let queue = DelayQueue::builder().read_clock(hooked_clock).build();
+        let mut task = queue.receiver();
+        let woken = Arc::new(AtomicUsize::new(0));
+        let counts = Arc::clone(&woken);
+        let (inserts, mut readings) = (queue.clone(), 0);
+        at_each_reading(move || {
+            readings += 1;
+            assert!(readings != reading || inserts.insert(1, Duration::ZERO).is_ok());
+        });
+        let polled = poll(&mut task, &waker(move || _ = counts.fetch_add(1, SeqCst)));
+        AT_READING.take();
+        if polled.is_pending() && queue.is_empty() {
+            // The poll doesn't read the clock that often.
+            return assert!(reading > 1);
+        }
+        let polls_again = woken.load(SeqCst) > 0 || task.wake_at().is_some_and(|when| when <= hooked_clock());
+        assert!(polled.is_ready() || polls_again, "at reading {reading}");
+    }
+}
+
+/// Each time that it falls asleep an entry comes sooner, until its poll is over.
+#[test]
+fn who_follows_a_task_that_found_no_sleep_takes_the_lead() {
+    let queue = DelayQueue::builder().read_clock(hooked_clock).build();
+    let [mut idle, mut follows] = [(); 2].map(|()| queue.receiver());
+    let (inserts, mut seconds) = (queue.clone(), 1_000);
+    at_each_reading(move || {
+        seconds -= 1;
+        assert!(inserts.insert(1, seconds * SECOND).is_ok());
+    });
+    assert!(poll(&mut idle, &waker(|| {})).is_pending());
+    AT_READING.take();
+    assert_eq!(idle.wake_at(), None);
+    PASSED.set(PASSED.get() + SECOND);
+    assert!(poll(&mut follows, &waker(|| {})).is_pending());
+    assert_eq!(follows.wake_at(), queue.next_deadline());
 }

@@ -162,3 +162,42 @@ impl<T> Drop for Locked<'_, T> {
         lose(self.front.ring(rung));
     }
 }
+
+#[cfg(test)]
+mod tests {
+    use crate::DelayQueue;
+    use std::panic::{catch_unwind, AssertUnwindSafe};
+    use std::sync::atomic::{AtomicUsize, Ordering::SeqCst};
+    use std::sync::Arc;
+    use std::task::{Context, Wake, Waker};
+    use std::time::Duration;
+
+    #[derive(Default)]
+    struct Wakes(AtomicUsize);
+
+    impl Wake for Wakes {
+        fn wake(self: Arc<Self>) {
+            self.0.fetch_add(1, SeqCst);
+        }
+    }
+
+    /// A guard that isn't ended may be the one that has the leader to wake.
+    #[test]
+    fn a_guard_that_is_dropped_wakes_the_leader() {
+        for panics in [false, true] {
+            let queue = DelayQueue::builder().shards(1).build();
+            let key = queue.insert(1, Duration::ZERO).expect("room");
+            assert_eq!(queue.remove(&key), Ok(1));
+            let (mut task, wakes) = (queue.receiver(), Arc::<Wakes>::default());
+            let waker = Waker::from(Arc::clone(&wakes));
+            assert!(task.poll_recv(&mut Context::from_waker(&waker)).is_pending());
+            let inserts = || {
+                let mut store = queue.shared.lock(0);
+                store.insert(2, 5);
+                assert!(!panics);
+            };
+            assert_eq!(catch_unwind(AssertUnwindSafe(inserts)).is_err(), panics);
+            assert_eq!(wakes.0.load(SeqCst), 1);
+        }
+    }
+}

@@ -72,7 +72,7 @@ struct Sitter {
     /// The number of the stay, 0 where nobody is.
     number: u64,
     is_task: bool,
-    /// The tick by which one that leads is to have acted. A thread acts.
+    /// The tick by which a task that leads is to have acted, written as it begins to lead. A thread acts.
     act_by: u64,
 }
 
@@ -96,7 +96,7 @@ impl Waits {
     }
 
     /// Joins the line, awake.
-    fn join(&mut self, is_task: bool, now: u64) -> Seat {
+    fn join(&mut self, is_task: bool) -> Seat {
         let Ok(at) = self.line.join() else {
             handle_alloc_error(Layout::new::<Sleeper>());
         };
@@ -104,7 +104,7 @@ impl Waits {
         let sitter = Sitter {
             number: self.stays,
             is_task,
-            act_by: if is_task { now.saturating_add(GRACE) } else { NEVER },
+            act_by: NEVER,
         };
         match self.sitters.get_mut(at) {
             Some(place) => *place = sitter,
@@ -147,7 +147,7 @@ impl Waits {
         // Whoever joined last leads once the leader has left.
         let is_task = self.sitters[seat.at].is_task;
         let (_awake, _follows) = self.leave(seat, now);
-        let seat = self.join(is_task, now);
+        let seat = self.join(is_task);
         let old = Seat {
             at: first,
             number: leader.number,
@@ -221,7 +221,7 @@ impl Waiting {
         }
         let seat = match *place {
             Some(seat) if waits.sits(seat) => seat,
-            _ => waits.join(is_task, now),
+            _ => waits.join(is_task),
         };
         let before = waits.line.rise(seat.at);
         let seat = waits.overtake(seat, now, &mut called);

@@ -459,6 +459,24 @@ fn a_task_that_lost_its_place_touches_nobody_elses() {
 }
 
 #[test]
+fn a_task_that_lost_its_place_joins_the_line_again() {
+    let clock = ManualClock::new();
+    let queue = DelayQueue::builder().clock(&clock).build();
+    let mut tasks = waiting(&queue, 2);
+    queue.insert(1, 100 * SECOND).expect("room");
+    // The first is woken, and isn't polled: the second takes the lead.
+    clock.advance(2 * SECOND);
+    let (receiver, wakes) = &mut tasks[1];
+    assert!(poll(receiver, wakes).is_pending());
+    woken(&tasks);
+    let (receiver, wakes) = &mut tasks[0];
+    assert!(poll(receiver, wakes).is_pending());
+    // It follows, and isn't to poll at once.
+    assert!(receiver.wake_at() > Some(clock.now()));
+    assert_eq!(woken(&tasks), []);
+}
+
+#[test]
 fn a_task_that_nobody_polls_keeps_no_thread_from_an_entry() {
     within_the_limit(|| {
         let clock = ManualClock::new();
