@@ -25,7 +25,9 @@ use Rattle.dq_wheel.specs.State.{Filing}
 use Rattle.dq_core.specs.Pieces.{PollsSome}
 use Rattle.dq_growing.specs.Cores.{CoreRow, IsCoreAt, with_core, lowered_to}
 use Rattle.dq_growing.specs.Polls.{OthersAreQuiet, AreBounded, KeepsTurns, TurnState, bound_at}
-use Rattle.dq_growing.proofs.Rows.{at_after}
+use Rattle.dq_growing.specs.declared.least.TheConstants.{KNOWN}
+use Rattle.dq_wheel.proofs.Links.{nat_le_or_lt}
+use Rattle.dq_growing.proofs.Rows.{at_after, one_at}
 use Rattle.dq_growing.proofs.Leasts.{earlier, none_ever}
 
 is_equal : (i j : ℕ) → i ≡ j → nat_eq i j ≡ true
@@ -244,6 +246,15 @@ module _ {T W R : Type 0} (Makes : T → R → T → Type 0) (b c : Core T W) (i
   changes_noted None did = ap (λ (k : Core T W). k.noted) did.1
   changes_noted (Some a) did = ap (λ (k : Core T W). k.noted) did.4
 
+-- where one bound is lowered, none is raised
+no_more : (known new : List ℕ) (i : ℕ) → ((j : ℕ) → j ≢ i → bound_at new j ≡ bound_at known j) → bound_at new i ≤ bound_at known i
+    → (j : ℕ) → bound_at new j ≤ bound_at known j
+no_more known new i rest own j = by_slot (λ k. bound_at new k ≤ bound_at known k) j i own (λ other. let same = rest j other in omega arith)
+
+-- what is noted of a core is no later than its wake
+noted_low : (new : List ℕ) (at wake : ℕ) → (at < KNOWN → bound_at new at ≡ wake) → (KNOWN ≤ at → bound_at new at ≡ 0) → bound_at new at ≤ wake
+noted_low new at wake noted unknown = elim (nat_le_or_lt KNOWN at) [ inl le ↦ let none = unknown le in omega arith | inr lt ↦ let is = noted lt in omega arith ]
+
 module _ {T W : Type 0} where
   -- where one core changes, every other one stays quiet, and so does it if it has to
   pub quiet_after : (s : CoreRow T W) (turn u t i : ℕ) (b c : Core T W) → OthersAreQuiet s turn u → IsCoreAt s.cores i b → t ≤ u
@@ -287,11 +298,26 @@ module _ {T W : Type 0} where
 
   -- so where a core gets the turn
   pub turns_given : (s : CoreRow T W) (t u : TurnState) (place others : ℕ) → KeepsTurns s t → OthersAreQuiet s place others → u.place ≡ place
-      → u.others ≡ others → ((i : ℕ) → bound_at u.bounds i ≤ bound_at t.bounds i) → KeepsTurns s u
-  turns_given s t u place others keeps quiet is at bounds =
+      → u.others ≡ others → ((i : ℕ) → i ≢ place → bound_at u.bounds i ≡ bound_at t.bounds i) → bound_at u.bounds place ≡ 0 → KeepsTurns s u
+  turns_given s t u place others keeps quiet is at rest own =
+      let bounds = no_more t.bounds u.bounds place rest (omega arith) in
       let P : ℕ → Type 0 = λ p. OthersAreQuiet s p u.others in
       let Q : ℕ → Type 0 = λ o. OthersAreQuiet s place o in
       (subst P (sym is) (subst Q (sym at) quiet), λ i c there. earlier (machine c) (bound_at t.bounds i) (bound_at u.bounds i) (keeps.1 i c there) (bounds i))
+
+  -- and where it is noted when a core wakes
+  pub turns_noted : (s : CoreRow T W) (t u : TurnState) (at wake : ℕ) (c : Core T W) → KeepsTurns s t → IsCoreAt s.cores at c
+      → NoneLiveBefore (machine c) wake → u.others ≡ 0 → ((i : ℕ) → i ≢ at → bound_at u.bounds i ≡ bound_at t.bounds i)
+      → (at < KNOWN → bound_at u.bounds at ≡ wake) → (KNOWN ≤ at → bound_at u.bounds at ≡ 0) → KeepsTurns s u
+  turns_noted s t u at wake c keeps there quiet none rest noted unknown =
+      let low = noted_low u.bounds at wake noted unknown in (
+        λ i d ne is. quiet_fresh (machine d) u.others none,
+        λ i d is. by_slot (λ x. IsCoreAt s.cores x d → NoneLiveBefore (machine d) (bound_at u.bounds x)) i at
+            (λ here. let P : Core T W → Type 0 = λ k. NoneLiveBefore (machine k) (bound_at u.bounds at) in
+            subst P (one_at s.cores at c d there here) (earlier (machine c) wake (bound_at u.bounds at) quiet low))
+            (λ other here. let same = rest i other in earlier (machine d) (bound_at t.bounds i) (bound_at u.bounds i) (keeps.1 i d here) (omega arith))
+            is,
+      )
 
   -- what is known of the turns stays so where one core changes, and gets no earlier deadline
   pub turns_after : (s : CoreRow T W) (t : TurnState) (i : ℕ) (b c : Core T W) → KeepsTurns s t → IsCoreAt s.cores i b
@@ -302,14 +328,15 @@ module _ {T W : Type 0} where
   -- or one that isn't before what is known from then on
   pub turns_later : (s : CoreRow T W) (t u : TurnState) (when i : ℕ) (b c : Core T W) → KeepsTurns s t → IsCoreAt s.cores i b
       → ((x : ℕ) → x ≤ when → NoneLiveBefore (machine b) x → NoneLiveBefore (machine c) x) → u.place ≡ t.place
-      → u.others ≡ lowered_to t.others when (nat_eq i t.place) → ((j : ℕ) → bound_at u.bounds j ≤ bound_at t.bounds j) → bound_at u.bounds i ≤ when
-      → KeepsTurns (with_core s i c) u
-  turns_later s t u when i b c keeps at change place others bounds low =
+      → u.others ≡ lowered_to t.others when (nat_eq i t.place) → ((j : ℕ) → j ≢ i → bound_at u.bounds j ≡ bound_at t.bounds j)
+      → bound_at u.bounds i ≡ min (bound_at t.bounds i) when → KeepsTurns (with_core s i c) u
+  turns_later s t u when i b c keeps at change place others rest low =
+      let bounds = no_more t.bounds u.bounds i rest (omega arith) in
       let Q : ℕ → ℕ → Type 0 = λ p o. OthersAreQuiet (with_core s i c) p o in
       let quiet = quiet_later s t.place t.others when i b c keeps.0 at change in
       let P : ℕ → Type 0 = λ o. Q t.place o in
       let R : ℕ → Type 0 = λ p. Q p u.others in
-      (subst R (sym place) (subst P (sym others) quiet), bounds_after s t.bounds u.bounds i b c keeps.1 at bounds (change (bound_at u.bounds i) low))
+      (subst R (sym place) (subst P (sym others) quiet), bounds_after s t.bounds u.bounds i b c keeps.1 at bounds (change (bound_at u.bounds i) (omega arith)))
 
 -- what no call but a poll does: note a later tick
 module _ {T W : Type 0} (shared : Bool) (b c : Core T W) where

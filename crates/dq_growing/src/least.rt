@@ -1,6 +1,6 @@
 //! Which core wakes first.
 
-ghost use Rattle.std.specs.Prelude.{◌≡◌, ◌≢◌, ◌<◌, ◌≤◌, ℕ, nat_eq, IfSome};
+ghost use Rattle.std.specs.Prelude.{◌≡◌, ◌≢◌, ◌<◌, ◌≤◌, ℕ, min, nat_eq, IfSome};
 ghost use Rattle.dq_growing.specs.declared.least.TheConstants.{KNOWN};
 ghost use Rattle.dq_growing.specs.Cores.{lowered_to};
 ghost use Rattle.dq_growing.specs.Polls.{bound_at, joined_with};
@@ -118,8 +118,8 @@ impl Turns {
         ensures place { self.new.place ≡ self.old.place }
         ensures others { self.new.others
             ≡ lowered_to self.old.others when (nat_eq at self.old.place) }
-        ensures bounds { (i : ℕ) → bound_at self.new.bounds i ≤ bound_at self.old.bounds i }
-        ensures low { bound_at self.new.bounds at ≤ when }
+        ensures rest { (i : ℕ) → i ≢ at → bound_at self.new.bounds i ≡ bound_at self.old.bounds i }
+        ensures low { bound_at self.new.bounds at ≡ min (bound_at self.old.bounds at) when }
     {
         if at == self.place {
             return;
@@ -135,8 +135,9 @@ impl Turns {
     #[inline(always)]
     pub fn note(&mut self, at: usize, wake: u64)
         ensures others { self.new.others ≡ 0 }
-        ensures bounds { (i : ℕ) → i ≢ at → bound_at self.new.bounds i ≤ bound_at self.old.bounds i }
-        ensures noted { bound_at self.new.bounds at ≤ wake }
+        ensures rest { (i : ℕ) → i ≢ at → bound_at self.new.bounds i ≡ bound_at self.old.bounds i }
+        ensures noted { at < KNOWN → bound_at self.new.bounds at ≡ wake }
+        ensures unknown { KNOWN ≤ at → bound_at self.new.bounds at ≡ 0 }
     {
         self.place = NOBODY;
         self.others = 0;
@@ -150,7 +151,8 @@ impl Turns {
     pub fn give(&mut self, place: usize, others: u64)
         ensures place { self.new.place ≡ place }
         ensures others { self.new.others ≡ others }
-        ensures bounds { (i : ℕ) → bound_at self.new.bounds i ≤ bound_at self.old.bounds i }
+        ensures rest { (i : ℕ) → i ≢ place → bound_at self.new.bounds i ≡ bound_at self.old.bounds i }
+        ensures own { bound_at self.new.bounds place ≡ 0 }
     {
         self.place = place;
         self.others = others;

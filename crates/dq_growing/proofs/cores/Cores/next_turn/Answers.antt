@@ -9,4 +9,4 @@ invariant_of-self g c =
     let e = c.give.ensures in
     let l = c.in-Some-least.least in
     let is = rw (← c.self.view_is) at c.in-Some-least.ensures in
-    (c.self.invariant.0, turns_given s i.turns c.give.new.self l.place l.others c.self.invariant.1 (λ j d ne x. is.others j d x.0 ne x) e.place e.others e.bounds)
+    (c.self.invariant.0, turns_given s i.turns c.give.new.self l.place l.others c.self.invariant.1 (λ j d ne x. is.others j d x.0 ne x) e.place e.others e.rest e.own)

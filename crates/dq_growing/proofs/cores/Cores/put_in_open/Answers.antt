@@ -74,5 +74,5 @@ invariant_of-self g c =
     let at : IsCoreAt s.cores i.opened b = (inside, sym c.index_mut.ensures.value) in
     let noted = inserts_noted g.W.Words.shared b a v d (Ok p.result.0) p.ensures.puts.0 in (
       keeps_law s i.opened b a c.self.invariant.0 at p.ensures.same.0 (omega arith),
-      turns_later s i.turns c.lower.new.self d i.opened b a c.self.invariant.1 at (λ t late before. inserts_late g.W.Words.shared b a t before v d (Ok p.result.0) late p.ensures.puts.0) c.lower.ensures.place c.lower.ensures.others c.lower.ensures.bounds c.lower.ensures.low,
+      turns_later s i.turns c.lower.new.self d i.opened b a c.self.invariant.1 at (λ t late before. inserts_late g.W.Words.shared b a t before v d (Ok p.result.0) late p.ensures.puts.0) c.lower.ensures.place c.lower.ensures.others c.lower.ensures.rest c.lower.ensures.low,
     )

@@ -21,7 +21,7 @@ invariant_of-self g c =
     let at : IsCoreAt s.cores c.in-Some.at b = (inside, sym c.index_mut.ensures.value) in
     let noted = resets_noted g.W.Words.shared b a c.args.entry.now c.args.when _ c.reset-answer.ensures.resets in (
       keeps_law s c.in-Some.at b a c.self.invariant.0 at c.reset-answer.ensures.same.0 (omega arith),
-      turns_later s i.turns c.lower.new.self c.args.when c.in-Some.at b a c.self.invariant.1 at (λ t late before. resets_late g.W.Words.shared b a t before c.args.entry.now c.args.when _ late c.reset-answer.ensures.resets) c.lower.ensures.place c.lower.ensures.others c.lower.ensures.bounds c.lower.ensures.low,
+      turns_later s i.turns c.lower.new.self c.args.when c.in-Some.at b a c.self.invariant.1 at (λ t late before. resets_late g.W.Words.shared b a t before c.args.entry.now c.args.when _ late c.reset-answer.ensures.resets) c.lower.ensures.place c.lower.ensures.others c.lower.ensures.rest c.lower.ensures.low,
     )
 
 pub returns-clause-words : goal.returns-clause-words
