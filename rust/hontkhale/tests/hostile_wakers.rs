@@ -1,6 +1,6 @@
 //! Wakers that do what a runtime's may do at a bad moment, to receivers that wait.
 
-use hontkhale::{DelayQueue, Expired, ManualClock, Receiver};
+use hontkhale::{DelayQueue, Expired, Key, ManualClock, Receiver};
 use std::cell::{Cell, RefCell};
 use std::panic::{catch_unwind, AssertUnwindSafe};
 use std::sync::atomic::{AtomicBool, AtomicU64, AtomicUsize, Ordering::SeqCst};
@@ -315,4 +315,31 @@ fn who_follows_a_task_that_found_no_sleep_takes_the_lead() {
     PASSED.set(PASSED.get() + SECOND);
     assert!(poll(&mut follows, &waker(|| {})).is_pending());
     assert_eq!(follows.wake_at(), queue.next_deadline());
+}
+
+/// A call that takes an entry out does a part of what keeps the queue of the right size, and comes upon the cancelled one.
+#[test]
+fn what_is_taken_out_is_given_though_a_waker_panics() {
+    type Takes = fn(&DelayQueue<u64>, &mut Receiver<u64>, &Key) -> bool;
+    let takes: [Takes; 3] = [
+        |queue, _, _| queue.try_recv().is_ok(),
+        |queue, _, key| queue.remove(key).is_ok(),
+        |_, receiver, _| poll(receiver, &waker(|| {})).is_ready(),
+    ];
+    for take in takes {
+        let queue = DelayQueue::builder().read_clock(hooked_clock).shards(1).build();
+        let cancelled = queue.insert(0, 1_000 * SECOND).expect("room");
+        let keys: Vec<Key> = (1..200)
+            .map(|number| queue.insert(number, SECOND).expect("room"))
+            .collect();
+        let (mut task, mut receiver) = (queue.receiver(), queue.receiver());
+        let woken = Arc::new(AtomicUsize::new(0));
+        let counts = Arc::clone(&woken);
+        let panics = waker(move || panic!("the waker {} panics", counts.fetch_add(1, SeqCst)));
+        assert!(poll(&mut task, &panics).is_pending());
+        queue.cancel(&cancelled).expect("it waits");
+        PASSED.set(PASSED.get() + SECOND);
+        assert!(keys.iter().all(|key| take(&queue, &mut receiver, key)));
+        assert_eq!((queue.len(), woken.load(SeqCst)), (0, 1));
+    }
 }

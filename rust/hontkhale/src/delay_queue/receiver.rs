@@ -42,8 +42,9 @@ const TURNS: usize = 4;
 ///
 /// A waker that panics keeps nobody asleep: another receiver is woken in its place, as are all others whom the call wakes, and
 /// then the panic goes on to whoever made it. An insert's entry is in then, but its key is lost with the panic. An insert for
-/// which no slot was free may wake receivers before its entry is in, and the value is dropped then. Where the end of the last
-/// entry wakes the tasks, or a receiver that leaves the next one, a waker's panic is lost.
+/// which no slot was free may wake receivers before its entry is in, and the value is dropped then. A waker's panic is lost where
+/// the call has an entry to return, where the end of the last entry wakes the tasks, and where a receiver that leaves wakes the
+/// next one.
 ///
 /// ```
 /// use hontkhale::DelayQueue;

@@ -14,7 +14,7 @@ use crate::ticks::LAST_TICK;
 use crate::words::OpenWords;
 use std::any::Any;
 use std::mem;
-use std::panic::resume_unwind;
+use std::panic::{catch_unwind, resume_unwind, AssertUnwindSafe};
 use std::sync::Arc;
 use std::time::{Duration, Instant};
 
@@ -97,7 +97,7 @@ impl<T> Shared<T> {
     }
 
     /// Lets a shard's lock go where so many entries ended, wakes the leader where it was rung, and makes a part of what keeps the
-    /// shard of the right size. Where entries ended the caller has values in hand, and a panic of the leader's waker is lost.
+    /// shard of the right size. Where entries ended the caller has values in hand, and a waker's panic is lost.
     #[inline(always)]
     pub fn leave(&self, store: Locked<'_, T>, ended: usize) {
         let (at, has_work) = (store.at, store.sizing.has_work());
@@ -108,9 +108,12 @@ impl<T> Shared<T> {
         } else {
             woken.unwrap_or_else(|panic| resume_unwind(panic));
         }
-        if has_work {
-            // It may call a task's waker.
-            self.maintain(at);
+        // It may call a task's waker.
+        let maintains = || _ = self.maintain(at);
+        match (has_work, ended) {
+            (false, _) => {}
+            (true, 0) => maintains(),
+            (true, _) => lose(catch_unwind(AssertUnwindSafe(maintains))),
         }
     }
 
