@@ -20,8 +20,7 @@ use tokio::time::Instant;
 /// # Errors
 /// In this order:
 /// - `WrongQueue` if the key is another queue's.
-/// - `Ended` if the entry came out, was removed, or was cancelled.
-/// - `NoMemory` if a thread's first call for a shard is refused memory.
+/// - `Ended` if the entry came out, or was removed, cancelled, drained or cleared.
 ///
 /// ```
 /// # #[tokio::main(flavor = "current_thread", start_paused = true)]

@@ -135,7 +135,8 @@ impl<T> SharedQueue<T> {
 
     /// Raises the deadline of an entry to `after` from now, without a lock, and returns the deadline that is then in force. An entry
     /// that is due and hasn't come out yet is put off, too: whoever wants to refuse that calls
-    /// [`remove_if_due`](SharedQueue::remove_if_due) first. So it is with a reset.
+    /// [`remove_if_due`](SharedQueue::remove_if_due) first. The moment of that call counts: an entry that comes due between the two
+    /// calls is put off. So it is with a reset.
     ///
     /// # Errors
     /// Those of [`DelayQueue::extend`].

@@ -11,10 +11,15 @@ use tokio::time::Instant;
 
 /// What expires in a [`SharedQueue`], given to a task.
 ///
-/// It is woken by tokio's timer, and by an insert or a reset that comes sooner, from any thread; an extend or a cancel wakes
-/// nobody. An entry is taken out as it is given, once: a stream, or a `next()` in a `select!`, that is dropped leaves all others
-/// in the queue. Any number of streams and of threads may receive from one queue. It gives none once the queue is
-/// [closed](SharedQueue::close) and nothing is due, or every clone of the queue is dropped and nothing waits.
+/// It is woken by tokio's timer, by a close, and by an insert or a reset that comes sooner, from any thread. Once
+/// [`close_when_empty`](SharedQueue::close_when_empty) was called or every clone of the queue is dropped, whatever ends the last
+/// entry wakes it, a cancel too. Any other cancel wakes nobody, and no extend does. Of several receivers one may also be woken as
+/// another takes an entry or is dropped.
+///
+/// An entry is taken out as it is given, once: a stream, or a `next()` in a `select!`, that is dropped leaves all others in the
+/// queue. Any number of streams and of threads may receive from one queue. It gives none once the queue is
+/// [closed](SharedQueue::close) and nothing is due, or nothing waits and either `close_when_empty` was called or every clone of the
+/// queue is dropped.
 ///
 /// After 128 entries in a row, with no pending poll between them, a poll is pending and wakes its task at once, so that other
 /// tasks have their turn.
@@ -50,7 +55,8 @@ impl<T> QueueStream<T> {
         QueueStream { receiver, timer: TaskTimer::default(), streak: Streak::default() }
     }
 
-    /// The next entry that expires; none once the queue is closed and nothing is due.
+    /// The next entry that expires; none once the queue is [closed](SharedQueue::close) and nothing is due, or nothing waits and
+    /// either [`close_when_empty`](SharedQueue::close_when_empty) was called or every clone of the queue is dropped.
     pub async fn next(&mut self) -> Option<Expired<T>> {
         poll_fn(|cx| Pin::new(&mut *self).poll_next(cx)).await
     }

@@ -243,7 +243,7 @@ impl<T> DelayQueue<T> {
     /// # Errors
     /// In this order:
     /// - `WrongQueue` if the key is another queue's.
-    /// - `Ended` if the entry came out, was removed, or was cancelled.
+    /// - `Ended` if the entry came out, or was removed, cancelled, drained or cleared.
     ///
     /// # Panics
     /// If `read` panics, which changes nothing, or makes a call of this queue that wants the lock which is held. So may the waker
@@ -273,7 +273,7 @@ impl<T> DelayQueue<T> {
     /// # Errors
     /// In this order:
     /// - `WrongQueue` if the key is another queue's.
-    /// - `Ended` if the entry came out, was removed, or was cancelled.
+    /// - `Ended` if the entry came out, or was removed, cancelled, drained or cleared.
     ///
     /// # Panics
     /// If `change` panics, and the value stays as it left it; or if it makes a call of this queue that wants the lock which is held.
@@ -331,7 +331,7 @@ impl<T> DelayQueue<T> {
     /// Nothing changes then. In this order:
     /// - `WrongQueue` if the key is another queue's.
     /// - `TooFar` if the deadline is more than 139 years after the queue was made.
-    /// - `Ended` if the entry came out, was removed, or was cancelled.
+    /// - `Ended` if the entry came out, or was removed, cancelled, drained or cleared.
     /// - `NoMemory` if the entry's slot is worn, the shard has no room, and memory is refused.
     #[inline]
     pub fn reset(&self, key: &Key, after: Duration) -> Result<Key, KeyError> {
@@ -347,7 +347,7 @@ impl<T> DelayQueue<T> {
     /// Nothing changes then. In this order:
     /// - `WrongQueue` if the key is another queue's.
     /// - `TooFar` if the deadline is more than 139 years after the queue was made.
-    /// - `Ended` if the entry came out, was removed, or was cancelled.
+    /// - `Ended` if the entry came out, or was removed, cancelled, drained or cleared.
     /// - `NoMemory` if the entry's slot is worn, the shard has no room, and memory is refused.
     #[inline]
     pub fn reset_at(&self, key: &Key, when: Instant) -> Result<Key, KeyError> {
@@ -359,13 +359,14 @@ impl<T> DelayQueue<T> {
     /// of an entry that the queue has moved.
     ///
     /// An entry that is due and hasn't come out yet is put off, too. Whoever wants to refuse that calls
-    /// [`remove_if_due`](DelayQueue::remove_if_due) first.
+    /// [`remove_if_due`](DelayQueue::remove_if_due) first. The moment of that call counts: an entry that comes due between the two
+    /// calls is put off. An extend is accepted after a close, too.
     ///
     /// # Errors
     /// In this order:
     /// - `WrongQueue` if the key is another queue's.
     /// - `TooFar` if the deadline is more than 139 years after the queue was made.
-    /// - `Ended` if the entry came out, was removed, or was cancelled.
+    /// - `Ended` if the entry came out, or was removed, cancelled, drained or cleared.
     ///
     /// ```
     /// use hontkhale::DelayQueue;
@@ -391,7 +392,7 @@ impl<T> DelayQueue<T> {
     /// In this order:
     /// - `WrongQueue` if the key is another queue's.
     /// - `TooFar` if the deadline is more than 139 years after the queue was made.
-    /// - `Ended` if the entry came out, was removed, or was cancelled.
+    /// - `Ended` if the entry came out, or was removed, cancelled, drained or cleared.
     #[inline]
     pub fn extend_at(&self, key: &Key, when: Instant) -> Result<Instant, KeyError> {
         self.shared.extend_at(key, when)
@@ -405,7 +406,7 @@ impl<T> DelayQueue<T> {
     /// # Errors
     /// In this order:
     /// - `WrongQueue` if the key is another queue's.
-    /// - `Ended` if the entry came out, was removed, or was cancelled.
+    /// - `Ended` if the entry came out, or was removed, cancelled, drained or cleared.
     pub fn cancel(&self, key: &Key) -> Result<Instant, KeyError> {
         self.shared.step_to_moment(key, Step::Cancel)
     }
@@ -415,7 +416,7 @@ impl<T> DelayQueue<T> {
     /// # Errors
     /// In this order:
     /// - `WrongQueue` if the key is another queue's.
-    /// - `Ended` if the entry came out, was removed, or was cancelled.
+    /// - `Ended` if the entry came out, or was removed, cancelled, drained or cleared.
     pub fn remove(&self, key: &Key) -> Result<T, KeyError> {
         self.shared.remove(key)
     }
@@ -430,8 +431,9 @@ impl<T> DelayQueue<T> {
     /// # Errors
     /// In this order:
     /// - `WrongQueue` if the key is another queue's.
-    /// - `Ended` if the entry came out, was removed, or was cancelled.
-    /// - `NoMemory` if no shard has a free slot, the entry's own has had its last stamp, and memory is refused.
+    /// - `Ended` if the entry came out, or was removed, cancelled, drained or cleared.
+    /// - `NoMemory` if the entry's shard has no free slot and can't grow: memory is refused, or the shard has as many slots as it may
+    ///   have. The entry was due when the call looked. It stays, with its deadline, which another thread may have extended since.
     ///
     /// ```
     /// use hontkhale::{DelayQueue, KeyError, ManualClock};
@@ -456,7 +458,7 @@ impl<T> DelayQueue<T> {
     /// # Errors
     /// In this order:
     /// - `WrongQueue` if the key is another queue's.
-    /// - `Ended` if the entry came out, was removed, or was cancelled.
+    /// - `Ended` if the entry came out, or was removed, cancelled, drained or cleared.
     pub fn deadline(&self, key: &Key) -> Result<Instant, KeyError> {
         self.shared.step_to_moment(key, Step::Look)
     }
@@ -690,7 +692,8 @@ impl<T> DelayQueue<T> {
 
     /// Closes the queue for inserts: from now on it takes no values. Its receivers get what waits as it comes due, and then none:
     /// they end once nothing waits, be it received, removed or cancelled. An insert that another thread makes meanwhile is
-    /// refused, or its entry comes out too.
+    /// refused, or its entry comes out too. Extends and resets are still accepted, so an entry that is extended again and again keeps
+    /// the receivers; [`close`](DelayQueue::close) ends them all the same.
     ///
     /// # Panics
     /// If a task's waker panics. All receivers are woken before.

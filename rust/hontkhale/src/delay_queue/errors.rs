@@ -92,7 +92,7 @@ pub enum KeyError {
     WrongQueue,
     /// The queue was dropped: a [`Handle`](crate::delay_queue::Handle) alone outlives it.
     Closed,
-    /// The entry came out, was removed, or was cancelled.
+    /// The entry came out, or was removed, cancelled, drained or cleared.
     Ended,
     /// The deadline is more than 139 years after the queue was made.
     TooFar,

@@ -56,7 +56,7 @@ impl Handle {
     /// - `Closed` if the queue was dropped.
     /// - `WrongQueue` if the key is another queue's.
     /// - `TooFar` if the deadline is more than 139 years after the queue was made.
-    /// - `Ended` if the entry came out, was removed, or was cancelled.
+    /// - `Ended` if the entry came out, or was removed, cancelled, drained or cleared.
     pub fn extend(&self, key: &Key, after: Duration) -> Result<Instant, KeyError> {
         self.step(key, Step::Extend(self.front.time.tick_in(after)))
     }
@@ -69,7 +69,7 @@ impl Handle {
     /// - `Closed` if the queue was dropped.
     /// - `WrongQueue` if the key is another queue's.
     /// - `TooFar` if the deadline is more than 139 years after the queue was made.
-    /// - `Ended` if the entry came out, was removed, or was cancelled.
+    /// - `Ended` if the entry came out, or was removed, cancelled, drained or cleared.
     pub fn extend_at(&self, key: &Key, when: Instant) -> Result<Instant, KeyError> {
         let rounded = self.front.time.rounded(when);
         let deadline = self.tick_of(key, Step::Extend(rounded.0))?;
@@ -83,7 +83,7 @@ impl Handle {
     /// In this order:
     /// - `Closed` if the queue was dropped.
     /// - `WrongQueue` if the key is another queue's.
-    /// - `Ended` if the entry came out, was removed, or was cancelled.
+    /// - `Ended` if the entry came out, or was removed, cancelled, drained or cleared.
     pub fn cancel(&self, key: &Key) -> Result<Instant, KeyError> {
         self.step(key, Step::Cancel)
     }
@@ -95,7 +95,7 @@ impl Handle {
     /// In this order:
     /// - `Closed` if the queue was dropped.
     /// - `WrongQueue` if the key is another queue's, or the queue's values are of another type.
-    /// - `Ended` if the entry came out, was removed, or was cancelled.
+    /// - `Ended` if the entry came out, or was removed, cancelled, drained or cleared.
     ///
     /// ```
     /// use hontkhale::{DelayQueue, KeyError};
@@ -120,7 +120,7 @@ impl Handle {
     /// In this order:
     /// - `Closed` if the queue was dropped.
     /// - `WrongQueue` if the key is another queue's.
-    /// - `Ended` if the entry came out, was removed, or was cancelled.
+    /// - `Ended` if the entry came out, or was removed, cancelled, drained or cleared.
     pub fn deadline(&self, key: &Key) -> Result<Instant, KeyError> {
         self.step(key, Step::Look)
     }
@@ -174,7 +174,7 @@ impl<T> Timeout<T> {
     /// # Errors
     /// In this order:
     /// - `TooFar` if the deadline is more than 139 years after the queue was made.
-    /// - `Ended` if the value came out already.
+    /// - `Ended` if the value came out, or the entry was removed, cancelled, drained or cleared.
     pub fn extend(&self, after: Duration) -> Result<Instant, KeyError> {
         self.shared()?.extend(&self.key, after)
     }
@@ -185,7 +185,7 @@ impl<T> Timeout<T> {
     /// # Errors
     /// In this order:
     /// - `TooFar` if the deadline is more than 139 years after the queue was made.
-    /// - `Ended` if the value came out already.
+    /// - `Ended` if the value came out, or the entry was removed, cancelled, drained or cleared.
     pub fn extend_at(&self, when: Instant) -> Result<Instant, KeyError> {
         self.shared()?.extend_at(&self.key, when)
     }
@@ -195,7 +195,7 @@ impl<T> Timeout<T> {
     /// # Errors
     /// Nothing changes then. In this order:
     /// - `TooFar` if the deadline is more than 139 years after the queue was made.
-    /// - `Ended` if the value came out already.
+    /// - `Ended` if the value came out, or the entry was removed, cancelled, drained or cleared.
     /// - `NoMemory` if the entry's slot is worn, the shard has no room, and memory is refused.
     ///
     /// ```
@@ -220,7 +220,7 @@ impl<T> Timeout<T> {
     /// # Errors
     /// Nothing changes then. In this order:
     /// - `TooFar` if the deadline is more than 139 years after the queue was made.
-    /// - `Ended` if the value came out already.
+    /// - `Ended` if the value came out, or the entry was removed, cancelled, drained or cleared.
     /// - `NoMemory` if the entry's slot is worn, the shard has no room, and memory is refused.
     pub fn reset_at(&mut self, when: Instant) -> Result<(), KeyError> {
         let shared = self.shared()?;
@@ -232,7 +232,7 @@ impl<T> Timeout<T> {
     ///
     /// # Errors
     /// In this order:
-    /// - `Ended` if the value came out already.
+    /// - `Ended` if the value came out, or the entry was removed, cancelled, drained or cleared.
     pub fn deadline(&self) -> Result<Instant, KeyError> {
         self.shared()?.step_to_moment(&self.key, Step::Look)
     }
@@ -241,7 +241,7 @@ impl<T> Timeout<T> {
         self.shared.as_deref().ok_or(KeyError::Ended)
     }
 
-    /// Takes the value back, none where it came out already.
+    /// Takes the value back, none if it came out, or the entry was removed, cancelled, drained or cleared.
     pub fn cancel(mut self) -> Option<T> {
         self.shared.take()?.remove(&self.key).ok()
     }
