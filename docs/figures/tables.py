@@ -277,13 +277,14 @@ def adapter_memory():
 
 
 def gate():
-    """What the parts of both forms of the gate took, in minutes."""
+    """What the parts of both forms of the gate took, in minutes, of those that took at least one."""
     its = {(form, part, what): told for form, part, what, told in rows_of("gate")}
-    parts = dict.fromkeys((form, part) for form, part, _ in its if part != "run")
-    run = {form: f"in all, of `{its[form, 'run', 'commit'][:8]}` on {its[form, 'run', 'cores']} cores" for form, _ in parts}
-    return grid(["Run", "Part", "Clock", "Processor"],
-                ([f"`{form}`", run[form] if part == "in all" else f"`{part}`", its[form, part, "clock"], its[form, part, "processor"]]
-                 for form, part in parts), 2)
+    forms = dict.fromkeys(form for form, _, _ in its)
+    parts = dict.fromkeys(part for form, part, what in its if what == "processor" and float(its[form, part, what]) >= 1)
+    heads = [f"`{form}` of `{its[form, 'run', 'commit'][:8]}`, {its[form, 'run', 'cores']} cores" for form in forms]
+    return grid(["Part", *(it for head in heads for it in (f"{head}: clock", "processor"))],
+                ([part if part == "in all" else f"`{part}`", *(its.get((form, part, what), "") for form in forms for what in ("clock", "processor"))]
+                 for part in parts))
 
 
 def evidence():
