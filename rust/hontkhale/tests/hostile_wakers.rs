@@ -343,3 +343,35 @@ fn what_is_taken_out_is_given_though_a_waker_panics() {
         assert_eq!((queue.len(), woken.load(SeqCst)), (0, 1));
     }
 }
+
+/// Of the last entry: its end closes the queue, and calls the other task.
+#[test]
+fn a_clock_that_panics_at_any_reading_loses_no_entry() {
+    for reading in 1.. {
+        let queue = DelayQueue::builder().read_clock(hooked_clock).build();
+        queue.insert(1, SECOND).expect("room");
+        let [mut takes, mut waits] = [(); 2].map(|()| queue.receiver());
+        let woken = Arc::new(AtomicUsize::new(0));
+        let counts = Arc::clone(&woken);
+        assert!(poll(&mut takes, &waker(|| {})).is_pending());
+        assert!(poll(&mut waits, &waker(move || _ = counts.fetch_add(1, SeqCst))).is_pending());
+        queue.close_when_empty();
+        PASSED.set(PASSED.get() + SECOND);
+        let mut readings = 0;
+        at_each_reading(move || {
+            readings += 1;
+            assert!(readings < reading, "a clock that panics");
+        });
+        let polled = catch_unwind(AssertUnwindSafe(|| poll(&mut takes, &waker(|| {}))));
+        // What has panicked is gone.
+        if AT_READING.take().is_some() {
+            return assert!(reading > 1);
+        }
+        let came_out = polled.is_ok_and(|polled| polled.is_ready());
+        assert_eq!(
+            (queue.is_empty(), woken.load(SeqCst) > 0),
+            (came_out, came_out),
+            "at reading {reading}"
+        );
+    }
+}

@@ -175,7 +175,7 @@ impl<T> Shared<T> {
         }
         let called = self.front.receivers.close();
         drop(deciding);
-        self.front.receivers.wake_each(called, self.front.time.tick())
+        self.front.receivers.wake_each(called, self.front.tick_of_wake())
     }
 
     /// Whether no entry waits, told by the locks of all shards: each insert that takes one of them later sees what the caller did.

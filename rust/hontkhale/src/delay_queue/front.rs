@@ -7,7 +7,7 @@ use crate::delay_queue::errors::KeyError;
 use crate::delay_queue::key::Key;
 use crate::delay_queue::shard::Seen;
 use crate::delay_queue::time::Time;
-use crate::delay_queue::waking::{Seat, Waiting, Wakes};
+use crate::delay_queue::waking::{lose, Seat, Waiting, Wakes};
 use crate::directory::Directory;
 use crate::memory::AllocError;
 use crate::ticks;
@@ -243,7 +243,7 @@ impl Front {
         self.ends.refuse();
         let called = self.receivers.close();
         self.receivers
-            .wake_each(called, self.time.tick())
+            .wake_each(called, self.tick_of_wake())
             .unwrap_or_else(|panic| resume_unwind(panic));
     }
 
@@ -255,7 +255,15 @@ impl Front {
     /// Has a receiver leave the line where it is there.
     pub fn leave(&self, place: &mut Option<Seat>) {
         if place.is_some() {
-            self.receivers.leave(place, self.time.tick());
+            self.receivers.leave(place, self.tick_of_wake());
         }
+    }
+
+    /// The present tick, or 0 where a program's clock panics. Whoever asks has a value in hand, or others to wake.
+    pub fn tick_of_wake(&self) -> u64 {
+        catch_unwind(AssertUnwindSafe(|| self.time.tick())).unwrap_or_else(|panic| {
+            lose(Err(panic));
+            0
+        })
     }
 }
