@@ -22,6 +22,8 @@ static ONE: Mutex<()> = Mutex::new(());
 thread_local! {
     /// How many allocations of this thread are granted before one is refused; none where all are.
     static GRANTS: Cell<Option<u64>> = const { Cell::new(None) };
+    /// How many more allocations of this thread are refused, while this is so many.
+    static REFUSALS: Cell<u64> = const { Cell::new(0) };
 }
 
 struct Counting;
@@ -32,6 +34,10 @@ static COUNTING: Counting = Counting;
 fn is_granted(size: usize) -> bool {
     if size <= OF_AN_ARC {
         return true;
+    }
+    if REFUSALS.get() > 0 {
+        REFUSALS.set(REFUSALS.get() - 1);
+        return false;
     }
     GRANTS.with(|grants| {
         let left = grants.get();
@@ -431,6 +437,44 @@ fn what_is_due_is_taken_out_without_memory() {
             }
         }
     }
+}
+
+/// Slots are free, and no memory is left for the note of a move. Neither call tries that again and again.
+#[test]
+fn a_move_without_memory_for_its_note_is_refused_at_once() {
+    const MOST: u64 = 1_000;
+    let _alone = alone();
+    let mut refused = 0;
+    for moved in 0..60 {
+        let clock = ManualClock::new();
+        let queue = DelayQueue::builder().shards(1).last_stamp(1).clock(&clock).build();
+        queue.reserve(300).expect("memory");
+        let keys: Vec<Key> = (0..60).map(|number| queue.insert(number, FAR).expect("room")).collect();
+        assert!(keys[..moved].iter().all(|key| queue.reset(key, FAR / 2).is_ok()));
+        for (number, key) in (0..).zip(&keys) {
+            for call in [
+                |queue: &DelayQueue<u64>, key: &Key| queue.reset(key, FAR / 3).map(|_| None),
+                DelayQueue::remove_if_due,
+            ] {
+                REFUSALS.set(MOST);
+                let ended = call(&queue, key);
+                let left = REFUSALS.replace(0);
+                assert!(left > MOST - 10, "{} refusals", MOST - left);
+                assert!(
+                    matches!(ended, Ok(None) | Err(KeyError::NoMemory)),
+                    "{number}: {ended:?}"
+                );
+                refused += u64::from(ended.is_err());
+            }
+        }
+        clock.advance(FAR);
+        let count = keys
+            .iter()
+            .filter(|key| queue.remove_if_due(key).is_ok_and(|out| out.is_some()))
+            .count();
+        assert_eq!(count, 60);
+    }
+    assert!(refused > 0);
 }
 
 /// Threads that reserve, fill and empty the queue at once lose nothing.

@@ -299,15 +299,15 @@ impl<T> Shared<T> {
         let mut is_tidy = false;
         loop {
             let (renamed, beside) = store.reset(key, tick);
+            let lacks_room = store.lacks_room(&renamed);
             let woken = self.front.ring(store.end());
             if let Some(value) = beside {
                 self.let_go.drop_value(value);
             }
             woken.unwrap_or_else(|panic| resume_unwind(panic));
             match renamed {
-                Ok(renamed) => return Ok(renamed),
-                Err(KeyError::NoMemory) => store = self.room_for_a_move(key, &mut is_tidy)?,
-                Err(ended) => return Err(ended),
+                Err(_) if lacks_room => store = self.room_for_a_move(key, &mut is_tidy)?,
+                renamed => return renamed,
             }
         }
     }
@@ -337,12 +337,12 @@ impl<T> Shared<T> {
         let mut is_tidy = false;
         loop {
             let ended = store.remove_if_due(key, now);
+            let lacks_room = store.lacks_room(&ended);
             let taken = matches!(ended, Ok(Some(_)));
             self.leave(store, usize::from(taken));
             match ended {
-                Ok(value) => return Ok(value),
-                Err(KeyError::NoMemory) => store = self.room_for_a_move(key, &mut is_tidy)?,
-                Err(ended) => return Err(ended),
+                Err(_) if lacks_room => store = self.room_for_a_move(key, &mut is_tidy)?,
+                ended => return ended,
             }
         }
     }

@@ -266,6 +266,13 @@ impl<T> ShardStore<T> {
         (moved.map(|_| *key).map_err(refused), beside)
     }
 
+    /// Whether a move was refused for want of a slot. Else it was refused for want of memory for its note, which a slot doesn't
+    /// mend.
+    #[inline(always)]
+    pub fn lacks_room<R>(&mut self, moved: &Result<R, KeyError>) -> bool {
+        matches!(moved, Err(KeyError::NoMemory)) && !self.finds_room(true)
+    }
+
     #[cold]
     fn note_moved(&mut self) {
         self.counts.moved += 1;

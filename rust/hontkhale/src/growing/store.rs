@@ -314,6 +314,7 @@ impl<T, W: Words> Store<T, W> {
     ///
     /// # Errors
     /// The cores come back if the allocator isn't cloned.
+    #[allow(clippy::result_large_err)]
     pub fn new(cores: Cores<T, W>) -> Result<Store<T, W>, Cores<T, W>> {
         match Notes::new() {
             Ok(notes) => Ok(Store { cores, notes }),
