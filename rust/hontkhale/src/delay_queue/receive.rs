@@ -12,6 +12,8 @@ use std::time::{Duration, Instant};
 
 /// How many entries are taken out under one lock.
 const TAKEN_AT_ONCE: usize = 64;
+/// How many entries may have left a shard under a lock that is kept.
+const FEW: usize = 2 * TAKEN_AT_ONCE;
 /// Up to how many entries of a core a thread polls as a whole. In pieces an entry takes longer, and whoever waits for the lock
 /// gets it no sooner.
 const POLLED_WHOLE: usize = 8_192;
@@ -169,6 +171,7 @@ impl<T> Shared<T> {
             row.reserve(room);
             let mut store = self.lock(at);
             let is_whole = store.is_small(POLLED_WHOLE);
+            let linked = store.linked();
             let mut is_next = false;
             while row.len() < first + room {
                 match store.poll(now, is_whole) {
@@ -177,8 +180,9 @@ impl<T> Shared<T> {
                         let deadline = self.front.time.moment(tick);
                         row.push(Expired { key, deadline, value });
                     }
-                    // Another core is next. The lock is kept for no more than one that has nothing to give.
-                    Polled::Works if is_whole && !is_next => is_next = true,
+                    // Another core is next. The lock is kept for one that has nothing to give, while few cancelled entries were
+                    // reaped under it.
+                    Polled::Works if is_whole && !is_next && linked - store.linked() <= FEW => is_next = true,
                     Polled::Works | Polled::Rests => break,
                 }
             }

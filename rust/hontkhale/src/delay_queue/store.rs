@@ -185,7 +185,7 @@ impl<T> ShardStore<T> {
     }
 
     /// How many entries are linked, of which some may be cancelled.
-    fn linked(&self) -> usize {
+    pub fn linked(&self) -> usize {
         self.rows().map(DelayCore::len).sum()
     }
 
