@@ -257,6 +257,9 @@ impl<T> ShardStore<T> {
     /// The same of an entry whose slot has no stamp left.
     #[cold]
     fn reset_elsewhere(&mut self, key: &Key, tick: u64) -> (Result<Key, KeyError>, Option<T>) {
+        if !self.finds_room(true) {
+            return (Err(KeyError::NoMemory), None);
+        }
         let (moved, beside) = self.store.reset(&key.entry(), tick);
         if moved.is_ok() {
             self.hint = self.hint.min(tick);
