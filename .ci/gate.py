@@ -1,7 +1,7 @@
 #!/usr/bin/env python3
 """The gate: what the pages say, the C file's hashes, the tests of the plain Rust, `rt ci`, and the wrong bodies.
 
-  .ci/run            with one wrong body for each row of docs/PROMISES.md, drawn by the commit's hash, and with all of the
+  .ci/run            with one wrong body for each row of crates/PROMISES.md, drawn by the commit's hash, and with all of the
                      crates that changed since the last whole run
   .ci/run --all      with all wrong bodies: a whole run
   .. --store         and writes to bench/results/gate.tsv what the parts took, and the commit, if nothing failed; hold it
@@ -103,7 +103,7 @@ def changed_since(commit):
 
 
 def wrong_bodies():
-    """The names of all wrong bodies, and of those that break each row of docs/PROMISES.md."""
+    """The names of all wrong bodies, and of those that break each row of crates/PROMISES.md."""
     names, rows = [], {}
     for path in sorted(TOP.glob("crates/*/edits/*.edits")):
         for edit, promises in OF_EDIT.findall(path.read_text(encoding="utf-8")):
@@ -131,7 +131,7 @@ def to_try(form):
     whole = {it for it in edits if it.partition("/")[0] in crates}
     say(f"-- wrong bodies: {len(its | whole)} of {len(edits)}: all {len(whole)} of the crates that changed since {last},"
         f" the commit of the last whole run ({' '.join(sorted(crates)) or 'none'}), and one for each of {len(rows)} rows of"
-        f" docs/PROMISES.md, drawn by {commit}; beside those crates:")
+        f" crates/PROMISES.md, drawn by {commit}; beside those crates:")
     say(textwrap.fill(" ".join(sorted(its - whole)), 140, initial_indent="   ", subsequent_indent="   "))
     return sorted(its | whole)
 

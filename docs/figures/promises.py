@@ -1,4 +1,4 @@
-"""The tests and the edits of each promise: the last column of docs/PROMISES.md, made of what the tests and the edits say of themselves.
+"""The tests and the edits of each promise: the last column of crates/PROMISES.md, made of what the tests and the edits say of themselves.
 
 A row of the page begins with the promise's name, as `wheel.advance`. An edit has a line `promise: NAME ..`, and a test a
 comment `// promise: NAME ..` above its attribute. A row with neither says in its words that the promise is `proved alone`,
@@ -10,7 +10,7 @@ import re
 import tree
 from tree import TOP, files, text_of
 
-PAGE = TOP / "docs" / "PROMISES.md"
+PAGE = TOP / "crates" / "PROMISES.md"
 ROW = re.compile(r"^(\| ([a-z]+\.[\w-]+) \|.*\|) [^|\n]*\|$", re.M)
 OF_TEST = re.compile(r"// promise: (.*)\n\s*" + tree.TEST.pattern)
 ALONE = re.compile(r"proved alone|by inspection", re.I)
@@ -35,7 +35,7 @@ def filled(text):
                 faults.append((path, f"{name} names no promise"))
             for it in promises:
                 if it not in carriers:
-                    faults.append((path, f"{name} names the promise {it}, which docs/PROMISES.md hasn't"))
+                    faults.append((path, f"{name} names the promise {it}, which crates/PROMISES.md hasn't"))
                 elif name not in carriers[it][place]:
                     carriers[it][place].append(name)
 
