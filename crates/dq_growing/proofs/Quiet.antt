@@ -1,5 +1,7 @@
 -- What no call but an insert or a reset does: give an entry an earlier deadline. So where no live entry has a deadline before
 -- a tick, none has after it.
+use Rattle.std.specs.Prelude.{unwrap_or}
+use Rattle.dq_growing.specs.declared.TheConstants.{NEVER}
 use Rattle.std.proofs.Common.{◌≡◌, ◌≢◌, ℕ, ◌<◌, ◌≤◌, Bool, List, [], ◌∷◌, length, max, min, nat_eq, true, false, IfSome, Option, Some, None, Result, Ok, Err, refl, sym, ap, ◌∙◌, subst, inl, inr, ⊎_elim, arith}
 use Rattle.std.specs.List.{AllByRecursion}
 use Rattle.dq_ticks.specs.declared.keys.Key.{Key}
@@ -24,7 +26,7 @@ use Rattle.dq_core.specs.declared.outcomes.Piece.TheVariants.{Answer, Working}
 use Rattle.dq_wheel.specs.State.{Filing}
 use Rattle.dq_core.specs.Pieces.{PollsSome}
 use Rattle.dq_growing.specs.Cores.{CoreRow, IsCoreAt, with_core, lowered_to}
-use Rattle.dq_growing.specs.Polls.{OthersAreQuiet, AreBounded, KeepsTurns, TurnState, bound_at}
+use Rattle.dq_growing.specs.Polls.{OthersAreQuiet, AreBounded, KeepsTurns, TurnState, bound_at, WakeBounds}
 use Rattle.dq_growing.specs.declared.least.TheConstants.{KNOWN}
 use Rattle.dq_wheel.proofs.Links.{nat_le_or_lt}
 use Rattle.dq_growing.proofs.Rows.{at_after, one_at}
@@ -151,6 +153,11 @@ module _ {T : Type 0} where
 -- before tick 0 nothing is live
 pub quiet_fresh : {T : Type 0} (m : Machine T) (u : ℕ) → u ≡ 0 → NoneLiveBefore m u
 quiet_fresh m u none i e d linked due = omega arith
+
+-- a core has nothing live before it wakes
+pub quiet_wake : {T W : Type 0} (c : Core T W) (r : Option ℕ) → WakeBounds c r → NoneLiveBefore (machine c) (unwrap_or r NEVER)
+quiet_wake c None bounds = none_ever (machine c) NEVER bounds
+quiet_wake c (Some w) bounds = bounds.0
 
 module _ {T W : Type 0} (shared : Bool) (b c : Core T W) (t : ℕ) (before : NoneLiveBefore (machine b) t) where
   unchanged : c ≡ b → NoneLiveBefore (machine c) t
