@@ -20,7 +20,7 @@ ghost use Rattle.dq_parking.specs.Attending.{MayWait, KeepsOrLeaves, Attends};
 ghost use Rattle.dq_parking.specs.Parking.{still_parked, Leaves};
 ghost use Rattle.dq_parking.specs.Streaming.{PollsBy};
 
-use crate::parked::{Leaver, Parked, Until, keep_until};
+use crate::parked::{Parked, PendingWake, Until, keep_until};
 use dq_core::{CoreError, DelayCore, Expired, Piece, ReapError, Removed, Swept, Turn};
 use dq_ticks::{EntryId, Key};
 use dq_words::{Keeper, ManyTurn, poll_into};
@@ -31,7 +31,7 @@ type Inserted<T> = Result<Key, (CoreError, T)>;
 
 /// A queue over words that callers share, and the poller that is parked there.
 #[derive(Drop)]
-pub struct Attended<T, N = u64, A: Allocator = Global> {
+pub struct WatchedCore<T, N = u64, A: Allocator = Global> {
     /// The queue.
     pub core: DelayCore<T, Keeper<A>, A>,
     /// Who waits for it; none where nobody does.
@@ -48,7 +48,7 @@ pub struct Attended<T, N = u64, A: Allocator = Global> {
 pub fn keep_or_leave<T, N: Until, A: Allocator>(
     core: &DelayCore<T, Keeper<A>, A>,
     parked: &mut Option<Parked<N>>,
-) -> Leaver<N>
+) -> PendingWake<N>
     ensures keeps { KeepsOrLeaves N.lasts core.now parked.old parked.new }
     ensures law { MayWait N.lasts core.now parked.new }
     ensures empty { NoneLinked (machine core.now)
@@ -58,16 +58,16 @@ pub fn keep_or_leave<T, N: Until, A: Allocator>(
     if parked.is_some() {
         keep_until(parked, core.next_wake())
     } else {
-        Leaver { poller: None }
+        PendingWake { poller: None }
     }
 }
 
-impl<T, N, A: Allocator> Attended<T, N, A> {
+impl<T, N, A: Allocator> WatchedCore<T, N, A> {
     /// A queue for which nobody waits.
-    pub fn new(core: DelayCore<T, Keeper<A>, A>) -> Attended<T, N, A>
+    pub fn new(core: DelayCore<T, Keeper<A>, A>) -> WatchedCore<T, N, A>
         ensures { (result.core ≡ core) × (result.parked ≡ None) }
     {
-        Attended {
+        WatchedCore {
             core,
             parked: None,
             is_dropping: false,
@@ -75,12 +75,12 @@ impl<T, N, A: Allocator> Attended<T, N, A> {
     }
 }
 
-impl<T, N: Until, A: Allocator> Attended<T, N, A> {
+impl<T, N: Until, A: Allocator> WatchedCore<T, N, A> {
     /// Puts `value` in, to come out at `when` or at the queue's tick, and returns its key. If it is refused, the
     /// value comes back and nothing changes. Beside it comes who has left, and the value that waited for its drop in
     /// the entry's slot, which is to be dropped once the lock is free: none if it was taken out before.
     #[inline(always)]
-    pub fn insert(&mut self, value: T, when: u64) -> (Inserted<T>, Leaver<N>, Option<T>)
+    pub fn insert(&mut self, value: T, when: u64) -> (Inserted<T>, PendingWake<N>, Option<T>)
         requires { MayWait N.lasts self.old.core self.old.parked }
         ensures refused { IfErr result.0 (λ e. self.new ≡ self.old) }
         ensures inserts { Inserts self.old.core value when result.0 self.new.core }
@@ -99,13 +99,13 @@ impl<T, N: Until, A: Allocator> Attended<T, N, A> {
                 keep_or_leave(&self.core, &mut self.parked),
                 crowded,
             ),
-            Err(refused) => (Err(refused), Leaver { poller: None }, crowded),
+            Err(refused) => (Err(refused), PendingWake { poller: None }, crowded),
         }
     }
 
     /// Gives a live entry another deadline, and returns its new key, with who has left by it.
     #[inline(always)]
-    pub fn reset(&mut self, entry: &EntryId, when: u64) -> (Result<Key, CoreError>, Leaver<N>)
+    pub fn reset(&mut self, entry: &EntryId, when: u64) -> (Result<Key, CoreError>, PendingWake<N>)
         ensures resets { Resets true self.old.core entry.now when result.0 self.new.core }
         ensures aside { self.new.core.aside ≡ self.old.core.aside }
         ensures attends { Attends N.lasts self.old.core self.old.parked result.1.poller
@@ -117,7 +117,7 @@ impl<T, N: Until, A: Allocator> Attended<T, N, A> {
 
     /// Takes a live entry out, and returns it, with who has left by it.
     #[inline(always)]
-    pub fn remove(&mut self, entry: &EntryId) -> (Result<Removed<T>, CoreError>, Leaver<N>)
+    pub fn remove(&mut self, entry: &EntryId) -> (Result<Removed<T>, CoreError>, PendingWake<N>)
         ensures removes { Removes true self.old.core entry.now result.0 self.new.core }
         ensures aside { self.new.core.aside ≡ self.old.core.aside }
         ensures attends { Attends N.lasts self.old.core self.old.parked result.1.poller
@@ -129,7 +129,7 @@ impl<T, N: Until, A: Allocator> Attended<T, N, A> {
 
     /// The deadline of a live entry, with who has left by it.
     #[inline]
-    pub fn deadline(&mut self, entry: &EntryId) -> (Result<u64, CoreError>, Leaver<N>)
+    pub fn deadline(&mut self, entry: &EntryId) -> (Result<u64, CoreError>, PendingWake<N>)
         ensures tells { TellsDeadline true self.old.core entry.now result.0 self.new.core }
         ensures aside { self.new.core.aside ≡ self.old.core.aside }
         ensures attends { Attends N.lasts self.old.core self.old.parked result.1.poller
@@ -142,7 +142,7 @@ impl<T, N: Until, A: Allocator> Attended<T, N, A> {
     /// Notes a tick and takes one entry out that is due, or tells when to come again, with who has left by it. No
     /// value is dropped.
     #[inline(always)]
-    pub fn poll(&mut self, tick: u64) -> (Result<Turn<T>, CoreError>, Leaver<N>)
+    pub fn poll(&mut self, tick: u64) -> (Result<Turn<T>, CoreError>, PendingWake<N>)
         ensures polls { Polls true self.old.core tick result.0 self.new.core }
         ensures aside { IfOk result.0 (λ turn. SetsAside self.old.core (out_at turn) self.new.core) }
         ensures attends { Attends N.lasts self.old.core self.old.parked result.1.poller
@@ -154,7 +154,11 @@ impl<T, N: Until, A: Allocator> Attended<T, N, A> {
 
     /// Notes a tick and does at most `most` steps of a poll, with who has left by it. No value is dropped.
     #[inline]
-    pub fn poll_some(&mut self, tick: u64, most: u32) -> (Result<Piece<T>, CoreError>, Leaver<N>)
+    pub fn poll_some(
+        &mut self,
+        tick: u64,
+        most: u32,
+    ) -> (Result<Piece<T>, CoreError>, PendingWake<N>)
         ensures out { IfAnswer result.0 (λ turn. IfOut turn
             (λ x. (x.deadline ≤ self.new.core.noted)
             × NoneLiveBefore (machine self.new.core) x.deadline)) }
@@ -194,7 +198,7 @@ impl<T, N: Until, A: Allocator> Attended<T, N, A> {
         &mut self,
         tick: u64,
         row: &mut Vec<Expired<T>, A>,
-    ) -> (Result<ManyTurn, CoreError>, Leaver<N>)
+    ) -> (Result<ManyTurn, CoreError>, PendingWake<N>)
         ensures refused { IsErr result.0 ↔ (LAST_TICK < tick) }
         ensures kept { OnErr result.0 (row.new ≡ row.old) }
         ensures room { vec_capacity row.new ≡ vec_capacity row.old }
@@ -208,7 +212,7 @@ impl<T, N: Until, A: Allocator> Attended<T, N, A> {
     }
 
     /// Reaps all cancelled entries, and returns how many, with who has left by it. No value is dropped.
-    pub fn sweep(&mut self) -> (usize, Leaver<N>)
+    pub fn sweep(&mut self) -> (usize, PendingWake<N>)
         ensures sweeps { Sweeps true self.old.core result.0 self.new.core }
         ensures aside { SetsAside self.old.core None self.new.core }
         ensures attends { Attends N.lasts self.old.core self.old.parked result.1.poller
@@ -219,7 +223,7 @@ impl<T, N: Until, A: Allocator> Attended<T, N, A> {
     }
 
     /// Reaps the cancelled entries at `count` slots from `from` on, with who has left by it. No value is dropped.
-    pub fn sweep_some(&mut self, from: usize, count: usize) -> (Swept, Leaver<N>)
+    pub fn sweep_some(&mut self, from: usize, count: usize) -> (Swept, PendingWake<N>)
         ensures next { result.0.next ≡ (if nat_lt (from + count) (length self.old.core.slots.rows)
             then Some (from + count) else None) }
         ensures few_steps { StepsAtMost count self.old.core.words self.new.core.words }
@@ -234,7 +238,7 @@ impl<T, N: Until, A: Allocator> Attended<T, N, A> {
     }
 
     /// Reaps an entry if it was cancelled, with who has left by it. No value is dropped.
-    pub fn reap(&mut self, entry: &EntryId) -> (Result<(), ReapError>, Leaver<N>)
+    pub fn reap(&mut self, entry: &EntryId) -> (Result<(), ReapError>, PendingWake<N>)
         ensures reaps { Reaps true self.old.core entry.now result.0 self.new.core }
         ensures aside { SetsAside self.old.core None self.new.core }
         ensures attends { Attends N.lasts self.old.core self.old.parked result.1.poller
@@ -247,7 +251,7 @@ impl<T, N: Until, A: Allocator> Attended<T, N, A> {
 
     /// Takes all entries out, and returns how many live ones were removed, with who has left by it. No value is
     /// dropped.
-    pub fn clear(&mut self) -> (usize, Leaver<N>)
+    pub fn clear(&mut self) -> (usize, PendingWake<N>)
         ensures clears { Clears true self.old.core result.0 self.new.core }
         ensures aside { SetsAside self.old.core None self.new.core }
         ensures attends { Attends N.lasts self.old.core self.old.parked result.1.poller
@@ -258,7 +262,7 @@ impl<T, N: Until, A: Allocator> Attended<T, N, A> {
     }
 }
 
-impl<T, N: Drop, A: Allocator> Attended<T, N, A> {
+impl<T, N: Drop, A: Allocator> WatchedCore<T, N, A> {
     /// Takes out a value for a thread that drops it once the lock is free, and then calls again. `is_mine` is false at
     /// its first call, and tells whether it is at it. None where no more are set aside, and it is over; or where
     /// another thread is at it, or this one further up: it drops these too.

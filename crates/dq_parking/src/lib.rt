@@ -10,8 +10,8 @@ mod sleeping;
 mod source;
 mod streaming;
 
-pub use attended::{Attended, keep_or_leave};
-pub use parked::{Leaver, Parked, let_sleep, ring, take};
+pub use attended::{WatchedCore, keep_or_leave};
+pub use parked::{Parked, PendingWake, let_sleep, ring, take};
 pub use row::{Row, Shard, unlock};
 pub use sleeping::{Polled, Sleeps, StreamFault, park_with};
 pub use source::{MillisecondTicks, TickSource};

@@ -110,16 +110,16 @@ pub fn let_sleep<N: Drop>(taken: Option<Parked<N>>) -> bool
 
 /// A poller that has left its shard, if one has. It isn't `Drop`: whoever has it has to wake it, once the shard's lock
 /// is free.
-pub struct Leaver<N = u64> {
+pub struct PendingWake<N = u64> {
     /// The poller; none where none has left.
     pub poller: Option<Parked<N>>,
 }
 
-impl<N: Drop> Leaver<N> {
+impl<N: Drop> PendingWake<N> {
     /// Wakes its task.
     #[inline]
     pub fn wake(self) {
-        let Leaver { poller } = self;
+        let PendingWake { poller } = self;
         if let Some(poller) = poller {
             poller.waker.wake();
         }
@@ -134,34 +134,37 @@ impl<N: Drop> Leaver<N> {
 }
 
 /// Takes the poller out, if there is one.
-pub fn take<N: Drop>(parked: &mut Option<Parked<N>>) -> Leaver<N>
+pub fn take<N: Drop>(parked: &mut Option<Parked<N>>) -> PendingWake<N>
     ensures stays { parked.new ≡ None }
     ensures leaves { Leaves parked.old result.poller parked.new }
 {
-    Leaver {
+    PendingWake {
         poller: parked.take(),
     }
 }
 
 /// Takes the poller out unless it may go on waiting at this next wake.
-pub fn keep_until<N: Until>(parked: &mut Option<Parked<N>>, next_wake: Option<u64>) -> Leaver<N>
+pub fn keep_until<N: Until>(
+    parked: &mut Option<Parked<N>>,
+    next_wake: Option<u64>,
+) -> PendingWake<N>
     ensures stays { parked.new ≡ still_parked N.lasts parked.old next_wake }
     ensures leaves { Leaves parked.old result.poller parked.new }
 {
     match parked {
         Some(poller) if !poller.next.lasts_until(next_wake) => take(parked),
-        _ => Leaver { poller: None },
+        _ => PendingWake { poller: None },
     }
 }
 
 /// Takes the poller out where its wait is over at a tick.
-pub fn ring<N: Until>(parked: &mut Option<Parked<N>>, tick: u64) -> Leaver<N>
+pub fn ring<N: Until>(parked: &mut Option<Parked<N>>, tick: u64) -> PendingWake<N>
     ensures is_rung { is_some result.poller ≡ is_rung N.ends parked.old tick }
     ensures stays { parked.new ≡ after_ring N.ends parked.old tick }
     ensures leaves { Leaves parked.old result.poller parked.new }
 {
     match parked {
         Some(poller) if poller.next.ends_by(tick) => take(parked),
-        _ => Leaver { poller: None },
+        _ => PendingWake { poller: None },
     }
 }

@@ -18,7 +18,7 @@ ghost use Rattle.std.specs.Sync.Mutex.{mutex_guard_value};
 ghost use Rattle.dq_core.specs.Calls.{IsConfig};
 ghost use Rattle.dq_core.specs.declared.errors.CoreError.TheVariants.{NoMemory};
 
-use crate::parked::{Leaver, Until};
+use crate::parked::{PendingWake, Until};
 use dq_core::{CoreConfig, CoreError, DelayCore};
 use dq_words::{Keeper, locked_shards};
 use std::alloc::{AllocError, Allocator, Global};
@@ -75,11 +75,11 @@ pub trait Shard {
         ensures same { same self.old self.new }
         ensures kept { IfNone result (self.new ≡ self.old) };
 
-    /// Takes out a value for the thread that drops what is set aside, as `Attended::take_one`.
+    /// Takes out a value for the thread that drops what is set aside, as `WatchedCore::take_one`.
     fn take_one(&mut self, is_mine: &mut bool) -> Option<Self::Value>
         ensures { same self.old self.new };
 
-    /// Ends the dropping before its time, as `Attended::end_dropping`.
+    /// Ends the dropping before its time, as `WatchedCore::end_dropping`.
     fn end_dropping(&mut self, is_mine: &mut bool)
         ensures { self.new ≡ self.old };
 }
@@ -262,7 +262,7 @@ impl<S: Shard, A: Allocator> Row<S, A> {
 /// Lets a shard's lock go, and then wakes who has left: whoever is woken may call the queue at once. Answers how many
 /// values are set aside.
 #[inline(always)]
-pub fn unlock<S: Shard>(shard: MutexGuard<'_, S>, leaver: Leaver<S::Next>) -> usize
+pub fn unlock<S: Shard>(shard: MutexGuard<'_, S>, leaver: PendingWake<S::Next>) -> usize
     ensures { S.keeps (mutex_guard_value shard.entry) }
 {
     shard.law();
@@ -305,7 +305,7 @@ where
         rt: &R,
         place: usize,
         shard: MutexGuard<'_, S>,
-        leaver: Leaver<S::Next>,
+        leaver: PendingWake<S::Next>,
         is_out: bool,
     )
         ensures { S.keeps (mutex_guard_value shard.entry) }

@@ -22,7 +22,7 @@ use crate::errors::{QueueConfig, QueueError};
 use crate::queue::SharedDelayQueue;
 use crate::state::ShardState;
 use dq_core::{CoreError, Expired, Piece, ReapError, Swept, Turn};
-use dq_parking::{Leaver, Row, unlock};
+use dq_parking::{PendingWake, Row, unlock};
 use dq_ticks::{EntryId, Key};
 use dq_words::ManyTurn;
 use std::alloc::Allocator;
@@ -534,7 +534,7 @@ impl<T: Drop> SharedDelayQueue<T> {
         let mut locked = self.enter(rt, shard)?;
         let answer = f(&mut locked);
         self.row
-            .leave(rt, shard, locked, Leaver { poller: None }, false);
+            .leave(rt, shard, locked, PendingWake { poller: None }, false);
         Ok(answer)
     }
 }

@@ -19,7 +19,7 @@ ghost use Rattle.dq_shards.specs.Changes.{ShardSweeps, ShardSweepsSome, ShardRea
 ghost use Rattle.dq_shards.specs.Many.{ShardPollsMany};
 
 use dq_core::{CoreError, DelayCore, Expired, Piece, ReapError, Removed, Swept, Turn};
-use dq_parking::{Attended, keep_or_leave};
+use dq_parking::{WatchedCore, keep_or_leave};
 use dq_ticks::{EntryId, Key};
 use dq_words::{Caller, Keeper, ManyTurn, WordsError};
 use std::alloc::{Allocator, Global};
@@ -41,7 +41,7 @@ pub struct ShardState<T, A: Allocator = Global> {
     _apart: [u64; 7],
     // Shards stand in one row. Each is, behind its lock, a whole number of cache lines, and no line has what two of
     // them write. A test tells: where a field is added, some room has to be.
-    pub(crate) attended: Attended<T, u64, A>,
+    pub(crate) attended: WatchedCore<T, u64, A>,
     _room: [u64; 4],
 }
 
@@ -65,7 +65,7 @@ impl<T, A: Allocator> From<DelayCore<T, Keeper<A>, A>> for ShardState<T, A> {
     fn from(core: DelayCore<T, Keeper<A>, A>) -> ShardState<T, A> {
         ShardState {
             _apart: [0; 7],
-            attended: Attended::new(core),
+            attended: WatchedCore::new(core),
             _room: [0; 4],
         }
     }

@@ -5,10 +5,10 @@
 //! share them, wait, and find their entries, is written by hand and tested.
 
 mod builder;
+mod common;
 mod dropping;
 mod ends;
 mod errors;
-mod front;
 mod growth;
 mod handle;
 mod key;
@@ -31,7 +31,7 @@ pub use stats::{Metrics, Stats};
 pub use time::ManualClock;
 
 use crate::bell::NEVER;
-use front::Step;
+use common::Step;
 use shared::Shared;
 use std::fmt;
 use std::panic::resume_unwind;
@@ -173,7 +173,7 @@ impl<T> DelayQueue<T> {
     /// ```
     #[inline]
     pub fn insert(&self, value: T, after: Duration) -> Result<Key, InsertError<T>> {
-        let tick = self.shared.front.time.tick_in(after);
+        let tick = self.shared.common.time.tick_in(after);
         self.shared
             .insert(value, tick)
             .map_err(|(kind, value)| InsertError::new(kind, value))
@@ -191,7 +191,7 @@ impl<T> DelayQueue<T> {
     /// - `NoMemory` if the queue has to grow and memory is refused.
     #[inline]
     pub fn insert_at(&self, value: T, when: Instant) -> Result<Key, InsertError<T>> {
-        let tick = self.shared.front.time.tick_at(when);
+        let tick = self.shared.common.time.tick_at(when);
         self.shared
             .insert(value, tick)
             .map_err(|(kind, value)| InsertError::new(kind, value))
@@ -231,7 +231,7 @@ impl<T> DelayQueue<T> {
     /// # Ok::<(), Box<dyn std::error::Error>>(())
     /// ```
     pub fn insert_with(&self, make: impl FnOnce(Key) -> T, after: Duration) -> Result<Key, InsertErrorKind> {
-        self.shared.insert_with(make, self.shared.front.time.tick_in(after))
+        self.shared.insert_with(make, self.shared.common.time.tick_in(after))
     }
 
     /// Returns what `read` makes of an entry's value, where the value is: the entry stays. An entry that is due and hasn't come out
@@ -335,7 +335,7 @@ impl<T> DelayQueue<T> {
     /// - `NoMemory` if the entry's slot is worn, the shard has no room, and memory is refused.
     #[inline]
     pub fn reset(&self, key: &Key, after: Duration) -> Result<Key, KeyError> {
-        self.shared.reset(key, self.shared.front.time.tick_in(after))
+        self.shared.reset(key, self.shared.common.time.tick_in(after))
     }
 
     /// Gives an entry the deadline `when`, sooner or later than the one that it has. Where the deadline isn't sooner it reads no
@@ -351,7 +351,7 @@ impl<T> DelayQueue<T> {
     /// - `NoMemory` if the entry's slot is worn, the shard has no room, and memory is refused.
     #[inline]
     pub fn reset_at(&self, key: &Key, when: Instant) -> Result<Key, KeyError> {
-        self.shared.reset(key, self.shared.front.time.tick_at(when))
+        self.shared.reset(key, self.shared.common.time.tick_at(when))
     }
 
     /// Raises the deadline of an entry to `after` from now, and returns the deadline that is then in force: that one, or a
@@ -592,7 +592,7 @@ impl<T> DelayQueue<T> {
     /// While other threads change the queue it is about that number, and never too small: each entry that stays there during
     /// the call is counted. One that comes or ends meanwhile may be counted too.
     pub fn len(&self) -> usize {
-        self.shared.front.waiting()
+        self.shared.common.waiting()
     }
 
     /// Whether no entry waits. While other threads change the queue it tells that about as [`len`](DelayQueue::len) does: it may
@@ -607,7 +607,7 @@ impl<T> DelayQueue<T> {
     pub fn next_deadline(&self) -> Option<Instant> {
         self.shared
             .first_filed_before(NEVER)
-            .map(|tick| self.shared.front.time.moment(tick))
+            .map(|tick| self.shared.common.time.moment(tick))
     }
 
     /// What a server watches: how much came and went, how much waits, how late it is, and what is held. It takes the lock of each
@@ -659,7 +659,7 @@ impl<T> DelayQueue<T> {
     /// the drop of another value of the queue these are dropped after it.
     pub fn clear(&self) -> usize {
         self.drain()
-            .map(|(.., value)| self.shared.let_go.drop_value(value))
+            .map(|(.., value)| self.shared.deferred.drop_value(value))
             .count()
     }
 
@@ -687,7 +687,7 @@ impl<T> DelayQueue<T> {
     /// # Panics
     /// If a task's waker panics. All receivers are woken before.
     pub fn close(&self) {
-        self.shared.front.close();
+        self.shared.common.close();
     }
 
     /// Closes the queue for inserts: from now on it takes no values. Its receivers get what waits as it comes due, and then none:
@@ -745,12 +745,12 @@ impl<T> DelayQueue<T> {
 
     /// Whether inserts are refused, since the queue was closed, at once or for when it is empty.
     pub fn is_closed(&self) -> bool {
-        self.shared.front.ends.refuses()
+        self.shared.common.ends.refuses()
     }
 
     /// One clone more, which may insert.
     pub(crate) fn of(shared: &Arc<Shared<T>>) -> DelayQueue<T> {
-        shared.front.ends.add_inserter();
+        shared.common.ends.add_inserter();
         DelayQueue {
             shared: Arc::clone(shared),
         }
@@ -786,7 +786,7 @@ impl<T> Clone for DelayQueue<T> {
 impl<T> Drop for DelayQueue<T> {
     /// With the last clone nobody inserts any more.
     fn drop(&mut self) {
-        if self.shared.front.ends.leave_inserter() {
+        if self.shared.common.ends.leave_inserter() {
             let ended = self.shared.close_when_empty();
             if thread::panicking() {
                 waking::lose(ended);

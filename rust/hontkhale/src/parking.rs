@@ -9,8 +9,8 @@ mod sleeping;
 mod source;
 mod streaming;
 
-pub use attended::{keep_or_leave, Attended};
-pub use parked::{let_sleep, ring, Leaver, Parked};
+pub use attended::{keep_or_leave, WatchedCore};
+pub use parked::{let_sleep, ring, Parked, PendingWake};
 pub use row::{unlock, Row, Shard};
 #[cfg(test)]
 pub use sleeping::park_with;

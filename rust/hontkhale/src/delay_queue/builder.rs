@@ -1,6 +1,6 @@
 //! What a queue is made by.
 
-use crate::delay_queue::front::Front;
+use crate::delay_queue::common::Common;
 use crate::delay_queue::shared::Shared;
 use crate::delay_queue::time::{ManualClock, Source, Time};
 use crate::delay_queue::DelayQueue;
@@ -115,17 +115,17 @@ impl<T> Builder<T> {
         let time = Time::new(self.clock.clone(), self.start);
         let made = Clerk::new(u32::MAX).and_then(|clerk| {
             let words = clerk.directory().clone();
-            Ok((Front::new(time, self.max_entries, self.shards, words)?, clerk))
+            Ok((Common::new(time, self.max_entries, self.shards, words)?, clerk))
         });
-        let Ok(((front, hints), clerk)) = made else {
-            handle_alloc_error(Layout::new::<Front>());
+        let Ok(((common, hints), clerk)) = made else {
+            handle_alloc_error(Layout::new::<Common>());
         };
-        let front = Arc::new(front);
+        let common = Arc::new(common);
         if let Source::Manual(clock) = &self.clock {
-            let weak = Arc::downgrade(&front);
-            clock.wakes(move || weak.upgrade().map(|front| front.wake_all()).is_some());
+            let weak = Arc::downgrade(&common);
+            clock.wakes(move || weak.upgrade().map(|common| common.wake_all()).is_some());
         }
-        DelayQueue::of(&Arc::new(Shared::new(front, hints, clerk, self.last_stamp)))
+        DelayQueue::of(&Arc::new(Shared::new(common, hints, clerk, self.last_stamp)))
     }
 }
 

@@ -44,15 +44,15 @@ fn end_within() {
 }
 
 /// Values of a queue that were let go within a drop of another one of its values. They are dropped after it.
-pub(crate) struct LetGo<T> {
+pub(crate) struct DeferredDrops<T> {
     values: Mutex<Vec<T>>,
     /// In how many places values wait for their drop: here, and in the shards where some are set aside.
     places: AtomicUsize,
 }
 
-impl<T> LetGo<T> {
-    pub fn new() -> LetGo<T> {
-        LetGo {
+impl<T> DeferredDrops<T> {
+    pub fn new() -> DeferredDrops<T> {
+        DeferredDrops {
             values: Mutex::default(),
             places: AtomicUsize::new(0),
         }
@@ -101,7 +101,7 @@ impl<T> LetGo<T> {
 
     /// What tells the queue from others.
     pub fn address(&self) -> usize {
-        self as *const LetGo<T> as usize
+        self as *const DeferredDrops<T> as usize
     }
 
     /// Whether the thread is within a drop of the queue.

@@ -122,7 +122,7 @@ impl Drop for Asks<'_> {
 impl<T> Shared<T> {
     /// Refuses inserts, and ends the receivers once nothing waits. A task's waker may panic.
     pub fn close_when_empty(&self) -> thread::Result<()> {
-        let ends = &self.front.ends;
+        let ends = &self.common.ends;
         let before = ends.state.fetch_or(REFUSES | ENDS_WHEN_EMPTY, SeqCst);
         if before & ENDS_WHEN_EMPTY == 0 {
             ends.asked.fetch_add(1, SeqCst);
@@ -133,8 +133,8 @@ impl<T> Shared<T> {
     /// Notes that entries wait no longer. No lock is held.
     #[inline(always)]
     pub fn note_ended(&self, entries: usize) {
-        self.front.uncount(entries);
-        if self.front.ends.is_asked() {
+        self.common.uncount(entries);
+        if self.common.ends.is_asked() {
             self.note_end();
         }
     }
@@ -144,16 +144,16 @@ impl<T> Shared<T> {
     #[cold]
     pub fn note_end(&self) {
         // The lock of those that wait may be held by one that waits for the closure's: whoever has called that looks once more.
-        if is_in_closure_of(self.front.id as usize) {
+        if is_in_closure_of(self.common.id as usize) {
             return;
         }
         // Of two threads that end the last two entries one sees that both have ended.
         fence(SeqCst);
-        if !self.front.has_none() {
+        if !self.common.has_none() {
             return;
         }
-        self.front.ends.wake_all();
-        if self.front.ends.is(ENDS_WHEN_EMPTY) {
+        self.common.ends.wake_all();
+        if self.common.ends.is(ENDS_WHEN_EMPTY) {
             lose(self.end_if_empty());
         }
     }
@@ -161,32 +161,32 @@ impl<T> Shared<T> {
     /// Ends the receivers where nothing waits. In a closure under a lock of the queue it doesn't: whoever has called that looks
     /// once more.
     fn end_if_empty(&self) -> thread::Result<()> {
-        if is_in_closure_of(self.front.id as usize) {
+        if is_in_closure_of(self.common.id as usize) {
             return Ok(());
         }
-        let deciding = self.front.ends.emptied();
-        if self.front.is_closed() {
+        let deciding = self.common.ends.emptied();
+        if self.common.is_closed() {
             return Ok(());
         }
-        self.front.ends.seal();
+        self.common.ends.seal();
         if !self.is_surely_empty() {
-            self.front.ends.unseal();
+            self.common.ends.unseal();
             return Ok(());
         }
-        let called = self.front.receivers.close();
+        let called = self.common.receivers.close();
         drop(deciding);
-        self.front.receivers.wake_each(called, self.front.tick_of_wake())
+        self.common.receivers.wake_each(called, self.common.tick_of_wake())
     }
 
     /// Whether no entry waits, told by the locks of all shards: each insert that takes one of them later sees what the caller did.
     fn is_surely_empty(&self) -> bool {
         self.locked().for_each(drop);
-        self.front.has_none()
+        self.common.has_none()
     }
 
     /// Waits until no entry waits, and tells whether none did before the time was over.
     pub fn wait_empty(&self, timeout: Duration) -> bool {
-        let (time, ends) = (&self.front.time, &self.front.ends);
+        let (time, ends) = (&self.common.time, &self.common.ends);
         // A moment that no clock reaches is waited for without end.
         let until = time.now().checked_add(timeout);
         ends.asked.fetch_add(1, SeqCst);
@@ -221,8 +221,8 @@ mod tests {
         let value = shared.lock(key.shard()).remove(&key).expect("it waits");
         queue.close_when_empty();
         let is_empty = queue.wait_empty(Duration::ZERO);
-        shared.front.uncount(1);
-        assert!(is_empty && shared.front.is_closed());
+        shared.common.uncount(1);
+        assert!(is_empty && shared.common.is_closed());
         assert_eq!((value.as_str(), queue.len()), ("last", 0));
     }
 
@@ -230,11 +230,11 @@ mod tests {
     #[test]
     fn an_insert_that_is_counted_and_comes_to_nothing_keeps_no_receiver() {
         let queue = DelayQueue::<String>::builder().max_entries(4).build();
-        let front = &queue.shared.front;
-        let counted = front.count_in();
+        let common = &queue.shared.common;
+        let counted = common.count_in();
         assert!(counted.is_some());
         queue.close_when_empty();
         drop(counted);
-        assert!(front.is_closed());
+        assert!(common.is_closed());
     }
 }

@@ -75,7 +75,7 @@ impl<T> Shared<T> {
 
     /// Makes room in a shard for an insert, unless another thread has.
     pub fn grow(&self, at: usize) -> Result<(), InsertErrorKind> {
-        let now = self.front.time.tick();
+        let now = self.common.time.tick();
         let mut clerk = self.makes.lock();
         let wanted = {
             let mut store = self.lock(at);
@@ -96,11 +96,11 @@ impl<T> Shared<T> {
     pub fn maintain(&self, at: usize) -> bool {
         for _ in 0..STEPS {
             // A program's clock isn't read under a lock.
-            let now = self.front.time.tick();
-            let cancels = self.front.seen[at].cancels();
+            let now = self.common.time.tick();
+            let cancels = self.common.seen[at].cancels();
             let mut store = self.lock(at);
             let work = store.work(now, cancels);
-            let woken = self.front.ring(store.end());
+            let woken = self.common.ring(store.end());
             woken.unwrap_or_else(|panic| resume_unwind(panic));
             match work {
                 Work::Fold(core) => self.fold(at, core),
@@ -127,7 +127,7 @@ impl<T> Shared<T> {
     fn make_ahead(&self, at: usize, now: u64) -> bool {
         let mut clerk = self.makes.lock();
         let wanted = {
-            let cancels = self.front.seen[at].cancels();
+            let cancels = self.common.seen[at].cancels();
             let mut store = self.lock(at);
             store.wanted(cancels).filter(|_| store.prepare(1).is_ok())
         };
@@ -143,30 +143,30 @@ impl<T> Shared<T> {
     /// Frees what was cancelled in a shard, by a bounded number of slots, and drops the values. Where a drop panics the entry
     /// that wants room isn't in yet, and no key of it is lost.
     pub fn free_cancelled(&self, at: usize) {
-        let cancels = self.front.seen[at].cancels();
+        let cancels = self.common.seen[at].cancels();
         (0..SWEEPS).all(|_| self.lock(at).sweep(cancels));
         self.drop_aside(at);
-        self.tidy();
+        self.drop_deferred();
     }
 
     /// A bounded part of what is done where nothing is due: cancelled entries are freed and their values dropped, and the shards
     /// brought to the right size.
-    pub fn use_quiet_moment(&self) {
-        if !self.front.seen.iter().all(Seen::is_quiet) {
+    pub fn maintain_all(&self) {
+        if !self.common.seen.iter().all(Seen::is_quiet) {
             self.bring_to_size();
         }
-        self.tidy();
+        self.drop_deferred();
     }
 
     /// Looks for cancelled entries in one of the shards, and brings each to the right size.
     #[cold]
     fn bring_to_size(&self) {
-        let count = self.front.seen.len();
-        let from = (self.front.time.tick() % count as u64) as usize;
+        let count = self.common.seen.len();
+        let from = (self.common.time.tick() % count as u64) as usize;
         let mut is_swept = false;
         for at in (from..count).chain(0..from) {
             let mut store = self.lock(at);
-            is_swept = is_swept || store.sweep(self.front.seen[at].cancels());
+            is_swept = is_swept || store.sweep(self.common.seen[at].cancels());
             let is_busy = store.is_busy();
             drop(store);
             if is_busy {
@@ -177,11 +177,11 @@ impl<T> Shared<T> {
 
     /// Makes room for so many entries, and keeps it.
     pub fn reserve(&self, entries: usize) -> Result<(), InsertErrorKind> {
-        let shards = self.front.seen.len();
-        if entries > self.front.most.min(shards * CORES * CAPACITY_LIMIT) {
+        let shards = self.common.seen.len();
+        if entries > self.common.most.min(shards * CORES * CAPACITY_LIMIT) {
             return Err(InsertErrorKind::Full);
         }
-        let (share, now) = (parts(entries, shards), self.front.time.tick());
+        let (share, now) = (parts(entries, shards), self.common.time.tick());
         let mut clerk = self.makes.lock();
         let mut made = Vec::new();
         let reserved = (0..shards)
@@ -210,7 +210,7 @@ impl<T> Shared<T> {
     /// Makes places in the directory for so many words more.
     fn make_places(&self, clerk: &Clerk<OpenWords>, count: usize) -> Result<(), AllocError> {
         let given = clerk.given();
-        (0..count).try_for_each(|more| self.front.words.make_row(given.saturating_add(more as u32)))
+        (0..count).try_for_each(|more| self.common.words.make_row(given.saturating_add(more as u32)))
     }
 
     /// Makes cores until a shard has slots for so many entries once they are brought there. Those that are new have the numbers

@@ -1,7 +1,7 @@
 //! What reaches entries from elsewhere: a handle, which knows nothing of the values, and a guard of one entry.
 
+use crate::delay_queue::common::{Common, Step};
 use crate::delay_queue::errors::KeyError;
-use crate::delay_queue::front::{Front, Step};
 use crate::delay_queue::key::Key;
 use crate::delay_queue::shared::{Shared, Steps};
 use std::fmt;
@@ -15,7 +15,7 @@ use std::time::{Duration, Instant};
 /// entry that the queue had.
 #[derive(Clone)]
 pub struct Handle {
-    front: Arc<Front>,
+    common: Arc<Common>,
     queue: Weak<dyn Steps>,
 }
 
@@ -23,18 +23,18 @@ impl Handle {
     pub(crate) fn new<T: Send + 'static>(shared: &Arc<Shared<T>>) -> Handle {
         let queue: Weak<Shared<T>> = Arc::downgrade(shared);
         Handle {
-            front: Arc::clone(&shared.front),
+            common: Arc::clone(&shared.common),
             queue,
         }
     }
 
     #[inline]
     fn tick_of(&self, key: &Key, step: Step) -> Result<u64, KeyError> {
-        if self.front.ends.is_over() {
+        if self.common.ends.is_over() {
             return Err(KeyError::Closed);
         }
         let slowly = || self.queue()?.slow_step(key, step);
-        self.front.step(key, step, slowly, || {
+        self.common.step(key, step, slowly, || {
             self.queue().iter().for_each(|queue| queue.note_end())
         })
     }
@@ -44,7 +44,7 @@ impl Handle {
     }
 
     fn step(&self, key: &Key, step: Step) -> Result<Instant, KeyError> {
-        Ok(self.front.time.moment(self.tick_of(key, step)?))
+        Ok(self.common.time.moment(self.tick_of(key, step)?))
     }
 
     /// Raises the deadline of an entry to `after` from now, and returns the deadline that is then in force: that one, or a
@@ -58,7 +58,7 @@ impl Handle {
     /// - `TooFar` if the deadline is more than 139 years after the queue was made.
     /// - `Ended` if the entry came out, or was removed, cancelled, drained or cleared.
     pub fn extend(&self, key: &Key, after: Duration) -> Result<Instant, KeyError> {
-        self.step(key, Step::Extend(self.front.time.tick_in(after)))
+        self.step(key, Step::Extend(self.common.time.tick_in(after)))
     }
 
     /// Raises the deadline of an entry to `when`, and returns the deadline that is then in force: that one, or a later one
@@ -71,9 +71,9 @@ impl Handle {
     /// - `TooFar` if the deadline is more than 139 years after the queue was made.
     /// - `Ended` if the entry came out, or was removed, cancelled, drained or cleared.
     pub fn extend_at(&self, key: &Key, when: Instant) -> Result<Instant, KeyError> {
-        let rounded = self.front.time.rounded(when);
+        let rounded = self.common.time.rounded(when);
         let deadline = self.tick_of(key, Step::Extend(rounded.0))?;
-        Ok(self.front.time.moment_beside(deadline, rounded))
+        Ok(self.common.time.moment_beside(deadline, rounded))
     }
 
     /// Cancels an entry, so that it won't come out, and returns the deadline that it gave up. Its value is dropped later, by
@@ -129,7 +129,7 @@ impl Handle {
 impl fmt::Debug for Handle {
     fn fmt(&self, f: &mut fmt::Formatter<'_>) -> fmt::Result {
         f.debug_struct("Handle")
-            .field("queue", &self.front.id)
+            .field("queue", &self.common.id)
             .finish_non_exhaustive()
     }
 }
@@ -210,7 +210,7 @@ impl<T> Timeout<T> {
     /// ```
     pub fn reset(&mut self, after: Duration) -> Result<(), KeyError> {
         let shared = self.shared()?;
-        self.key = shared.reset(&self.key, shared.front.time.tick_in(after))?;
+        self.key = shared.reset(&self.key, shared.common.time.tick_in(after))?;
         Ok(())
     }
 
@@ -224,7 +224,7 @@ impl<T> Timeout<T> {
     /// - `NoMemory` if the entry's slot is worn, the shard has no room, and memory is refused.
     pub fn reset_at(&mut self, when: Instant) -> Result<(), KeyError> {
         let shared = self.shared()?;
-        self.key = shared.reset(&self.key, shared.front.time.tick_at(when))?;
+        self.key = shared.reset(&self.key, shared.common.time.tick_at(when))?;
         Ok(())
     }
 
@@ -258,7 +258,7 @@ impl<T> Drop for Timeout<T> {
         // The value is dropped here: what it holds, such as a socket, is wanted no longer.
         if let Some(shared) = &self.shared {
             let removed = shared.remove(&self.key);
-            let _ = removed.map(|value| shared.let_go.drop_value(value));
+            let _ = removed.map(|value| shared.deferred.drop_value(value));
         }
     }
 }

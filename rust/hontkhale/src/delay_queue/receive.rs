@@ -35,7 +35,7 @@ struct Place<'q, T> {
 
 impl<T> Drop for Place<'_, T> {
     fn drop(&mut self) {
-        self.shared.front.leave(&mut self.seat);
+        self.shared.common.leave(&mut self.seat);
     }
 }
 
@@ -48,7 +48,7 @@ impl<T> Shared<T> {
         mut take: impl FnMut() -> Option<R>,
     ) -> Result<R, RecvTimeoutError> {
         loop {
-            self.tidy();
+            self.drop_deferred();
             if let Some(taken) = take() {
                 return Ok(taken);
             }
@@ -56,7 +56,7 @@ impl<T> Shared<T> {
                 // What was put in before a close, or was due in time, comes out.
                 return self.taken_last(take).ok_or(over);
             }
-            self.use_quiet_moment();
+            self.maintain_all();
             if let Some(taken) = self.wait_in_line(until, &mut take) {
                 return Ok(taken);
             }
@@ -68,17 +68,17 @@ impl<T> Shared<T> {
     fn taken_last<R>(&self, mut take: impl FnMut() -> Option<R>) -> Option<R> {
         let taken = take();
         if taken.is_none() {
-            self.tidy();
+            self.drop_deferred();
         }
         taken
     }
 
     /// Why a wait is over, where it is.
     fn over(&self, until: Option<Instant>) -> Option<RecvTimeoutError> {
-        if self.front.is_closed() {
+        if self.common.is_closed() {
             return Some(RecvTimeoutError::Closed);
         }
-        let is_late = until.is_some_and(|until| until <= self.front.time.now());
+        let is_late = until.is_some_and(|until| until <= self.common.time.now());
         is_late.then_some(RecvTimeoutError::Timeout)
     }
 
@@ -90,11 +90,11 @@ impl<T> Shared<T> {
         };
         loop {
             let thread = Wakes::Thread(thread::current());
-            if let Some(tick) = self.front.sleep(&mut place.seat, thread) {
-                self.park(self.front.time.moment_of(tick).into_iter().chain(until).min());
+            if let Some(tick) = self.common.sleep(&mut place.seat, thread) {
+                self.park(self.common.time.moment_of(tick).into_iter().chain(until).min());
             }
             let taken = take();
-            if taken.is_some() || !self.is_tidy() || self.over(until).is_some() {
+            if taken.is_some() || !self.has_no_deferred() || self.over(until).is_some() {
                 return taken;
             }
         }
@@ -105,10 +105,10 @@ impl<T> Shared<T> {
         let Some(when) = until else {
             return thread::park();
         };
-        match self.front.time.sleep_until(when) {
+        match self.common.time.sleep_until(when) {
             Some(length) => thread::park_timeout(length),
             // Whoever advances the clock after this look wakes all that sleep.
-            None if self.front.time.now() < when => thread::park(),
+            None if self.common.time.now() < when => thread::park(),
             None => {}
         }
     }
@@ -117,8 +117,8 @@ impl<T> Shared<T> {
     #[inline(always)]
     fn most_due(&self, now: u64) -> Option<usize> {
         let mut first = (now.saturating_add(1), None);
-        for at in 0..self.front.seen.len() {
-            let hint = self.front.hint(at);
+        for at in 0..self.common.seen.len() {
+            let hint = self.common.hint(at);
             if hint < first.0 {
                 first = (hint, Some(at));
             }
@@ -128,8 +128,8 @@ impl<T> Shared<T> {
 
     /// Takes an entry out that is due, by a poll that is a whole one of cores of at most so many entries.
     #[inline(always)]
-    pub fn take_step(&self, whole: usize) -> Step<T> {
-        let now = self.front.time.tick();
+    pub fn try_poll(&self, whole: usize) -> Step<T> {
+        let now = self.common.time.tick();
         let Some(at) = self.most_due(now) else {
             return Step::Rests;
         };
@@ -142,7 +142,7 @@ impl<T> Shared<T> {
         self.leave(store, 1);
         Step::Took(Expired {
             key,
-            deadline: self.front.time.moment(deadline),
+            deadline: self.common.time.moment(deadline),
             value,
         })
     }
@@ -150,7 +150,7 @@ impl<T> Shared<T> {
     /// An entry that is due.
     pub fn take_one(&self) -> Option<Expired<T>> {
         loop {
-            match self.take_step(POLLED_WHOLE) {
+            match self.try_poll(POLLED_WHOLE) {
                 Step::Took(out) => return Some(out),
                 Step::Works => {}
                 Step::Rests => return None,
@@ -160,7 +160,7 @@ impl<T> Shared<T> {
 
     /// Takes entries that are due, at most so many, and tells how many; none where none is.
     fn take_some(&self, row: &mut Vec<Expired<T>>, most: usize) -> Option<usize> {
-        let now = self.front.time.tick();
+        let now = self.common.time.tick();
         let before = row.len();
         while row.len() - before < most {
             let Some(at) = self.most_due(now) else {
@@ -177,7 +177,7 @@ impl<T> Shared<T> {
                 match store.poll(now, is_whole) {
                     Polled::Out(key, tick, value) => {
                         is_next = false;
-                        let deadline = self.front.time.moment(tick);
+                        let deadline = self.common.time.moment(tick);
                         row.push(Expired { key, deadline, value });
                     }
                     // Another core is next. The lock is kept for one that has nothing to give, while few cancelled entries were
@@ -202,7 +202,7 @@ impl<T> Shared<T> {
 
     pub fn receive_within(&self, timeout: Duration) -> Result<Expired<T>, RecvTimeoutError> {
         // A moment that no clock reaches is waited for without end.
-        self.wait_for(self.front.time.now().checked_add(timeout), || self.take_one())
+        self.wait_for(self.common.time.now().checked_add(timeout), || self.take_one())
     }
 
     pub fn receive_until(&self, when: Instant) -> Result<Expired<T>, RecvTimeoutError> {
@@ -217,7 +217,7 @@ impl<T> Shared<T> {
     }
 
     pub fn try_receive(&self) -> Result<Expired<T>, TryRecvError> {
-        self.tidy();
+        self.drop_deferred();
         self.take_one()
             .map_or_else(|| self.nothing_taken(|| self.take_one()), Ok)
     }
@@ -226,7 +226,7 @@ impl<T> Shared<T> {
         if most == 0 {
             return Ok(0);
         }
-        self.tidy();
+        self.drop_deferred();
         self.take_some(row, most)
             .map_or_else(|| self.nothing_taken(|| self.take_some(row, most)), Ok)
     }
@@ -234,8 +234,8 @@ impl<T> Shared<T> {
     /// Why nothing is taken where nothing was due; or what was put in since, just before a close.
     fn nothing_taken<R>(&self, take: impl FnOnce() -> Option<R>) -> Result<R, TryRecvError> {
         // What was freed is dropped while nothing is in hand.
-        self.use_quiet_moment();
-        if self.front.is_closed() {
+        self.maintain_all();
+        if self.common.is_closed() {
             take().ok_or(TryRecvError::Closed)
         } else {
             Err(TryRecvError::Empty)
@@ -318,7 +318,7 @@ impl<'q, T> Drain<'q, T> {
 
     /// The next live entry on the way through the shards.
     fn next_on_the_way(&mut self) -> Option<(Key, Instant, T)> {
-        while self.at < self.shared.front.seen.len() {
+        while self.at < self.shared.common.seen.len() {
             let mut store = self.shared.lock(self.at);
             let moved = *self.moved.get_or_insert(store.counts.moved);
             let polled = store.take_next(&mut self.way);
@@ -328,7 +328,7 @@ impl<'q, T> Drain<'q, T> {
             match polled {
                 Polled::Out(key, deadline, value) => {
                     self.shared.note_ended(1);
-                    return Some((key, self.shared.front.time.moment(deadline), value));
+                    return Some((key, self.shared.common.time.moment(deadline), value));
                 }
                 Polled::Works => {}
                 Polled::Rests => {
@@ -347,10 +347,10 @@ impl<T> Iterator for Drain<'_, T> {
 
     fn next(&mut self) -> Option<(Key, Instant, T)> {
         // What was cancelled is dropped while nothing is in hand.
-        self.shared.tidy();
+        self.shared.drop_deferred();
         let taken = self.next_on_the_way();
         if taken.is_none() {
-            self.shared.tidy();
+            self.shared.drop_deferred();
         }
         taken
     }
@@ -392,7 +392,7 @@ mod tests {
             fn drop(&mut self) {
                 assert!(self.0.try_recv().is_err() && self.0.try_recv().is_err());
                 self.0
-                    .insert(self.0.shared.is_tidy().to_string(), Duration::ZERO)
+                    .insert(self.0.shared.has_no_deferred().to_string(), Duration::ZERO)
                     .expect("room");
             }
         }

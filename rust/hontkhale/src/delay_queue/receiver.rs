@@ -163,24 +163,24 @@ impl<T> Receiver<T> {
         self.wake_at = None;
         for _ in 0..TURNS {
             let shared = &self.shared;
-            shared.tidy();
+            shared.drop_deferred();
             // It is asked first: what was put in before a close comes out.
-            let is_closed = shared.front.is_closed();
-            match shared.take_step(0) {
+            let is_closed = shared.common.is_closed();
+            match shared.try_poll(0) {
                 Step::Took(expired) => {
-                    shared.front.leave(&mut self.seat);
+                    shared.common.leave(&mut self.seat);
                     return Poll::Ready(Some(expired));
                 }
                 Step::Works => {}
                 // What the step freed is dropped first.
-                Step::Rests if !shared.is_tidy() => {}
+                Step::Rests if !shared.has_no_deferred() => {}
                 Step::Rests if is_closed => {
-                    shared.front.leave(&mut self.seat);
+                    shared.common.leave(&mut self.seat);
                     return Poll::Ready(None);
                 }
                 Step::Rests => {
                     if let Some(tick) = self.sleep(cx.waker()) {
-                        self.wake_at = self.shared.front.time.moment_of(tick);
+                        self.wake_at = self.shared.common.time.moment_of(tick);
                         return Poll::Pending;
                     }
                 }
@@ -193,11 +193,11 @@ impl<T> Receiver<T> {
     /// Sleeps in line, at most until the tick that it tells; none where something came meanwhile.
     fn sleep(&mut self, waker: &Waker) -> Option<u64> {
         let shared = &self.shared;
-        shared.use_quiet_moment();
-        if shared.front.least_hint() <= shared.front.time.tick() {
+        shared.maintain_all();
+        if shared.common.least_hint() <= shared.common.time.tick() {
             return None;
         }
-        shared.front.sleep(&mut self.seat, Wakes::Task(waker.clone()))
+        shared.common.sleep(&mut self.seat, Wakes::Task(waker.clone()))
     }
 
     /// When the task is to poll again, unless it is woken before; none where only an insert or a close is waited for, or the
@@ -221,14 +221,14 @@ impl<T> Clone for Receiver<T> {
 
 impl<T> Drop for Receiver<T> {
     fn drop(&mut self) {
-        self.shared.front.leave(&mut self.seat);
+        self.shared.common.leave(&mut self.seat);
     }
 }
 
 impl<T> fmt::Debug for Receiver<T> {
     fn fmt(&self, f: &mut fmt::Formatter<'_>) -> fmt::Result {
         f.debug_struct("Receiver")
-            .field("len", &self.shared.front.waiting())
+            .field("len", &self.shared.common.waiting())
             .field("wake_at", &self.wake_at)
             .finish_non_exhaustive()
     }

@@ -9,8 +9,8 @@
 //!    clock.
 
 use crate::bell::{Hint, Rung};
-use crate::delay_queue::dropping::LetGo;
-use crate::delay_queue::front::Front;
+use crate::delay_queue::common::Common;
+use crate::delay_queue::dropping::DeferredDrops;
 use crate::delay_queue::store::ShardStore;
 use crate::delay_queue::waking::lose;
 use crate::locks::MutexGuard;
@@ -45,8 +45,8 @@ pub(crate) struct Locked<'s, T> {
     /// None once the lock is let go.
     shard: Option<MutexGuard<'s, Shard<T>>>,
     seen: &'s Seen,
-    let_go: &'s LetGo<T>,
-    front: &'s Front,
+    deferred: &'s DeferredDrops<T>,
+    common: &'s Common,
 }
 
 impl Seen {
@@ -100,14 +100,14 @@ impl<'s, T> Locked<'s, T> {
     pub fn new(
         shard: MutexGuard<'s, Shard<T>>,
         seen: &'s Seen,
-        let_go: &'s LetGo<T>,
-        front: &'s Front,
+        deferred: &'s DeferredDrops<T>,
+        common: &'s Common,
     ) -> Locked<'s, T> {
         Locked {
             shard: Some(shard),
             seen,
-            let_go,
-            front,
+            deferred,
+            common,
         }
     }
 
@@ -128,7 +128,7 @@ impl<'s, T> Locked<'s, T> {
         };
         let Shard { store, hint } = &mut *shard;
         if store.may_have_aside {
-            note_aside(store, self.let_go);
+            note_aside(store, self.deferred);
         }
         let rung = if hint.tick() == store.hint {
             Rung::Nobody
@@ -146,10 +146,10 @@ impl<'s, T> Locked<'s, T> {
 
 /// Notes whether values are set aside, and counts the places where some are.
 #[cold]
-fn note_aside<T>(store: &mut ShardStore<T>, let_go: &LetGo<T>) {
+fn note_aside<T>(store: &mut ShardStore<T>, deferred: &DeferredDrops<T>) {
     match store.note_aside() {
-        (false, true) => let_go.count_place(),
-        (true, false) => let_go.uncount_place(),
+        (false, true) => deferred.count_place(),
+        (true, false) => deferred.uncount_place(),
         _ => {}
     }
 }
@@ -159,7 +159,7 @@ impl<T> Drop for Locked<'_, T> {
     #[inline(always)]
     fn drop(&mut self) {
         let rung = self.release();
-        lose(self.front.ring(rung));
+        lose(self.common.ring(rung));
     }
 }
 

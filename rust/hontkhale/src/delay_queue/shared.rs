@@ -1,9 +1,9 @@
 //! What the clones of a queue share: its shards, and the calls on its entries.
 
 use crate::bell::Hint;
-use crate::delay_queue::dropping::LetGo;
+use crate::delay_queue::common::{route, Common, Counted, Step};
+use crate::delay_queue::dropping::DeferredDrops;
 use crate::delay_queue::errors::{InsertErrorKind, KeyError};
-use crate::delay_queue::front::{route, Counted, Front, Step};
 use crate::delay_queue::key::Key;
 use crate::delay_queue::shard::{Locked, Shard};
 use crate::delay_queue::store::ShardStore;
@@ -19,13 +19,13 @@ use std::sync::Arc;
 use std::time::{Duration, Instant};
 
 pub(crate) struct Shared<T> {
-    pub front: Arc<Front>,
+    pub common: Arc<Common>,
     shards: Box<[Mutex<Shard<T>>]>,
     /// Who gives the cores their numbers, held while one is made.
     pub makes: Mutex<Clerk<OpenWords>>,
     /// After how many inserts and resets a slot is worn.
     pub last_stamp: u32,
-    pub let_go: LetGo<T>,
+    pub deferred: DeferredDrops<T>,
 }
 
 /// What a handle asks of a queue whose values it doesn't know.
@@ -63,7 +63,7 @@ impl<T> Drop for Lends<'_, T> {
     /// What the closure ended may have been the last entry.
     #[inline]
     fn drop(&mut self) {
-        if self.0.front.ends.is_asked() {
+        if self.0.common.ends.is_asked() {
             self.0.note_end();
         }
     }
@@ -72,23 +72,28 @@ impl<T> Drop for Lends<'_, T> {
 /// The shards.
 impl<T> Shared<T> {
     /// Each shard writes one of the hints.
-    pub fn new(front: Arc<Front>, hints: Vec<Hint>, clerk: Clerk<OpenWords>, last_stamp: u32) -> Shared<T> {
+    pub fn new(common: Arc<Common>, hints: Vec<Hint>, clerk: Clerk<OpenWords>, last_stamp: u32) -> Shared<T> {
         let shard = |(at, hint)| {
-            let store = ShardStore::new(front.id, at);
+            let store = ShardStore::new(common.id, at);
             Mutex::new(Shard { store, hint })
         };
         Shared {
             shards: hints.into_iter().enumerate().map(shard).collect(),
-            front,
+            common,
             makes: Mutex::new(clerk),
             last_stamp,
-            let_go: LetGo::new(),
+            deferred: DeferredDrops::new(),
         }
     }
 
     #[inline(always)]
     pub fn lock(&self, at: usize) -> Locked<'_, T> {
-        Locked::new(self.shards[at].lock(), &self.front.seen[at], &self.let_go, &self.front)
+        Locked::new(
+            self.shards[at].lock(),
+            &self.common.seen[at],
+            &self.deferred,
+            &self.common,
+        )
     }
 
     /// The shards, each while its lock is held.
@@ -101,7 +106,7 @@ impl<T> Shared<T> {
     #[inline(always)]
     pub fn leave(&self, store: Locked<'_, T>, ended: usize) {
         let (at, has_work) = (store.at, store.sizing.has_work());
-        let woken = self.front.ring(store.end());
+        let woken = self.common.ring(store.end());
         if ended > 0 {
             self.note_ended(ended);
             lose(woken);
@@ -120,7 +125,7 @@ impl<T> Shared<T> {
     /// The shard of a key of this queue.
     #[inline(always)]
     fn lock_of(&self, key: &Key) -> Result<Locked<'_, T>, KeyError> {
-        if key.queue() != self.front.id {
+        if key.queue() != self.common.id {
             return Err(KeyError::WrongQueue);
         }
         Ok(self.lock(key.shard()))
@@ -149,7 +154,7 @@ impl<T> Shared<T> {
         let key = store.insert_with(make, tick);
         mem::forget(counted);
         self.is_in(store, key).map_err(|value| {
-            self.let_go.drop_value(value);
+            self.deferred.drop_value(value);
             InsertErrorKind::Closed
         })
     }
@@ -160,10 +165,10 @@ impl<T> Shared<T> {
         if tick > LAST_TICK {
             return Err(InsertErrorKind::TooFar);
         }
-        if self.front.ends.refuses() {
+        if self.common.ends.refuses() {
             return Err(InsertErrorKind::Closed);
         }
-        let counted = self.front.count_in().ok_or(InsertErrorKind::Full)?;
+        let counted = self.common.count_in().ok_or(InsertErrorKind::Full)?;
         let at = route() % self.shards.len();
         let mut store = self.lock(at);
         if !store.finds_room(false) {
@@ -177,14 +182,14 @@ impl<T> Shared<T> {
     /// memory is kept, each slot is used first.
     #[cold]
     fn made_room(&self, at: usize) -> Result<Locked<'_, T>, InsertErrorKind> {
-        let mut is_tidy = false;
+        let mut has_freed = false;
         loop {
             if self.lock(at).sizing.is_kept() {
                 if let Some(store) = self.any_room(at) {
                     return Ok(store);
                 }
             }
-            if let Err(kind) = self.make_room(at, &mut is_tidy) {
+            if let Err(kind) = self.make_room(at, &mut has_freed) {
                 if kind == InsertErrorKind::Full {
                     // Another shard may have fewer cores.
                     let mut others = (0..self.shards.len()).filter(|other| *other != at);
@@ -208,8 +213,8 @@ impl<T> Shared<T> {
     }
 
     /// Makes room in a shard: first where there are slots, and then in a new core.
-    fn make_room(&self, at: usize, is_tidy: &mut bool) -> Result<(), InsertErrorKind> {
-        if !mem::replace(is_tidy, true) && self.front.seen[at].cancels() > 0 {
+    fn make_room(&self, at: usize, has_freed: &mut bool) -> Result<(), InsertErrorKind> {
+        if !mem::replace(has_freed, true) && self.common.seen[at].cancels() > 0 {
             self.free_cancelled(at);
             return Ok(());
         }
@@ -221,7 +226,7 @@ impl<T> Shared<T> {
     fn is_in(&self, store: Locked<'_, T>, key: Key) -> Result<Key, T> {
         // A waker that panics takes the key along, but not the entry.
         self.leave(store, 0);
-        if self.front.ends.is_sealed() {
+        if self.common.ends.is_sealed() {
             if let Some(value) = self.take_back(key) {
                 return Err(value);
             }
@@ -241,7 +246,7 @@ impl<T> Shared<T> {
 impl<T> Shared<T> {
     #[inline(always)]
     pub fn step(&self, key: &Key, step: Step) -> Result<u64, KeyError> {
-        self.front
+        self.common
             .step(key, step, || self.step_slowly(key, step), || self.note_end())
     }
 
@@ -249,19 +254,19 @@ impl<T> Shared<T> {
     #[inline(always)]
     pub fn step_to_moment(&self, key: &Key, step: Step) -> Result<Instant, KeyError> {
         let deadline = self.step(key, step)?;
-        Ok(self.front.time.moment(deadline))
+        Ok(self.common.time.moment(deadline))
     }
 
     #[inline(always)]
     pub fn extend(&self, key: &Key, after: Duration) -> Result<Instant, KeyError> {
-        self.step_to_moment(key, Step::Extend(self.front.time.tick_in(after)))
+        self.step_to_moment(key, Step::Extend(self.common.time.tick_in(after)))
     }
 
     #[inline(always)]
     pub fn extend_at(&self, key: &Key, when: Instant) -> Result<Instant, KeyError> {
-        let rounded = self.front.time.rounded(when);
+        let rounded = self.common.time.rounded(when);
         let deadline = self.step(key, Step::Extend(rounded.0))?;
-        Ok(self.front.time.moment_beside(deadline, rounded))
+        Ok(self.common.time.moment_beside(deadline, rounded))
     }
 
     /// A step under the shard's lock: the entry's stamp was changed by a reset, it was moved, or it has ended.
@@ -271,7 +276,7 @@ impl<T> Shared<T> {
         if matches!(step, Step::Extend(tick) if tick > LAST_TICK) {
             return Err(KeyError::TooFar);
         }
-        store.step(key, step, &self.front.words)
+        store.step(key, step, &self.common.words)
     }
 
     /// What a program's closure makes of a live entry's value, under its shard's lock and no other one.
@@ -285,7 +290,7 @@ impl<T> Shared<T> {
     /// lock. It is inlined as the insert is.
     #[inline(always)]
     pub fn reset(&self, key: &Key, tick: u64) -> Result<Key, KeyError> {
-        match self.front.is_later(key, tick) {
+        match self.common.is_later(key, tick) {
             true => Ok(*key),
             false => self.reset_under_lock(key, tick),
         }
@@ -296,25 +301,25 @@ impl<T> Shared<T> {
         if tick > LAST_TICK {
             return Err(KeyError::TooFar);
         }
-        let mut is_tidy = false;
+        let mut has_freed = false;
         loop {
             let (renamed, beside) = store.reset(key, tick);
             let lacks_room = store.lacks_room(&renamed);
-            let woken = self.front.ring(store.end());
+            let woken = self.common.ring(store.end());
             if let Some(value) = beside {
-                self.let_go.drop_value(value);
+                self.deferred.drop_value(value);
             }
             woken.unwrap_or_else(|panic| resume_unwind(panic));
             match renamed {
-                Err(_) if lacks_room => store = self.room_for_a_move(key, &mut is_tidy)?,
+                Err(_) if lacks_room => store = self.room_for_a_move(key, &mut has_freed)?,
                 renamed => return renamed,
             }
         }
     }
 
     /// Makes room for an entry that is moved.
-    fn room_for_a_move(&self, key: &Key, is_tidy: &mut bool) -> Result<Locked<'_, T>, KeyError> {
-        self.make_room(key.shard(), is_tidy).map_err(|_| KeyError::NoMemory)?;
+    fn room_for_a_move(&self, key: &Key, has_freed: &mut bool) -> Result<Locked<'_, T>, KeyError> {
+        self.make_room(key.shard(), has_freed).map_err(|_| KeyError::NoMemory)?;
         Ok(self.lock(key.shard()))
     }
 
@@ -329,19 +334,19 @@ impl<T> Shared<T> {
 
     /// Takes a live entry out where its deadline isn't after the present tick.
     pub fn remove_if_due(&self, key: &Key) -> Result<Option<T>, KeyError> {
-        let now = self.front.time.tick();
+        let now = self.common.time.tick();
         if self.step(key, Step::Look)? > now {
             return Ok(None);
         }
         let mut store = self.lock_of(key)?;
-        let mut is_tidy = false;
+        let mut has_freed = false;
         loop {
             let ended = store.remove_if_due(key, now);
             let lacks_room = store.lacks_room(&ended);
             let taken = matches!(ended, Ok(Some(_)));
             self.leave(store, usize::from(taken));
             match ended {
-                Err(_) if lacks_room => store = self.room_for_a_move(key, &mut is_tidy)?,
+                Err(_) if lacks_room => store = self.room_for_a_move(key, &mut has_freed)?,
                 ended => return ended,
             }
         }
@@ -351,21 +356,21 @@ impl<T> Shared<T> {
 impl<T> Shared<T> {
     /// Drops the values that were let go and that nobody dropped yet. No lock is held meanwhile.
     #[inline]
-    pub fn tidy(&self) {
-        if self.let_go.has_values() {
+    pub fn drop_deferred(&self) {
+        if self.deferred.has_values() {
             self.drop_all();
         }
     }
 
     #[cold]
     fn drop_all(&self) {
-        self.let_go.drop_all();
+        self.deferred.drop_all();
         (0..self.shards.len()).for_each(|at| self.drop_aside(at));
     }
 
     /// Whether there are no such values that this thread may drop now.
-    pub fn is_tidy(&self) -> bool {
-        !self.let_go.has_values() || self.let_go.is_dropping()
+    pub fn has_no_deferred(&self) -> bool {
+        !self.deferred.has_values() || self.deferred.is_dropping()
     }
 
     /// Drops the values that are set aside in a shard, each while the lock is free. Within a drop of the queue they are let go.
@@ -373,14 +378,14 @@ impl<T> Shared<T> {
         loop {
             let value = self.lock(at).take_aside();
             let Some(value) = value else { return };
-            self.let_go.drop_value(value);
+            self.deferred.drop_value(value);
         }
     }
 }
 
 impl<T> Drop for Shared<T> {
     fn drop(&mut self) {
-        self.front.ends.end();
+        self.common.ends.end();
     }
 }
 
@@ -397,7 +402,7 @@ mod tests {
     fn an_entry_that_comes_and_is_cancelled_meanwhile_hides_none_that_stays() {
         let queue = DelayQueue::builder().shards(2).build();
         queue.insert("stays".to_string(), FAR).expect("room");
-        let counted = queue.shared.front.waiting_while(|| {
+        let counted = queue.shared.common.waiting_while(|| {
             let key = queue.insert("comes and goes".to_string(), FAR).expect("room");
             queue.cancel(&key).expect("it waits");
         });

@@ -147,8 +147,8 @@ impl<T> Shared<T> {
     /// hint, so those of later hints aren't asked.
     pub fn first_filed_before(&self, end: u64) -> Option<u64> {
         let mut first = end;
-        for at in 0..self.front.seen.len() {
-            if self.front.hint(at) < first {
+        for at in 0..self.common.seen.len() {
+            if self.common.hint(at) < first {
                 first = self.lock(at).first_filed().map_or(first, |filed| filed.min(first));
             }
         }
@@ -156,7 +156,7 @@ impl<T> Shared<T> {
     }
 
     pub fn stats(&self) -> Stats {
-        let waiting = self.front.waiting();
+        let waiting = self.common.waiting();
         let mut sum = Counts::default();
         let (mut freed, mut memory) = (0, size_of::<Shared<T>>());
         for store in self.locked() {
@@ -164,8 +164,8 @@ impl<T> Shared<T> {
             freed += store.freed();
             memory += size_of::<Seen>() + size_of::<ShardStore<T>>() + store.memory();
         }
-        let cancels = self.front.seen.iter().map(Seen::cancels).sum::<u64>();
-        let now = self.front.time.tick();
+        let cancels = self.common.seen.iter().map(Seen::cancels).sum::<u64>();
+        let now = self.common.time.tick();
         let late = self.first_filed_before(now).map_or(0, |first| now - first);
         let mut lateness = sum.late;
         // Those that came out in time are counted nowhere else.
@@ -178,7 +178,7 @@ impl<T> Shared<T> {
             cancels,
             waiting,
             cancelled: cancels.saturating_sub(freed) as usize,
-            let_go: self.let_go.len(),
+            let_go: self.deferred.len(),
             memory,
             late: Duration::from_millis(late),
             latest: Duration::from_millis(sum.latest.max(late)),

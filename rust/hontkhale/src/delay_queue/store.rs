@@ -5,8 +5,8 @@
 
 use crate::bell::NEVER;
 use crate::core::{CallError, CoreError, DelayCore, Piece, Turn};
+use crate::delay_queue::common::Step;
 use crate::delay_queue::errors::{InsertErrorKind, KeyError};
-use crate::delay_queue::front::Step;
 use crate::delay_queue::key::Key;
 use crate::directory::Directory;
 use crate::growing::{Cores, Folds, Moved, NextDeadline, Sizing, Store};

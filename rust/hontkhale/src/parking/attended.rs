@@ -5,7 +5,7 @@
 //! and that one is woken once the lock is free.
 
 use crate::core::{CoreError, DelayCore, Expired, Piece, ReapError, Removed, Swept, Turn};
-use crate::parking::parked::{keep_until, Leaver, Parked, Until};
+use crate::parking::parked::{keep_until, Parked, PendingWake, Until};
 use crate::ticks::{EntryId, Key};
 use crate::words::{poll_into, Keeper, ManyTurn};
 use alloc::vec::Vec;
@@ -14,7 +14,7 @@ use alloc::vec::Vec;
 type Inserted<T> = Result<Key, (CoreError, T)>;
 
 /// A queue over words that callers share, and the poller that is parked there.
-pub struct Attended<T, N = u64> {
+pub struct WatchedCore<T, N = u64> {
     /// The queue.
     pub core: DelayCore<T, Keeper>,
     /// Who waits for it; none where nobody does.
@@ -28,18 +28,18 @@ pub struct Attended<T, N = u64> {
 /// Takes the poller out where it may not wait on, with the queue as it is now. Where none is parked, which is so in
 /// most calls, the next wake isn't asked for.
 #[inline(always)]
-pub fn keep_or_leave<T, N: Until>(core: &DelayCore<T, Keeper>, parked: &mut Option<Parked<N>>) -> Leaver<N> {
+pub fn keep_or_leave<T, N: Until>(core: &DelayCore<T, Keeper>, parked: &mut Option<Parked<N>>) -> PendingWake<N> {
     if parked.is_some() {
         keep_until(parked, core.next_wake())
     } else {
-        Leaver { poller: None }
+        PendingWake { poller: None }
     }
 }
 
-impl<T, N> Attended<T, N> {
+impl<T, N> WatchedCore<T, N> {
     /// A queue for which nobody waits.
-    pub fn new(core: DelayCore<T, Keeper>) -> Attended<T, N> {
-        Attended {
+    pub fn new(core: DelayCore<T, Keeper>) -> WatchedCore<T, N> {
+        WatchedCore {
             core,
             parked: None,
             is_dropping: false,
@@ -47,30 +47,30 @@ impl<T, N> Attended<T, N> {
     }
 }
 
-impl<T, N: Until> Attended<T, N> {
+impl<T, N: Until> WatchedCore<T, N> {
     /// Puts `value` in, to come out at `when` or at the queue's tick, and returns its key. If it is refused, the
     /// value comes back and nothing changes. Beside it comes who has left, and the value that waited for its drop in
     /// the entry's slot, which is to be dropped once the lock is free: none if it was taken out before.
     #[inline(always)]
-    pub fn insert(&mut self, value: T, when: u64) -> (Inserted<T>, Leaver<N>, Option<T>) {
+    pub fn insert(&mut self, value: T, when: u64) -> (Inserted<T>, PendingWake<N>, Option<T>) {
         // requires MayWait N.lasts self.old.core self.old.parked
         let (answer, crowded) = self.core.insert_deferring(value, when);
         match answer {
             Ok(key) => (Ok(key), keep_or_leave(&self.core, &mut self.parked), crowded),
-            Err(refused) => (Err(refused), Leaver { poller: None }, crowded),
+            Err(refused) => (Err(refused), PendingWake { poller: None }, crowded),
         }
     }
 
     /// Gives a live entry another deadline, and returns its new key, with who has left by it.
     #[inline(always)]
-    pub fn reset(&mut self, entry: &EntryId, when: u64) -> (Result<Key, CoreError>, Leaver<N>) {
+    pub fn reset(&mut self, entry: &EntryId, when: u64) -> (Result<Key, CoreError>, PendingWake<N>) {
         let answer = self.core.reset(entry, when);
         (answer, keep_or_leave(&self.core, &mut self.parked))
     }
 
     /// Takes a live entry out, and returns it, with who has left by it.
     #[inline(always)]
-    pub fn remove(&mut self, entry: &EntryId) -> (Result<Removed<T>, CoreError>, Leaver<N>) {
+    pub fn remove(&mut self, entry: &EntryId) -> (Result<Removed<T>, CoreError>, PendingWake<N>) {
         let answer = self.core.remove(entry);
         (answer, keep_or_leave(&self.core, &mut self.parked))
     }
@@ -78,14 +78,14 @@ impl<T, N: Until> Attended<T, N> {
     /// Notes a tick and takes one entry out that is due, or tells when to come again, with who has left by it. No
     /// value is dropped.
     #[inline(always)]
-    pub fn poll(&mut self, tick: u64) -> (Result<Turn<T>, CoreError>, Leaver<N>) {
+    pub fn poll(&mut self, tick: u64) -> (Result<Turn<T>, CoreError>, PendingWake<N>) {
         let answer = self.core.poll_deferring(tick);
         (answer, keep_or_leave(&self.core, &mut self.parked))
     }
 
     /// Notes a tick and does at most `most` steps of a poll, with who has left by it. No value is dropped.
     #[inline]
-    pub fn poll_some(&mut self, tick: u64, most: u32) -> (Result<Piece<T>, CoreError>, Leaver<N>) {
+    pub fn poll_some(&mut self, tick: u64, most: u32) -> (Result<Piece<T>, CoreError>, PendingWake<N>) {
         let answer = self.core.poll_some_deferring(tick, most);
         (answer, keep_or_leave(&self.core, &mut self.parked))
     }
@@ -104,38 +104,38 @@ impl<T, N: Until> Attended<T, N> {
     /// Notes a tick and appends what is due to `row`, as far as it has room, with who has left by it. No value is
     /// dropped.
     #[inline]
-    pub fn poll_many(&mut self, tick: u64, row: &mut Vec<Expired<T>>) -> (Result<ManyTurn, CoreError>, Leaver<N>) {
+    pub fn poll_many(&mut self, tick: u64, row: &mut Vec<Expired<T>>) -> (Result<ManyTurn, CoreError>, PendingWake<N>) {
         let answer = poll_into(&mut self.core, tick, row);
         (answer, keep_or_leave(&self.core, &mut self.parked))
     }
 
     /// Reaps all cancelled entries, and returns how many, with who has left by it. No value is dropped.
-    pub fn sweep(&mut self) -> (usize, Leaver<N>) {
+    pub fn sweep(&mut self) -> (usize, PendingWake<N>) {
         let reaped = self.core.sweep_deferring();
         (reaped, keep_or_leave(&self.core, &mut self.parked))
     }
 
     /// Reaps the cancelled entries at `count` slots from `from` on, with who has left by it. No value is dropped.
-    pub fn sweep_some(&mut self, from: usize, count: usize) -> (Swept, Leaver<N>) {
+    pub fn sweep_some(&mut self, from: usize, count: usize) -> (Swept, PendingWake<N>) {
         let swept = self.core.sweep_some_deferring(from, count);
         (swept, keep_or_leave(&self.core, &mut self.parked))
     }
 
     /// Reaps an entry if it was cancelled, with who has left by it. No value is dropped.
-    pub fn reap(&mut self, entry: &EntryId) -> (Result<(), ReapError>, Leaver<N>) {
+    pub fn reap(&mut self, entry: &EntryId) -> (Result<(), ReapError>, PendingWake<N>) {
         let answer = self.core.reap_deferring(entry);
         (answer, keep_or_leave(&self.core, &mut self.parked))
     }
 
     /// Takes all entries out, and returns how many live ones were removed, with who has left by it. No value is
     /// dropped.
-    pub fn clear(&mut self) -> (usize, Leaver<N>) {
+    pub fn clear(&mut self) -> (usize, PendingWake<N>) {
         let removed = self.core.clear_deferring();
         (removed, keep_or_leave(&self.core, &mut self.parked))
     }
 }
 
-impl<T, N> Attended<T, N> {
+impl<T, N> WatchedCore<T, N> {
     /// Takes out a value for a thread that drops it once the lock is free, and then calls again. `is_mine` is false at
     /// its first call, and tells whether it is at it. None where no more are set aside, and it is over; or where
     /// another thread is at it, or this one further up: it drops these too.

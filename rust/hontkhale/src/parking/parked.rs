@@ -77,16 +77,16 @@ pub fn let_sleep<N>(taken: Option<Parked<N>>) -> bool {
 /// A poller that has left its shard, if one has. It isn't `Drop`: whoever has it has to wake it, once the shard's lock
 /// is free.
 #[derive(Debug)]
-pub struct Leaver<N = u64> {
+pub struct PendingWake<N = u64> {
     /// The poller; none where none has left.
     pub poller: Option<Parked<N>>,
 }
 
-impl<N> Leaver<N> {
+impl<N> PendingWake<N> {
     /// Wakes its task.
     #[inline]
     pub fn wake(self) {
-        let Leaver { poller } = self;
+        let PendingWake { poller } = self;
         if let Some(poller) = poller {
             poller.waker.wake();
         }
@@ -99,22 +99,22 @@ impl<N> Leaver<N> {
 }
 
 /// Takes the poller out, if there is one.
-pub fn take<N>(parked: &mut Option<Parked<N>>) -> Leaver<N> {
-    Leaver { poller: parked.take() }
+pub fn take<N>(parked: &mut Option<Parked<N>>) -> PendingWake<N> {
+    PendingWake { poller: parked.take() }
 }
 
 /// Takes the poller out unless it may go on waiting at this next wake.
-pub fn keep_until<N: Until>(parked: &mut Option<Parked<N>>, next_wake: Option<u64>) -> Leaver<N> {
+pub fn keep_until<N: Until>(parked: &mut Option<Parked<N>>, next_wake: Option<u64>) -> PendingWake<N> {
     match parked {
         Some(poller) if !poller.next.lasts_until(next_wake) => take(parked),
-        _ => Leaver { poller: None },
+        _ => PendingWake { poller: None },
     }
 }
 
 /// Takes the poller out where its wait is over at a tick.
-pub fn ring<N: Until>(parked: &mut Option<Parked<N>>, tick: u64) -> Leaver<N> {
+pub fn ring<N: Until>(parked: &mut Option<Parked<N>>, tick: u64) -> PendingWake<N> {
     match parked {
         Some(poller) if poller.next.ends_by(tick) => take(parked),
-        _ => Leaver { poller: None },
+        _ => PendingWake { poller: None },
     }
 }

@@ -18,7 +18,7 @@ use crate::core::{CoreConfig, CoreError, DelayCore};
 use crate::index::nth;
 use crate::locks::{Mutex, MutexGuard};
 use crate::memory::{room_for, AllocError};
-use crate::parking::parked::{Leaver, Until};
+use crate::parking::parked::{PendingWake, Until};
 use crate::words::{locked_shards, Keeper};
 use alloc::vec::Vec;
 use core::hint::spin_loop;
@@ -55,10 +55,10 @@ pub trait Shard {
     /// Takes out the value that is set aside where the next insert's entry goes, if one is.
     fn take_crowded(&mut self) -> Option<Self::Value>;
 
-    /// Takes out a value for the thread that drops what is set aside, as `Attended::take_one`.
+    /// Takes out a value for the thread that drops what is set aside, as `WatchedCore::take_one`.
     fn take_one(&mut self, is_mine: &mut bool) -> Option<Self::Value>;
 
-    /// Ends the dropping before its time, as `Attended::end_dropping`.
+    /// Ends the dropping before its time, as `WatchedCore::end_dropping`.
     fn end_dropping(&mut self, is_mine: &mut bool);
 }
 
@@ -211,7 +211,7 @@ impl<S: Shard> Row<S> {
 /// Lets a shard's lock go, and then wakes who has left: whoever is woken may call the queue at once. Answers how many
 /// values are set aside.
 #[inline(always)]
-pub fn unlock<S: Shard>(shard: MutexGuard<'_, S>, leaver: Leaver<S::Next>) -> usize {
+pub fn unlock<S: Shard>(shard: MutexGuard<'_, S>, leaver: PendingWake<S::Next>) -> usize {
     let aside = shard.aside();
     drop(shard);
     leaver.wake();
@@ -239,7 +239,7 @@ impl<S: Shard> Row<S> {
     /// Ends a call on the shard at a place: lets its lock go, wakes who has left, and then drops what is set aside
     /// there. Where an entry came out nothing is dropped, since a drop that panics would lose it: a later call does so.
     #[inline(always)]
-    pub fn leave(&self, place: usize, shard: MutexGuard<'_, S>, leaver: Leaver<S::Next>, is_out: bool) {
+    pub fn leave(&self, place: usize, shard: MutexGuard<'_, S>, leaver: PendingWake<S::Next>, is_out: bool) {
         let aside = unlock(shard, leaver);
         if !is_out {
             self.drop_aside(place, aside);

@@ -7,7 +7,7 @@
 //! a value of it may be dropped, so the checker refuses a drop anywhere else.
 
 use crate::core::{CoreError, Expired, Piece, ReapError, Swept, Turn};
-use crate::parking::{unlock, Leaver, Row};
+use crate::parking::{unlock, PendingWake, Row};
 use crate::shards::errors::{QueueConfig, QueueError};
 use crate::shards::queue::SharedDelayQueue;
 use crate::shards::state::ShardState;
@@ -386,7 +386,7 @@ impl<T> SharedDelayQueue<T> {
         // requires F.IsAlwaysCallable f
         let mut locked = self.enter(shard)?;
         let answer = f(&mut locked);
-        self.row.leave(shard, locked, Leaver { poller: None }, false);
+        self.row.leave(shard, locked, PendingWake { poller: None }, false);
         Ok(answer)
     }
 }

@@ -1,7 +1,7 @@
 //! The value behind a shard's lock: a queue over shared words, and the poller that waits for it.
 
 use crate::core::{CoreError, DelayCore, Expired, Piece, ReapError, Removed, Swept, Turn};
-use crate::parking::{keep_or_leave, Attended};
+use crate::parking::{keep_or_leave, WatchedCore};
 use crate::ticks::{EntryId, Key};
 use crate::words::{Caller, Keeper, ManyTurn, WordsError};
 use alloc::vec::Vec;
@@ -18,13 +18,13 @@ use alloc::vec::Vec;
 /// until a call *reaps* it: its slot is free for another entry then, and its value is dropped.
 #[repr(align(64))]
 pub struct ShardState<T> {
-    pub(crate) attended: Attended<T, u64>,
+    pub(crate) attended: WatchedCore<T, u64>,
 }
 
 impl<T> From<DelayCore<T, Keeper>> for ShardState<T> {
     fn from(core: DelayCore<T, Keeper>) -> ShardState<T> {
         ShardState {
-            attended: Attended::new(core),
+            attended: WatchedCore::new(core),
         }
     }
 }

@@ -64,7 +64,7 @@ impl Step {
     }
 }
 
-pub(crate) struct Front {
+pub(crate) struct Common {
     /// The number that the queue's keys carry.
     pub id: u32,
     pub time: Time,
@@ -82,7 +82,7 @@ pub(crate) struct Front {
 }
 
 /// An entry that is counted though it isn't in.
-pub(crate) struct Counted<'a>(&'a Front);
+pub(crate) struct Counted<'a>(&'a Common);
 
 impl Drop for Counted<'_> {
     fn drop(&mut self) {
@@ -90,16 +90,16 @@ impl Drop for Counted<'_> {
     }
 }
 
-impl Front {
+impl Common {
     /// What the shards share, and the hints that they write.
     pub fn new(
         time: Time,
         most: usize,
         shards: usize,
         words: Directory<OpenWords>,
-    ) -> Result<(Front, Vec<Hint>), AllocError> {
+    ) -> Result<(Common, Vec<Hint>), AllocError> {
         let (receivers, written, hints) = Waiting::new(shards)?;
-        let front = Front {
+        let common = Common {
             id: NEXT_QUEUE.fetch_add(1, SeqCst),
             time,
             words,
@@ -110,7 +110,7 @@ impl Front {
             waiting: AtomicUsize::new(0),
             seen: (0..shards).map(|_| Seen::new()).collect(),
         };
-        Ok((front, written))
+        Ok((common, written))
     }
 
     /// A step by the words of an entry's first place, without a lock; none where the shard is to tell: after a reset the key has
