@@ -46,8 +46,9 @@ impl<T> Builder<T> {
     }
 
     /// How many entries may wait at most. An insert beyond is refused as
-    /// [`Full`](crate::delay_queue::InsertErrorKind::Full). An entry that is due counts until it comes out; one that was cancelled
-    /// doesn't count, nor does one that came out, though its receiver may still be at work with it. Without it a queue grows until it has 4 million entries a shard.
+    /// [`Full`](crate::delay_queue::InsertErrorKind::Full). An entry that is due counts until it comes out. One that was cancelled
+    /// doesn't count, nor does one that came out, though its receiver may still be at work with it. Without this call a queue grows
+    /// until it has 4 million entries a shard.
     pub fn max_entries(mut self, most: usize) -> Builder<T> {
         self.max_entries = most;
         self

@@ -44,15 +44,15 @@ fn end_within() {
 }
 
 /// Values of a queue that were let go within a drop of another one of its values. They are dropped after it.
-pub(crate) struct DeferredDrops<T> {
+pub(crate) struct DropQueue<T> {
     values: Mutex<Vec<T>>,
     /// In how many places values wait for their drop: here, and in the shards where some are set aside.
     places: AtomicUsize,
 }
 
-impl<T> DeferredDrops<T> {
-    pub fn new() -> DeferredDrops<T> {
-        DeferredDrops {
+impl<T> DropQueue<T> {
+    pub fn new() -> DropQueue<T> {
+        DropQueue {
             values: Mutex::default(),
             places: AtomicUsize::new(0),
         }
@@ -101,7 +101,7 @@ impl<T> DeferredDrops<T> {
 
     /// What tells the queue from others.
     pub fn address(&self) -> usize {
-        self as *const DeferredDrops<T> as usize
+        self as *const DropQueue<T> as usize
     }
 
     /// Whether the thread is within a drop of the queue.

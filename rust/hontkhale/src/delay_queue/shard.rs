@@ -10,7 +10,7 @@
 
 use crate::bell::{Hint, Rung};
 use crate::delay_queue::common::Common;
-use crate::delay_queue::dropping::DeferredDrops;
+use crate::delay_queue::dropping::DropQueue;
 use crate::delay_queue::store::ShardStore;
 use crate::delay_queue::waking::lose;
 use crate::locks::MutexGuard;
@@ -45,7 +45,7 @@ pub(crate) struct Locked<'s, T> {
     /// None once the lock is let go.
     shard: Option<MutexGuard<'s, Shard<T>>>,
     seen: &'s Seen,
-    deferred: &'s DeferredDrops<T>,
+    deferred: &'s DropQueue<T>,
     common: &'s Common,
 }
 
@@ -100,7 +100,7 @@ impl<'s, T> Locked<'s, T> {
     pub fn new(
         shard: MutexGuard<'s, Shard<T>>,
         seen: &'s Seen,
-        deferred: &'s DeferredDrops<T>,
+        deferred: &'s DropQueue<T>,
         common: &'s Common,
     ) -> Locked<'s, T> {
         Locked {
@@ -146,7 +146,7 @@ impl<'s, T> Locked<'s, T> {
 
 /// Notes whether values are set aside, and counts the places where some are.
 #[cold]
-fn note_aside<T>(store: &mut ShardStore<T>, deferred: &DeferredDrops<T>) {
+fn note_aside<T>(store: &mut ShardStore<T>, deferred: &DropQueue<T>) {
     match store.note_aside() {
         (false, true) => deferred.count_place(),
         (true, false) => deferred.uncount_place(),

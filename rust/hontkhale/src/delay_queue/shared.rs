@@ -2,7 +2,7 @@
 
 use crate::bell::Hint;
 use crate::delay_queue::common::{route, Common, Counted, Step};
-use crate::delay_queue::dropping::DeferredDrops;
+use crate::delay_queue::dropping::DropQueue;
 use crate::delay_queue::errors::{InsertErrorKind, KeyError};
 use crate::delay_queue::key::Key;
 use crate::delay_queue::shard::{Locked, Shard};
@@ -25,7 +25,7 @@ pub(crate) struct Shared<T> {
     pub makes: Mutex<Clerk<OpenWords>>,
     /// After how many inserts and resets a slot is worn.
     pub last_stamp: u32,
-    pub deferred: DeferredDrops<T>,
+    pub deferred: DropQueue<T>,
 }
 
 /// What a handle asks of a queue whose values it doesn't know.
@@ -82,7 +82,7 @@ impl<T> Shared<T> {
             common,
             makes: Mutex::new(clerk),
             last_stamp,
-            deferred: DeferredDrops::new(),
+            deferred: DropQueue::new(),
         }
     }
 
