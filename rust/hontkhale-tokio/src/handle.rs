@@ -10,10 +10,10 @@ use tokio::time::Instant;
 /// Extends and cancels the entries of one [`DelayQueue`](crate::DelayQueue) from any thread, while its owner inserts,
 /// polls, or waits. It serves entries that came after it, too, and may outlive its queue, whose entries have ended then.
 ///
-/// A call is a load and one atomic step. A lock is taken for an entry that was reset before the queue's first handle was made, or to a
-/// sooner deadline since, or that was moved. [`compact`](crate::DelayQueue::compact) and a worn slot move entries. So does a poll,
-/// if a handle extends the entry that [`peek`](crate::DelayQueue::peek) named just as the poll is about to give it. The owner holds
-/// that lock for the moment of such a call.
+/// A call is a load and one atomic step. A lock is taken for an entry that was reset before the queue's first handle was made, or
+/// to a sooner deadline since, or that was moved. [`compact`](crate::DelayQueue::compact) and a worn slot move entries. So does a
+/// poll, if a handle extends the entry that [`peek`](crate::DelayQueue::peek) named just as the poll is about to give it. The
+/// owner holds that lock for the moment of such a call.
 ///
 /// A handle that outlives its queue holds on to 8 bytes for each slot that the queue had.
 ///
@@ -52,8 +52,8 @@ impl Handle {
     }
 
     /// Raises the deadline of an entry to `timeout` from now, and returns the deadline that is then in force: that one, or
-    /// a later one that it had. No extend that was accepted is lost. An entry that is due and hasn't come out yet is put off, too. It
-    /// reads the clock, and makes one atomic step.
+    /// a later one that it had. No extend that was accepted is lost. An entry that is due and hasn't come out yet is put off,
+    /// too. It reads the clock, and makes one atomic step.
     ///
     /// # Errors
     /// In this order:

@@ -272,11 +272,11 @@ impl<IO> IdleTimeout<IO> {
         &mut self.io
     }
 
-    /// Gives another idle timeout, which begins now: [`Duration::MAX`], which never ends, while the client waits for the server, and a
-    /// shorter one before the server waits for the client again. A connection that has timed out stays so.
+    /// Gives another idle timeout, which begins now: [`Duration::MAX`], which never ends, while the client waits for the server,
+    /// and a shorter one before the server waits for the client again. A connection that has timed out stays so.
     ///
-    /// `after` is taken as [`wrap`](IdleTimeouts::wrap) takes it. It reads the clock, and takes the locks of two shards of the queue at
-    /// most, one after the other, each for constant time.
+    /// `after` is taken as [`wrap`](IdleTimeouts::wrap) takes it. It reads the clock, and takes the locks of two shards of the
+    /// queue at most, one after the other, each for constant time.
     ///
     /// # Panics
     /// If memory is refused, or as many connections are there as `wrap` takes. The connection has no timeout then.

@@ -15,7 +15,8 @@ pub(crate) const MOST_CORES: u32 = 1 << (u64::BITS - STAMP_BITS - SLOT_BITS);
 pub struct Key {
     /// The number of the queue, which no other queue of the program has.
     queue: u64,
-    /// Two numbers in all: a key that was just made is copied from two stores, and not from four, for which a wider load would wait.
+    /// Two numbers in all: a key that was just made is copied from two stores, and not from four, for which a wider load would
+    /// wait.
     name: Name,
 }
 

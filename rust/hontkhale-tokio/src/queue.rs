@@ -145,8 +145,8 @@ impl<T> DelayQueue<T> {
         self.fresh = Budget::of(steps);
     }
 
-    /// Puts a value in that comes out at `when`, or at once where `when` is over. The present millisecond may not be over by tokio's
-    /// timer: see [`poll_expired`](DelayQueue::poll_expired). Constant time, but that the queue may grow.
+    /// Puts a value in that comes out at `when`, or at once where `when` is over. The present millisecond may not be over by
+    /// tokio's timer: see [`poll_expired`](DelayQueue::poll_expired). Constant time, but that the queue may grow.
     ///
     /// # Panics
     /// If `when` is more than 139 years after the queue's making, if the queue would hold 2³² entries, or if memory is refused.
@@ -185,10 +185,10 @@ impl<T> DelayQueue<T> {
     /// - The [budget](DelayQueue::set_budget) is spent. The task is woken at once.
     /// - It was given 128 entries in a row, with no pending poll between them. The task is woken at once.
     ///
-    /// Whether the present millisecond is reached, tokio's timer decides, which rounds up to milliseconds of its runtime. So where a
-    /// running runtime's time is paused, by `tokio::time::pause()`, an entry for `Instant::now()` may be pending until the time is
-    /// advanced by a millisecond, as is tokio's `sleep_until(Instant::now())`. In a runtime that began with paused time, and went on by
-    /// whole milliseconds, it is ready.
+    /// Whether the present millisecond is reached, tokio's timer decides, which rounds up to milliseconds of its runtime. So
+    /// where a running runtime's time is paused, by `tokio::time::pause()`, an entry for `Instant::now()` may be pending until
+    /// the time is advanced by a millisecond, as is tokio's `sleep_until(Instant::now())`. In a runtime that began with paused
+    /// time, and went on by whole milliseconds, it is ready.
     pub fn poll_expired(&mut self, cx: &mut Context<'_>) -> Poll<Option<Expired<T>>> {
         if self.streak.is_over() {
             return self.end_streak(cx);
@@ -432,9 +432,9 @@ impl<T> DelayQueue<T> {
         out
     }
 
-    /// Gives an entry another deadline, earlier or later, under the same key. An entry that is due and hasn't come out yet is put off,
-    /// too. By a moment of the present millisecond the entry may be pending yet: see [`poll_expired`](DelayQueue::poll_expired).
-    /// Constant time.
+    /// Gives an entry another deadline, earlier or later, under the same key. An entry that is due and hasn't come out yet is put
+    /// off, too. By a moment of the present millisecond the entry may be pending yet: see
+    /// [`poll_expired`](DelayQueue::poll_expired). Constant time.
     ///
     /// # Panics
     /// If `when` is more than 139 years after the queue's making, or if no entry is in the queue under that key: it came out, was
@@ -577,10 +577,10 @@ impl<T> DelayQueue<T> {
         self.entries.reserve(additional);
     }
 
-    /// Moves the entries of those wheels of the queue of which less than a quarter is used together, under the keys that they have, and
-    /// lets these wheels go: so there is room for at most four times as many entries as there are. It goes over every slot. While
-    /// moved entries are there, some 50 bytes are taken for each, and half as many again where handles are. Of a wheel that is let
-    /// go the queue keeps 8 bytes for each slot.
+    /// Moves the entries of those wheels of the queue of which less than a quarter is used together, under the keys that they
+    /// have, and lets these wheels go: so there is room for at most four times as many entries as there are. It goes over every
+    /// slot. While moved entries are there, some 50 bytes are taken for each, and half as many again where handles are. Of a
+    /// wheel that is let go the queue keeps 8 bytes for each slot.
     ///
     /// ```
     /// # #[tokio::main(flavor = "current_thread")]

@@ -133,8 +133,8 @@ impl<T> SharedQueue<T> {
         self.queue.reset_at(key, when.into_std())
     }
 
-    /// Raises the deadline of an entry to `after` from now, without a lock, and returns the deadline that is then in force. An entry
-    /// that is due and hasn't come out yet is put off, too: whoever wants to refuse that calls
+    /// Raises the deadline of an entry to `after` from now, without a lock, and returns the deadline that is then in force. An
+    /// entry that is due and hasn't come out yet is put off, too: whoever wants to refuse that calls
     /// [`remove_if_due`](SharedQueue::remove_if_due) first. The moment of that call counts: an entry that comes due between the two
     /// calls is put off. So it is with a reset.
     ///
@@ -189,7 +189,8 @@ impl<T> SharedQueue<T> {
         self.queue.next_deadline().map(Instant::from_std)
     }
 
-    /// Takes out what waits, one entry after the other, in no promised order.
+    /// Takes out what waits, one entry after the other, in no promised order: each with its key, its deadline and its value, for
+    /// a shutdown that saves it. What isn't taken stays in the queue.
     pub fn drain(&self) -> impl Iterator<Item = Expired<T>> + '_ {
         self.queue.drain().map(|(key, deadline, value)| Expired { key, deadline: Instant::from_std(deadline), value })
     }

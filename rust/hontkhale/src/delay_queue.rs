@@ -276,7 +276,8 @@ impl<T> DelayQueue<T> {
     /// - `Ended` if the entry came out, or was removed, cancelled, drained or cleared.
     ///
     /// # Panics
-    /// If `change` panics, and the value stays as it left it; or if it makes a call of this queue that wants the lock which is held.
+    /// If `change` panics, and the value stays as it left it; or if it makes a call of this queue that wants the lock which is
+    /// held.
     pub fn get_mut<R>(&self, key: &Key, change: impl FnOnce(&mut T) -> R) -> Result<R, KeyError> {
         self.shared.with_value(key, change)
     }
@@ -432,8 +433,9 @@ impl<T> DelayQueue<T> {
     /// In this order:
     /// - `WrongQueue` if the key is another queue's.
     /// - `Ended` if the entry came out, or was removed, cancelled, drained or cleared.
-    /// - `NoMemory` if the entry's shard has no free slot and can't grow: memory is refused, or the shard has as many slots as it may
-    ///   have. The entry was due when the call looked. It stays, with its deadline, which another thread may have extended since.
+    /// - `NoMemory` if the entry's shard has no free slot and can't grow: memory is refused, or the shard has as many slots as it
+    ///   may have. The entry was due when the call looked. It stays, with its deadline, which another thread may have extended
+    ///   since.
     ///
     /// ```
     /// use hontkhale::{DelayQueue, KeyError, ManualClock};
@@ -692,8 +694,8 @@ impl<T> DelayQueue<T> {
 
     /// Closes the queue for inserts: from now on it takes no values. Its receivers get what waits as it comes due, and then none:
     /// they end once nothing waits, be it received, removed or cancelled. An insert that another thread makes meanwhile is
-    /// refused, or its entry comes out too. Extends and resets are still accepted, so an entry that is extended again and again keeps
-    /// the receivers; [`close`](DelayQueue::close) ends them all the same.
+    /// refused, or its entry comes out too. Extends and resets are still accepted, so an entry that is extended again and again
+    /// keeps the receivers; [`close`](DelayQueue::close) ends them all the same.
     ///
     /// # Panics
     /// If a task's waker panics. All receivers are woken before.
@@ -718,8 +720,9 @@ impl<T> DelayQueue<T> {
     }
 
     /// Waits until no entry waits, at most for `timeout`, and returns whether that came: each came out, or was removed or
-    /// cancelled. Whoever received the last of them may be at work on it yet. It waits for ever where no clock reaches that moment, as with [`Duration::MAX`], and with a time of zero it
-    /// only looks. The time is counted by the queue's clock: with a [`ManualClock`] it passes by
+    /// cancelled. Whoever received the last of them may be at work on it yet. It waits for ever where no clock reaches that
+    /// moment, as with [`Duration::MAX`], and with a time of zero it only looks. The time is counted by the queue's clock: with a
+    /// [`ManualClock`] it passes by
     /// [`advance`](ManualClock::advance) alone, which wakes whoever waits. It takes the lock of each shard in turn.
     ///
     /// Others may insert again before it returns: after [`close_when_empty`](DelayQueue::close_when_empty) nobody does.

@@ -26,7 +26,8 @@ fn after_look() {
 }
 
 impl<T> Entries<T> {
-    /// Makes at most so many steps of a poll of the store. What came out is noted by `note_expired`, and that nothing did by `wake`.
+    /// Makes at most so many steps of a poll of the store. What came out is noted by `note_expired`, and that nothing did by
+    /// `wake`.
     #[inline(always)]
     pub fn poll(&mut self, reached: u64, most: u32) -> Result<Piece<T>, CoreError> {
         self.store.poll_some(reached, most)

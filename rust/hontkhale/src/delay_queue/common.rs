@@ -184,8 +184,8 @@ impl Common {
         self.seen.iter().map(|seen| seen.waiting(&mut others)).sum::<u64>() as usize
     }
 
-    /// Whether no entry waits, by the shards alone: a bound counts one that isn't in, and one that is out for a moment yet. Where an
-    /// entry that is out is counted by the bound, nobody looks once more.
+    /// Whether no entry waits, by the shards alone: a bound counts one that isn't in, and one that is out for a moment yet. Where
+    /// an entry that is out is counted by the bound, nobody looks once more.
     pub fn has_none(&self) -> bool {
         self.waiting_while(|| {}) == 0
     }

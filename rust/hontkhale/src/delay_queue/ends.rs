@@ -139,8 +139,8 @@ impl<T> Shared<T> {
         }
     }
 
-    /// Tells those that ask where the queue is empty now, but not in a closure under a lock of the queue. What a task's waker panics
-    /// with is lost: the caller may have a value in hand. No lock is held.
+    /// Tells those that ask where the queue is empty now, but not in a closure under a lock of the queue. What a task's waker
+    /// panics with is lost: the caller may have a value in hand. No lock is held.
     #[cold]
     pub fn note_end(&self) {
         // The lock of those that wait may be held by one that waits for the closure's: whoever has called that looks once more.

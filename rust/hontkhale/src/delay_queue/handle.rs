@@ -8,7 +8,8 @@ use std::fmt;
 use std::sync::{Arc, Weak};
 use std::time::{Duration, Instant};
 
-/// Extends and cancels entries of a [`DelayQueue`](crate::DelayQueue), and tells their deadlines, without its type and without a lifetime.
+/// Extends and cancels entries of a [`DelayQueue`](crate::DelayQueue), and tells their deadlines, without its type and without a
+/// lifetime.
 ///
 /// It may be cloned and sent to any thread, and doesn't keep its queue: once that was dropped, each call returns
 /// [`Closed`](KeyError::Closed). It keeps what it needs to make its calls without a lock, which is 8 bytes of the room for each
@@ -134,8 +135,9 @@ impl fmt::Debug for Handle {
     }
 }
 
-/// An entry that is taken out where this is dropped, with its value, as [`DelayQueue::guard`](crate::DelayQueue::guard) makes it: the deadline of a
-/// request, of a connection, of a lease. Within the drop of another value of the same queue the value is dropped after that.
+/// An entry that is taken out where this is dropped, with its value, as [`DelayQueue::guard`](crate::DelayQueue::guard) makes it:
+/// the deadline of a request, of a connection, of a lease. Within the drop of another value of the same queue the value is
+/// dropped after that.
 ///
 /// ```
 /// use hontkhale::DelayQueue;

@@ -12,8 +12,8 @@ use std::time::Duration;
 /// While other threads change the queue each number is about right. Where none does, `inserted` is `expired`, `removed`, `cancels`
 /// and `waiting` together.
 ///
-/// Its [`Display`](fmt::Display) is one line for a log, which counts the entries that wait, those that were cancelled and hold their
-/// values yet, and the bytes of `memory`, and tells `late` and `latest`:
+/// Its [`Display`](fmt::Display) is one line for a log, which counts the entries that wait, those that were cancelled and hold
+/// their values yet, and the bytes of `memory`, and tells `late` and `latest`:
 ///
 /// ```
 /// # use hontkhale::{DelayQueue, ManualClock};
@@ -94,8 +94,8 @@ pub trait Metrics {
     /// What rises and falls. Lengths of time are in seconds.
     fn gauge(&mut self, name: &str, value: f64);
     /// A bucket of a histogram: how often less than that long was measured. So it counts what the buckets before it count, unlike a
-    /// place of [`Stats::lateness`]. The buckets come in rising order; the length of the last one is [`Duration::MAX`], and its count
-    /// is the total.
+    /// place of [`Stats::lateness`]. The buckets come in rising order; the length of the last one is [`Duration::MAX`], and its
+    /// count is the total.
     fn bucket(&mut self, name: &str, below: Duration, count: u64);
 }
 
