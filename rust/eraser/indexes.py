@@ -4,10 +4,10 @@ from rattle import Refused, close_of, functions
 
 ASSIGNS = {"=", "+=", "-=", "|=", "&=", "^="}
 # The methods that are called on what an index gives: whether they change it.
-READS = {"aside", "cancels", "capacity", "is_some", "law", "lock", "next_key", "number", "peek", "shard"}
+READS = {"cancels", "capacity", "deferred", "is_some", "law", "lock", "next_key", "number", "peek", "shard"}
 CHANGES = {
     "cancel", "clear_deferring", "deadline", "extend", "insert_deferring", "look",
-    "poll_deferring", "poll_some_deferring", "reap_deferring", "remove", "reset", "sweep_some_deferring", "take", "take_aside",
+    "poll_deferring", "poll_some_deferring", "reap_deferring", "remove", "reset", "sweep_some_deferring", "take", "take_deferred",
     "with_value",
 }
 

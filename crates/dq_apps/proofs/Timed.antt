@@ -173,7 +173,7 @@ module _ {K W : Type 0} (b : Core K W) (law : IsLawfulCore b) where
   ]
 
 -- a fresh queue
-pub fresh_is : {K W : Type 0} (c : Core K W) (capacity last : ℕ) (known : List Parts) (counts : Counts) (words : W) → c ≡ new_core 0 capacity last c.wheel c.aside known counts words → known ≡ replicate capacity never → (timers_of c ≡ fresh_timers capacity last) × AreTimers c
+pub fresh_is : {K W : Type 0} (c : Core K W) (capacity last : ℕ) (known : List Parts) (counts : Counts) (words : W) → c ≡ new_core 0 capacity last c.wheel c.deferred known counts words → known ≡ replicate capacity never → (timers_of c ≡ fresh_timers capacity last) × AreTimers c
 fresh_is {K} c capacity last known counts words is fresh =
     let slots : (machine c).table ≡ replicate capacity unset = (λ i. table_of (is i).slots.rows (is i).known) ∙ (ap (λ k. table_of (replicate capacity unused) k) fresh ∙ new_slots capacity) in
     let P : List (TableRow K) → Type 0 = λ ss. AllRun ss in

@@ -15,7 +15,7 @@ abbrev pub IsNewQueue : ℕ → ℕ → ℕ → Owned → Type 0
 IsNewQueue shard capacity last c =
     IsConfig capacity last capacity
     × (c.wheel.filing ≡ fresh_filing capacity)
-    × (c ≡ new_core shard capacity last c.wheel c.aside c.known c.counts c.words)
+    × (c ≡ new_core shard capacity last c.wheel c.deferred c.known c.counts c.words)
     × AreFresh c.known c.counts × KnowsNothing c.words
 
 -- why none is made: out of the ranges first, and else for want of memory

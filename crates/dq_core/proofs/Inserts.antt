@@ -6,7 +6,7 @@ use Rattle.dq_ticks.specs.declared.words.Parts.{Parts}
 use Rattle.dq_ticks.specs.declared.TheConstants.{LAST_TICK}
 use Rattle.dq_wheel.specs.State.{Filing, linked}
 use Rattle.dq_core.specs.Words.{Counts, word_at, never, live, begun_counts}
-use Rattle.dq_core.specs.Slots.{Row, SlotRows, SlotState, Aside, shown, unused, row_at, is_held, is_free, is_worn, filled, filled_row}
+use Rattle.dq_core.specs.Slots.{Row, SlotRows, SlotState, DeferredValues, shown, unused, row_at, is_held, is_free, is_worn, filled, filled_row}
 use Rattle.dq_ticks.specs.declared.keys.Key.{Key}
 use Rattle.dq_ticks.specs.declared.keys.EntryId.{EntryId}
 use Rattle.dq_core.proofs.SlotRows.{parted}
@@ -131,10 +131,10 @@ room last rows i v inside free =
     omega (arith, parted last rows, ap one free, count_set (is_free last) rows i (filled_row (row_at rows i) v) inside)
 
 -- a queue whose slots are as they were
-pub same_slots : {T W : Type 0} (b : Core T W) (slots : SlotState T) → shown slots ≡ b.slots → slots.aside ≡ b.aside → core_of b.shard b.noted b.wheel slots b.known b.counts b.words ≡ b
+pub same_slots : {T W : Type 0} (b : Core T W) (slots : SlotState T) → shown slots ≡ b.slots → slots.deferred ≡ b.deferred → core_of b.shard b.noted b.wheel slots b.known b.counts b.words ≡ b
 same_slots {T} {W} b slots es ea =
-    let C : SlotRows T → Aside T → Core T W = λ s a. record { shard = b.shard; noted = b.noted; wheel = b.wheel; slots = s; aside = a; known = b.known; counts = b.counts; words = b.words } in
-    ap (λ s. C s slots.aside) es ∙ ap (λ a. C b.slots a) ea
+    let C : SlotRows T → DeferredValues T → Core T W = λ s a. record { shard = b.shard; noted = b.noted; wheel = b.wheel; slots = s; deferred = a; known = b.known; counts = b.counts; words = b.words } in
+    ap (λ s. C s slots.deferred) es ∙ ap (λ a. C b.slots a) ea
 
 -- an insert that finds no slot free
 pub refused_full : {T : Type 0} (old slots : SlotRows T) (when held worn : ℕ) → when ≤ LAST_TICK → count_by (is_free old.last_stamp) old.rows ≡ 0 → slots ≡ old → held ≡ count_by is_held slots.rows → worn ≡ count_by (is_worn slots.last_stamp) slots.rows → (when ≤ LAST_TICK) × (held ≡ count_by is_held old.rows) × (worn ≡ count_by (is_worn old.last_stamp) old.rows) × (held + worn ≡ length old.rows)

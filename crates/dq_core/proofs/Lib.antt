@@ -1,5 +1,5 @@
-pub mod AsideCells
-pub mod AsideCounts
+pub mod DeferredCells
+pub mod DeferredCounts
 pub mod Asks
 pub mod ByKey
 pub mod CallWords

@@ -36,8 +36,8 @@ worn_not_free {last = last} {rows = rows} s i inside over =
     (omega arith, none, omega (arith, none), omega (arith, none))
 
 -- a worn slot is free once it is as if it had never been used
-pub worn_forgotten : {T : Type 0} {last : ℕ} {rows : List (Row T)} {free : FreeIndexes} {waiting : Deferred} {taken spared : ℕ} → IsSlotRowsKept last rows free waiting taken spared → (more : FreeIndexes) (aside : Deferred) (i : ℕ) → i < length rows → is_held (row_at rows i) ≡ false → last ≤ (row_at rows i).stamp → GivesSlot free waiting i more aside → IsSlotRowsKept last (set rows i unused) more aside taken (spared + 1)
-worn_forgotten {T = T} {last = last} {rows = rows} {free = free} {waiting = waiting} {taken = taken} s more aside i inside none over g =
+pub worn_forgotten : {T : Type 0} {last : ℕ} {rows : List (Row T)} {free : FreeIndexes} {waiting : Deferred} {taken spared : ℕ} → IsSlotRowsKept last rows free waiting taken spared → (more : FreeIndexes) (deferred : Deferred) (i : ℕ) → i < length rows → is_held (row_at rows i) ≡ false → last ≤ (row_at rows i).stamp → GivesSlot free waiting i more deferred → IsSlotRowsKept last (set rows i unused) more deferred taken (spared + 1)
+worn_forgotten {T = T} {last = last} {rows = rows} {free = free} {waiting = waiting} {taken = taken} s more deferred i inside none over g =
     let r : Row T = row_at rows i in
     let used = s.slots.used in
     let frees = count_set (is_free last) rows i unused inside in
@@ -49,7 +49,7 @@ worn_forgotten {T = T} {last = last} {rows = rows} {free = free} {waiting = wait
     record {
       slots = slot_rows_set s.slots i unused (unused_good last);
       freed = λ j. ⊎_elim
-          (λ same. subst (λ k. usable_times more aside k ≡ one (is_open last (set rows i unused) k)) (sym same) (g.one_more ∙ ap (λ n. n + 1) before.1 ∙ sym now_free ∙ sym (ap one (open_same last rows i unused inside))))
+          (λ same. subst (λ k. usable_times more deferred k ≡ one (is_open last (set rows i unused) k)) (sym same) (g.one_more ∙ ap (λ n. n + 1) before.1 ∙ sym now_free ∙ sym (ap one (open_same last rows i unused inside))))
           (λ ne. g.others j ne ∙ s.freed j ∙ sym (ap one (open_other last rows i unused j ne)))
           (cases_eq j i);
       spare = let k = s.spare in omega arith;

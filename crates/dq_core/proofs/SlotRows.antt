@@ -207,8 +207,8 @@ worn_is {T = T} {last = last} {rows = rows} {free = free} {waiting = waiting} {t
     }
 
 -- a held slot that is vacated below the last stamp is free
-pub freed_is : {T : Type 0} {last : ℕ} {rows : List (Row T)} {free : FreeIndexes} {waiting : Deferred} {taken spared : ℕ} → IsSlotRowsKept last rows free waiting taken spared → (more : FreeIndexes) (aside : Deferred) (i : ℕ) → is_held (row_at rows i) ≡ true → (row_at rows i).stamp < last → GivesSlot free waiting i more aside → IsSlotRowsKept last (set rows i (vacated_row (row_at rows i))) more aside (taken - 1) (spared + 1)
-freed_is {T = T} {last = last} {rows = rows} {free = free} {waiting = waiting} {taken = taken} s more aside i held left g =
+pub freed_is : {T : Type 0} {last : ℕ} {rows : List (Row T)} {free : FreeIndexes} {waiting : Deferred} {taken spared : ℕ} → IsSlotRowsKept last rows free waiting taken spared → (more : FreeIndexes) (deferred : Deferred) (i : ℕ) → is_held (row_at rows i) ≡ true → (row_at rows i).stamp < last → GivesSlot free waiting i more deferred → IsSlotRowsKept last (set rows i (vacated_row (row_at rows i))) more deferred (taken - 1) (spared + 1)
+freed_is {T = T} {last = last} {rows = rows} {free = free} {waiting = waiting} {taken = taken} s more deferred i held left g =
     let inside = held_inside rows i held in
     let r : Row T = row_at rows i in
     let frees = count_set (is_free last) rows i (vacated_row r) inside in
@@ -220,7 +220,7 @@ freed_is {T = T} {last = last} {rows = rows} {free = free} {waiting = waiting} {
     record {
       slots = slot_rows_set s.slots i (vacated_row r) (vacated_good last r (row_is s.slots i inside));
       freed = λ j. ⊎_elim
-          (λ same. subst (λ k. usable_times more aside k ≡ one (is_open last (set rows i (vacated_row r)) k)) (sym same) (g.one_more ∙ ap (λ n. n + 1) before.1 ∙ sym now_free ∙ sym (ap one (open_same last rows i (vacated_row r) inside))))
+          (λ same. subst (λ k. usable_times more deferred k ≡ one (is_open last (set rows i (vacated_row r)) k)) (sym same) (g.one_more ∙ ap (λ n. n + 1) before.1 ∙ sym now_free ∙ sym (ap one (open_same last rows i (vacated_row r) inside))))
           (λ ne. g.others j ne ∙ s.freed j ∙ sym (ap one (open_other last rows i (vacated_row r) j ne)))
           (cases_eq j i);
       spare = let k = s.spare in omega arith;

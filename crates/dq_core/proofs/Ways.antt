@@ -247,4 +247,4 @@ machine_is {T} {W} c tick noted rows known et en er ek =
 
 -- a queue of its parts
 abbrev pub core_of : {T W : Type 0} → ℕ → ℕ → WheelState → SlotState T → List Parts → Counts → W → Core T W
-core_of shard noted wheel slots known counts words = record { shard = shard; noted = noted; wheel = wheel; slots = shown slots; aside = slots.aside; known = known; counts = counts; words = words }
+core_of shard noted wheel slots known counts words = record { shard = shard; noted = noted; wheel = wheel; slots = shown slots; deferred = slots.deferred; known = known; counts = counts; words = words }

@@ -24,7 +24,8 @@ use Rattle.dq_core.specs.declared.outcomes.Removed.{Removed}
 use Rattle.dq_core.specs.declared.words.Settled.TheVariants.{SettledExpired}
 use Rattle.dq_core.specs.Words.{Counts, Learned, live, cancelled, expired, removed, word_at}
 use Rattle.dq_core.specs.Words.{begun_counts, settled_counts, finished_counts}
-use Rattle.dq_core.specs.Slots.{Aside, is_held, is_worn, unused, row_at, filled, vacated, raised}
+use Rattle.dq_core.specs.Slots.{DeferredValues, is_held, is_worn, unused, row_at, filled, vacated}
+use Rattle.dq_core.specs.Slots.{raised}
 use Rattle.dq_core.specs.Machine.{Entry, Machine, Note, Insert, Reset, Remove, Expire, Step, RunOf}
 use Rattle.dq_core.specs.Machine.{Callers, Has, table_at, IsOnTheWay, NoneLiveBefore, NoneLinked}
 use Rattle.dq_core.specs.Machine.{due}
@@ -66,14 +67,14 @@ pub record IsLookedAt {T W : Type 0} (shared : Bool) (b : Core T W) (i : ℕ) (v
 
 -- a new queue: nothing is noted, no slot was used
 abbrev pub new_core : {T W : Type 0} →
-    ℕ → ℕ → ℕ → WheelState → Aside T → List Parts → Counts → W → Core T W
-new_core shard capacity last wheel aside known counts words =
+    ℕ → ℕ → ℕ → WheelState → DeferredValues T → List Parts → Counts → W → Core T W
+new_core shard capacity last wheel deferred known counts words =
     record {
       shard = shard;
       noted = 0;
       wheel = wheel;
       slots = record { last_stamp = last; rows = replicate capacity unused };
-      aside = aside;
+      deferred = deferred;
       known = known;
       counts = counts;
       words = words;
@@ -97,7 +98,8 @@ abbrev pub IsMade : {T W : Type 0} →
 IsMade config words known counts (Ok c) =
     IsConfig config.capacity config.last_stamp (length known)
     × (c.wheel.filing ≡ fresh_filing config.capacity)
-    × (c ≡ new_core config.shard config.capacity config.last_stamp c.wheel c.aside known counts words)
+    × (c ≡ new_core config.shard config.capacity config.last_stamp c.wheel c.deferred known counts
+    words)
 IsMade config words known counts (Err e) =
     NewRefused config.capacity config.last_stamp (length known) e.0 × (e.1 ≡ words)
 

@@ -10,17 +10,17 @@ use Rattle.dq_ticks.specs.Units.{lap}
 use Rattle.dq_wheel.specs.State.{Filing, WheelState, filed_at}
 use Rattle.dq_core.specs.declared.slots.Held.{Held}
 use Rattle.dq_core.specs.Words.{Counts, word_at, IsOver, IsInForce}
-use Rattle.dq_core.specs.Slots.{Row, SlotRows, Aside, row_at, is_held}
+use Rattle.dq_core.specs.Slots.{Row, SlotRows, DeferredValues, row_at, is_held}
 use Rattle.dq_core.specs.Machine.{Entry, TableRow, Machine}
 
--- a queue: its number, the greatest accepted tick, the wheel, the slots, the values that are set
--- aside there, and of its words what is known, the keeper's own writes, and the words themselves
+-- a queue: its number, the greatest accepted tick, the wheel, the slots, the values that are
+-- deferred there, and of its words what is known, the keeper's own writes, and the words themselves
 pub record Core (T W : Type 0) : Type 0 where
   pub shard : ℕ
   pub noted : ℕ
   pub wheel : WheelState
   pub slots : SlotRows T
-  pub aside : Aside T
+  pub deferred : DeferredValues T
   pub known : List Parts
   pub counts : Counts
   pub words : W

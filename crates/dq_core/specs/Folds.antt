@@ -11,7 +11,7 @@ use Rattle.dq_core.specs.declared.outcomes.Tally.{Tally}
 use Rattle.dq_core.specs.Words.{Counts, word_at, IsOver}
 use Rattle.dq_core.specs.Slots.{Row, row_at}
 use Rattle.dq_core.specs.Core.{Core}
-use Rattle.dq_core.specs.Asides.{waiting_in}
+use Rattle.dq_core.specs.Deferring.{waiting_in}
 use Rattle.dq_core.specs.AtTheCall.{linked_in}
 use Rattle.dq_core.specs.Machine.{TableRow, Machine, Note, Pass, Run}
 
@@ -45,7 +45,7 @@ is_worn_word last w = not (nat_lt w.stamp last)
 
 -- nothing is linked in a queue, and no freed value waits for its drop
 abbrev pub IsFoldable : {T W : Type 0} → Core T W → Type 0
-IsFoldable c = (linked_in c ≡ 0) × (waiting_in c.aside ≡ 0)
+IsFoldable c = (linked_in c ≡ 0) × (waiting_in c.deferred ≡ 0)
 
 -- a wheel that came to a tick with nothing in it, and counts its moves on from that many
 abbrev pub resting : ℕ → ℕ → ℕ → Filing

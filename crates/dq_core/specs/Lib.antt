@@ -1,4 +1,4 @@
-pub mod Asides
+pub mod Deferring
 pub mod AtTheCall
 pub mod Calls
 pub mod Cells

@@ -8,7 +8,7 @@ use Rattle.dq_wheel.specs.declared.wheel.Place.{Place}
 use Rattle.dq_ticks.specs.declared.keys.Key.{Key}
 use Rattle.dq_ticks.specs.declared.keys.EntryId.{EntryId}
 use Rattle.dq_core.specs.declared.outcomes.Tally.{Tally}
-use Rattle.dq_core.specs.Asides.{IsClearAt}
+use Rattle.dq_core.specs.Deferring.{IsClearAt}
 use Rattle.dq_core.specs.Slots.{is_held, row_at}
 use Rattle.dq_core.specs.Machine.{table_at, NoneLinked, NoneLiveBefore}
 use Rattle.dq_core.specs.Core.{Core, machine, IsLawfulCore}
@@ -35,9 +35,10 @@ TellsLeast c (Some k) =
 -- the key of a slot that is left in which no value waits, under the slot's next stamp; none exactly
 -- where there is no such slot
 abbrev pub TellsNext : {T W : Type 0} → Core T W → Option Key → Type 0
-TellsNext c None = (i : ℕ) → ¬ IsClearAt c.slots c.aside i
+TellsNext c None = (i : ℕ) → ¬ IsClearAt c.slots c.deferred i
 TellsNext c (Some k) =
-    IsClearAt c.slots c.aside k.entry.index × (k.entry.shard ≡ c.shard) × (k.entry.born ≡ k.stamp)
+    IsClearAt c.slots c.deferred k.entry.index × (k.entry.shard ≡ c.shard)
+    × (k.entry.born ≡ k.stamp)
     × (k.stamp ≡ (row_at c.slots.rows k.entry.index).stamp + 1)
 
 -- the birth of an id isn't after its slot's stamp: no new entry gets that id

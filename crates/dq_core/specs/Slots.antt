@@ -16,17 +16,17 @@ pub record SlotRows (T : Type 0) : Type 0 where
   pub last_stamp : ℕ
   pub rows : List (Row T)
 
--- what is set aside: whether freed values wait for their drop at all, and by slot the freed value
+-- what is deferred: whether freed values wait for their drop at all, and by slot the freed value
 -- that lies there
-pub record Aside (T : Type 0) : Type 0 where
+pub record DeferredValues (T : Type 0) : Type 0 where
   pub drops : Bool
   pub values : List (Option T)
 
--- the slots with what is set aside there
+-- the slots with what is deferred there
 pub record SlotState (T : Type 0) : Type 0 where
   pub last_stamp : ℕ
   pub rows : List (Row T)
-  pub aside : Aside T
+  pub deferred : DeferredValues T
 
 -- the slots alone
 abbrev pub shown : {T : Type 0} → SlotState T → SlotRows T

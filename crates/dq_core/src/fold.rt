@@ -7,7 +7,7 @@
 
 ghost use Rattle.std.specs.Prelude.{◌≡◌, ◌<◌, ◌≤◌, ◌↔◌, max, length, IsErr, IfOk, IfErr, OnOk, OnErr};
 ghost use Rattle.std.specs.List.{count_by};
-ghost use Rattle.dq_core.specs.Asides.{NoneAside};
+ghost use Rattle.dq_core.specs.Deferring.{NoneDeferred};
 ghost use Rattle.dq_core.specs.Words.{StillBegun};
 ghost use Rattle.dq_core.specs.Folds.{AreOver, AreVacant, is_worn_word, resting};
 ghost use Rattle.dq_core.specs.declared.errors.CoreError.TheVariants.{TickTooLarge};
@@ -101,7 +101,7 @@ fn wheel_and_slots_over<T, W: Words, A: Allocator + Clone>(
         (λ r. r.0.filing ≡ resting (length (W.known words.old)) tick moved) }
     ensures rows { IfOk result
         (λ r. (r.1.last_stamp ≡ last) × AreVacant r.1.rows (W.known words.old)) }
-    ensures none { IfOk result (λ r. NoneAside r.1.aside) }
+    ensures none { IfOk result (λ r. NoneDeferred r.1.deferred) }
     ensures refused { OnErr result (words.new ≡ words.old) }
     ensures known { W.known words.new ≡ W.known words.old }
     ensures counts { W.counts words.new ≡ W.counts words.old }
@@ -155,7 +155,7 @@ impl<T: Drop, W: Words, A: Allocator> DelayCore<T, W, A> {
         ensures back { IfErr result (λ q. q ≡ self) }
         ensures refused { IsErr result → ¬ IsFoldable self }
     {
-        if self.slots.linked() > 0 || self.slots.aside() > 0 {
+        if self.slots.linked() > 0 || self.slots.deferred() > 0 {
             return Err(self);
         }
         let tick = self.wheel.tick();
@@ -285,9 +285,9 @@ impl<W: Words> Folded<W> {
         ensures machine { IfOk result (λ q. machine q ≡ folded_machine self) }
 
         // Each slot holds nothing, and is at its word's stamp: the next one is beyond all that it had.
-        // Nothing is set aside.
+        // Nothing is deferred.
         ensures slots { IfOk result (λ q. AreVacant q.slots.rows self.known) }
-        ensures none { IfOk result (λ q. NoneAside q.aside) }
+        ensures none { IfOk result (λ q. NoneDeferred q.deferred) }
 
         // No entry from before is there, and under no word one is live.
         ensures stale { IfOk result (λ q. ((id : EntryId) → IsMissing q id)

@@ -1,4 +1,4 @@
-//! The free indexes of a row of slots, and those whose slots have a value that was let go and isn't dropped yet.
+//! The free indexes of a row of slots, and those whose slots have a value that was freed and isn't dropped yet.
 //!
 //! The indexes that were freed last stand on a small stack and are given first: their rows are still near. All others
 //! are bits of words, with a bit of a summary for each word that isn't 0, and are given in rising order from where

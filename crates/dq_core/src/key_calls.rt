@@ -51,8 +51,8 @@ impl<T, A: Allocator> DelayCore<T, VecWords<A>, A> {
         ensures refused { OnErr result (self.new ≡ self.old) }
         ensures too_far { IsErrOf result (TooFar LAST_TICK) ↔ (LAST_TICK < when) }
 
-        // Nothing is set aside or taken out.
-        ensures aside { self.new.aside ≡ self.old.aside }
+        // Nothing is deferred or taken out.
+        ensures deferred { self.new.deferred ≡ self.old.deferred }
 
         // Exactly: a step of the queue machine, or which refusal comes first.
         ensures extends { Extends self.old key.now when result self.new }
@@ -85,8 +85,8 @@ impl<T, A: Allocator> DelayCore<T, VecWords<A>, A> {
         ensures rest { KeepsRest self.old self.new }
         ensures refused { OnErr result (self.new ≡ self.old) }
 
-        // Nothing is set aside or taken out.
-        ensures aside { self.new.aside ≡ self.old.aside }
+        // Nothing is deferred or taken out.
+        ensures deferred { self.new.deferred ≡ self.old.deferred }
 
         // Exactly: a step of the queue machine, or which refusal comes first.
         ensures cancels { Cancels self.old key.now result self.new }

@@ -1,4 +1,4 @@
-//! The calls by which an owner's queue drops the values that it let go.
+//! The calls by which an owner's queue drops the values that it freed.
 //!
 //! A drop is a user's code, and may panic. So each of these calls is one that defers all drops, and what is left of it
 //! is to drop them: with the queue lawful, as the last thing it does, and where it loses nothing that the call gives.
@@ -6,7 +6,7 @@
 
 ghost use Rattle.std.specs.Prelude.{◌≡◌, ℕ, ◌+◌, ◌<◌, ◌≤◌, ◌⊎◌, ◌↔◌, max, nat_lt, if◌then◌else◌, length, IfOk, IfErr, IfSome, Some, None, OnOk, OnErr, IsErr, IsErrAnd, IsErrOf};
 ghost use Rattle.std.specs.List.{count_by};
-ghost use Rattle.dq_core.specs.Asides.{answered_at, out_at, waiting_in, with_aside, MakesRoom};
+ghost use Rattle.dq_core.specs.Deferring.{answered_at, out_at, waiting_in, with_deferred, MakesRoom};
 ghost use Rattle.dq_core.specs.AtTheCall.{IfOut, IfRests, linked_in, IsLinkedAs, OthersStay, with_value_back};
 ghost use Rattle.dq_core.specs.Calls.{SameCore, base_for, IsMissing, Inserts, Polls};
 ghost use Rattle.dq_core.specs.Core.{machine};
@@ -30,26 +30,26 @@ impl<T: Drop, W: Words, A: Allocator> DelayCore<T, W, A> {
     /// Drops the freed values that wait for their drop. If a drop panics, the others wait for the next call that
     /// drops.
     #[inline]
-    pub fn drop_aside(&mut self)
+    pub fn drop_deferred(&mut self)
         // None waits any more, and nothing else changes.
-        ensures none { waiting_in self.new.aside ≡ 0 }
-        ensures rest { self.new ≡ record self.old { aside = self.new.aside } }
+        ensures none { waiting_in self.new.deferred ≡ 0 }
+        ensures rest { self.new ≡ record self.old { deferred = self.new.deferred } }
     {
-        for _turn in 0..self.aside() {
-            drop(self.take_aside());
+        for _turn in 0..self.deferred() {
+            drop(self.take_deferred());
         }
     }
 
     // Drops the value that waits in the slot that the next insert takes, if one does.
     #[inline(always)]
     fn make_room(&mut self)
-        ensures room { MakesRoom self.old.slots self.old.aside self.new.aside }
-        ensures rest { self.new ≡ record self.old { aside = self.new.aside } }
+        ensures room { MakesRoom self.old.slots self.old.deferred self.new.deferred }
+        ensures rest { self.new ≡ record self.old { deferred = self.new.deferred } }
         ensures full { count_by (is_free self.old.slots.last_stamp) self.old.slots.rows ≡ 0
             → self.new ≡ self.old }
     {
         if mem::needs_drop::<T>() {
-            drop(self.take_crowded());
+            drop(self.take_displaced());
         }
     }
 
@@ -86,8 +86,8 @@ impl<T: Drop, W: Words, A: Allocator> DelayCore<T, W, A> {
         ensures too_far { IsErrAnd result (λ e. e.0 ≡ TooFar LAST_TICK) ↔ (LAST_TICK < when) }
 
         // No value is dropped but one that waited in the slot that the entry takes.
-        ensures aside { IfOk result
-            (λ k. self.new.aside ≡ with_aside self.old.aside k.entry.index None) }
+        ensures deferred { IfOk result
+            (λ k. self.new.deferred ≡ with_deferred self.old.deferred k.entry.index None) }
 
         // Exactly: a step of the queue machine, and what it leaves of the wheel, the slots and the words.
         ensures inserts { Inserts self.old value when result self.new }
@@ -172,7 +172,7 @@ impl<T: Drop, W: Words, A: Allocator> DelayCore<T, W, A> {
         ensures idle { IfRests result (λ next. (next ≡ None) ↔ NoneLinked (machine self.new)) }
 
         // No freed value waits any more, unless an entry comes out.
-        ensures none { IfOk result (λ turn. out_at turn ≡ None → waiting_in self.new.aside ≡ 0) }
+        ensures none { IfOk result (λ turn. out_at turn ≡ None → waiting_in self.new.deferred ≡ 0) }
 
         // Exactly: a run of the queue machine, and the way of the wheel and of the words.
         ensures polls { Polls W.shared self.old tick result self.new }
@@ -185,7 +185,7 @@ impl<T: Drop, W: Words, A: Allocator> DelayCore<T, W, A> {
         if let Turn::Out(_) = &answer {
             return Ok(answer);
         }
-        self.drop_aside();
+        self.drop_deferred();
         Ok(answer)
     }
 
@@ -227,7 +227,7 @@ impl<T: Drop, W: Words, A: Allocator> DelayCore<T, W, A> {
 
         // No freed value waits any more, unless an entry comes out.
         ensures none { IfOk result
-            (λ piece. answered_at piece ≡ None → waiting_in self.new.aside ≡ 0) }
+            (λ piece. answered_at piece ≡ None → waiting_in self.new.deferred ≡ 0) }
 
         // It makes at most `most` steps over the words.
         ensures few_steps { W.steps self.new.words ≤ W.steps self.old.words + most }
@@ -244,7 +244,7 @@ impl<T: Drop, W: Words, A: Allocator> DelayCore<T, W, A> {
         if let Piece::Answer(Turn::Out(_)) = &answer {
             return Ok(answer);
         }
-        self.drop_aside();
+        self.drop_deferred();
         Ok(answer)
     }
 
@@ -261,7 +261,7 @@ impl<T: Drop, W: Words, A: Allocator> DelayCore<T, W, A> {
         ensures tick { self.new.wheel.filing.tick ≡ self.old.wheel.filing.tick }
 
         // No freed value waits any more.
-        ensures none { waiting_in self.new.aside ≡ 0 }
+        ensures none { waiting_in self.new.deferred ≡ 0 }
 
         // Exactly: a run of the queue machine, and what it leaves of the wheel, the slots and the words.
         ensures sweeps { Sweeps W.shared self.old result self.new }
@@ -270,7 +270,7 @@ impl<T: Drop, W: Words, A: Allocator> DelayCore<T, W, A> {
         ensures begun { StillBegun W.begun self.old.words self.new.words }
     {
         let reaped = self.sweep_deferring();
-        self.drop_aside();
+        self.drop_deferred();
         reaped
     }
 
@@ -297,7 +297,7 @@ impl<T: Drop, W: Words, A: Allocator> DelayCore<T, W, A> {
         ensures tick { self.new.wheel.filing.tick ≡ self.old.wheel.filing.tick }
 
         // No freed value waits any more.
-        ensures none { waiting_in self.new.aside ≡ 0 }
+        ensures none { waiting_in self.new.deferred ≡ 0 }
 
         // Exactly: a run of the queue machine, and what it leaves of the wheel, the slots and the words.
         ensures sweeps { SweepsSome W.shared self.old from (from + count) result.reaped self.new }
@@ -306,7 +306,7 @@ impl<T: Drop, W: Words, A: Allocator> DelayCore<T, W, A> {
         ensures begun { StillBegun W.begun self.old.words self.new.words }
     {
         let swept = self.sweep_some_deferring(from, count);
-        self.drop_aside();
+        self.drop_deferred();
         swept
     }
 
@@ -335,7 +335,7 @@ impl<T: Drop, W: Words, A: Allocator> DelayCore<T, W, A> {
         ensures noted { self.new.noted ≡ self.old.noted }
 
         // No freed value waits any more.
-        ensures none { OnOk result (waiting_in self.new.aside ≡ 0) }
+        ensures none { OnOk result (waiting_in self.new.deferred ≡ 0) }
 
         // Exactly: a run of the queue machine, and what it leaves of the wheel, the slots and the words.
         ensures reaps { Reaps W.shared self.old entry.now result self.new }
@@ -344,7 +344,7 @@ impl<T: Drop, W: Words, A: Allocator> DelayCore<T, W, A> {
         ensures begun { StillBegun W.begun self.old.words self.new.words }
     {
         self.reap_deferring(entry)?;
-        self.drop_aside();
+        self.drop_deferred();
         Ok(())
     }
 
@@ -361,7 +361,7 @@ impl<T: Drop, W: Words, A: Allocator> DelayCore<T, W, A> {
         ensures tick { self.new.wheel.filing.tick ≡ self.old.wheel.filing.tick }
 
         // No freed value waits any more.
-        ensures none { waiting_in self.new.aside ≡ 0 }
+        ensures none { waiting_in self.new.deferred ≡ 0 }
 
         // Exactly: a run of the queue machine, and what it leaves of the wheel, the slots and the words.
         ensures clears { Clears W.shared self.old result self.new }
@@ -370,7 +370,7 @@ impl<T: Drop, W: Words, A: Allocator> DelayCore<T, W, A> {
         ensures begun { StillBegun W.begun self.old.words self.new.words }
     {
         let removed = self.clear_deferring();
-        self.drop_aside();
+        self.drop_deferred();
         removed
     }
 }

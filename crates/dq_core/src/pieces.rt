@@ -9,7 +9,7 @@
 //! comes first there.
 
 ghost use Rattle.std.specs.Prelude.{◌≡◌, ℕ, ◌+◌, ◌<◌, ◌≤◌, ◌↔◌, max, length, Some, IfOk, IfSome, None, IsErr, OnErr, OnOk};
-ghost use Rattle.dq_core.specs.Asides.{answered_at, given_at, SetsAside};
+ghost use Rattle.dq_core.specs.Deferring.{answered_at, given_at, DefersValues};
 ghost use Rattle.dq_core.specs.AtTheCall.{IfOut, IfRests};
 ghost use Rattle.dq_core.specs.Calls.{SameCore};
 ghost use Rattle.dq_core.specs.Core.{machine};
@@ -52,8 +52,9 @@ impl<T, W: Words, A: Allocator> DelayCore<T, W, A> {
         ensures idle { IfAnswer result (λ turn. IfRests turn
             (λ next. (next ≡ None) ↔ NoneLinked (machine self.new))) }
 
-        // The value of each entry that left is set aside, but of what came out.
-        ensures aside { IfOk result (λ piece. SetsAside self.old (answered_at piece) self.new) }
+        // The value of each entry that left is deferred, but of what came out.
+        ensures deferred { IfOk result
+            (λ piece. DefersValues self.old (answered_at piece) self.new) }
 
         // It makes at most `most` steps over the words.
         ensures few_steps { W.steps self.new.words ≤ W.steps self.old.words + most }
@@ -103,7 +104,7 @@ impl<T, W: Words, A: Allocator> DelayCore<T, W, A> {
         ensures few { result.1 ≤ left }
         ensures few_steps { W.steps self.new.words ≤ W.steps self.old.words + result.1 }
         ensures piece { IsPieceBy W.shared self.old result.1 result.0 self.new }
-        ensures aside { SetsAside self.old (given_at result.0) self.new }
+        ensures deferred { DefersValues self.old (given_at result.0) self.new }
     {
         if W::FENCED && 2 <= left {
             if let Some(index) = self.wheel.first_open() {
@@ -131,7 +132,7 @@ impl<T, W: Words, A: Allocator> DelayCore<T, W, A> {
         ensures few { result ≤ most }
         ensures few_steps { W.steps self.new.words ≤ W.steps self.old.words + result }
         ensures looks { LooksOn W.shared self.old result self.new }
-        ensures aside { SetsAside self.old None self.new }
+        ensures deferred { DefersValues self.old None self.new }
     {
         let mut made = 0;
         let mut next = from;
@@ -163,14 +164,14 @@ impl<T, W: Words, A: Allocator> DelayCore<T, W, A> {
         ensures one_step { W.steps self.new.words ≤ W.steps self.old.words + 1 }
         ensures noted { self.new.noted ≡ self.old.noted }
         ensures settles { SettlesByLook W.shared self.old result.0 self.new }
-        ensures aside { SetsAside self.old None self.new }
+        ensures deferred { DefersValues self.old None self.new }
         ensures next { IfDue self.new.wheel.filing result.1 }
     {
         let word = self.words.look(index);
         let next = self.wheel.next_due(index);
         let Mark::LiveMark = word.mark else {
             self.wheel.unlink(index);
-            self.slots.let_go(index);
+            self.slots.defer(index);
             return (true, next);
         };
         let tick = self.wheel.tick();

@@ -7,7 +7,7 @@
 ghost use Rattle.std.specs.Prelude.{◌≡◌, ◌≢◌, ℕ, ◌+◌, ◌<◌, ◌≤◌, max, length, ◌↔◌, IfOk, IfErr, IfSome, IfNone, OnOk, OnErr, IsErr, IsErrAnd, IsErrOf, IsNone, MatchOption, Some, None, List, [], ◌∷◌, Ok, Err, IsTrue, replicate, true, is_some};
 ghost use Rattle.std.specs.List.{count_by};
 ghost use Rattle.dq_core.specs.Core.{filing_for};
-ghost use Rattle.dq_core.specs.Asides.{aside_at, given_at, out_at, with_aside, waiting_in, IsCrowded, NoneAside, SetsAside, TakesAside, TakesCrowded};
+ghost use Rattle.dq_core.specs.Deferring.{deferred_value_at, given_at, out_at, with_deferred, waiting_in, WillDisplace, NoneDeferred, DefersValues, TakesDeferredValue, TakesDisplaced};
 ghost use Rattle.dq_core.specs.Slots.{unused, is_held, is_worn, row_at, shown};
 ghost use Rattle.dq_core.specs.Words.{AreFresh, StillBegun};
 ghost use Rattle.dq_core.specs.Calls.{IsConfig};
@@ -68,7 +68,7 @@ impl<T, W: Words, A: Allocator> Model for DelayCore<T, W, A> {
       noted = a.noted;
       wheel = a.wheel;
       slots = shown a.slots;
-      aside = a.slots.aside;
+      deferred = a.slots.deferred;
       known = W.known a.words;
       counts = W.counts a.words;
       words = a.words;
@@ -119,7 +119,7 @@ fn wheel_and_slots<T, A: Allocator + Clone>(
     requires bound { last ≤ LAST_STAMP }
     ensures { IfOk result (λ r. (r.0.filing ≡ fresh_filing capacity)
         × (shown r.1 ≡ record { last_stamp = last; rows = replicate capacity unused })
-        × NoneAside r.1.aside) }
+        × NoneDeferred r.1.deferred) }
 {
     let other = alloc.clone()?;
     let Ok(wheel) = Wheel::new(other, capacity) else {
@@ -173,7 +173,7 @@ impl<T, W: Words + Drop, A: Allocator + Clone> DelayCore<T, W, A> {
         // An empty queue at tick 0, of that shard and that many slots.
         ensures empty { IfOk result (λ q. NoneLinked (machine q)) }
         ensures start { IfOk result (λ q. (q.noted ≡ 0) × (q.wheel.filing.tick ≡ 0)) }
-        ensures none { IfOk result (λ q. NoneAside q.aside) }
+        ensures none { IfOk result (λ q. NoneDeferred q.deferred) }
         ensures size { IfOk result
             (λ q. (q.shard ≡ config.shard) × (length q.slots.rows ≡ config.capacity)) }
 
@@ -276,12 +276,13 @@ impl<T, W: Words, A: Allocator> DelayCore<T, W, A> {
         ensures refused { IfErr result.0 (λ e. (e.1 ≡ value) × (self.new ≡ self.old)) }
         ensures too_far { IsErrAnd result.0 (λ e. e.0 ≡ TooFar LAST_TICK) ↔ (LAST_TICK < when) }
 
-        // Beside the key comes what was set aside in the slot, and nothing is left there. A value comes
+        // Beside the key comes what was deferred in the slot, and nothing is left there. A value comes
         // only where one waits in each slot that was left.
-        ensures beside { IfOk result.0 (λ k. (result.1 ≡ aside_at self.old.aside k.entry.index)
-            × (self.new.aside ≡ with_aside self.old.aside k.entry.index None)) }
-        ensures crowded { OnOk result.0 (self.old.aside.drops ≡ true → is_some result.1 ≡ true
-            → IsCrowded self.old.slots self.old.aside) }
+        ensures beside { IfOk result.0
+            (λ k. (result.1 ≡ deferred_value_at self.old.deferred k.entry.index)
+            × (self.new.deferred ≡ with_deferred self.old.deferred k.entry.index None)) }
+        ensures displaced { OnOk result.0 (self.old.deferred.drops ≡ true → is_some result.1 ≡ true
+            → WillDisplace self.old.slots self.old.deferred) }
         ensures alone { OnErr result.0 (result.1 ≡ None) }
 
         // Exactly: a step of the queue machine, and what it leaves of the wheel, the slots and the words.
@@ -296,7 +297,7 @@ impl<T, W: Words, A: Allocator> DelayCore<T, W, A> {
             return (Err((CoreError::TooFar { limit: LAST_TICK }, value)), None);
         }
         match self.slots.fill(value) {
-            Ok((index, crowded)) => {
+            Ok((index, displaced)) => {
                 let stamp = self.slots.stamp(index);
                 let tick = self.wheel.tick();
                 let base = when.max(tick);
@@ -304,7 +305,7 @@ impl<T, W: Words, A: Allocator> DelayCore<T, W, A> {
                 self.wheel.link(index, filing_tick(tick, base));
                 self.inserted += 1;
                 let entry = EntryId::new(self.shard, index as u32, stamp);
-                (Ok(Key::new(entry, stamp)), crowded)
+                (Ok(Key::new(entry, stamp)), displaced)
             }
             Err(value) => {
                 let full = CoreError::Full {
@@ -326,7 +327,7 @@ impl<T, W: Words, A: Allocator> DelayCore<T, W, A> {
         ensures one_step { W.steps self.new.words ≤ W.steps self.old.words + 1 }
         ensures noted { self.new.noted ≡ self.old.noted }
         ensures settles { SettlesDue W.shared self.old result self.new }
-        ensures aside { IfSome result (λ made. SetsAside self.old (given_at made) self.new) }
+        ensures deferred { IfSome result (λ made. DefersValues self.old (given_at made) self.new) }
     {
         let tick = self.wheel.tick();
         let Some(index) = self.wheel.pop_due() else {
@@ -350,7 +351,7 @@ impl<T, W: Words, A: Allocator> DelayCore<T, W, A> {
                 Some(Progress::Went)
             }
             Settled::SettledCancelled => {
-                self.slots.let_go(index);
+                self.slots.defer(index);
                 Some(Progress::Went)
             }
         }
@@ -365,7 +366,7 @@ impl<T, W: Words, A: Allocator> DelayCore<T, W, A> {
         ensures one_step { W.steps self.new.words ≤ W.steps self.old.words + 1 }
         ensures noted { self.new.noted ≡ self.old.noted }
         ensures progress { IsStepAt W.shared pace self.old result self.new }
-        ensures aside { SetsAside self.old (given_at result) self.new }
+        ensures deferred { DefersValues self.old (given_at result) self.new }
     {
         if let Some(made) = self.settle_due() {
             return made;
@@ -437,8 +438,8 @@ impl<T, W: Words, A: Allocator> DelayCore<T, W, A> {
         ensures ahead { IfRests result (λ next. IfSome next (λ tick. self.new.noted < tick)) }
         ensures idle { IfRests result (λ next. (next ≡ None) ↔ NoneLinked (machine self.new)) }
 
-        // The value of each entry that left is set aside, but of what came out.
-        ensures aside { IfOk result (λ turn. SetsAside self.old (out_at turn) self.new) }
+        // The value of each entry that left is deferred, but of what came out.
+        ensures deferred { IfOk result (λ turn. DefersValues self.old (out_at turn) self.new) }
 
         // Exactly: a run of the queue machine, and the way of the wheel and of the words.
         ensures polls { Polls W.shared self.old tick result self.new }
@@ -486,38 +487,38 @@ impl<T, W: Words, A: Allocator> DelayCore<T, W, A> {
 
     /// Returns how many freed values wait for their drop. Constant time.
     #[inline(always)]
-    pub fn aside(&self) -> usize
-        ensures { result ≡ waiting_in self.now.aside }
+    pub fn deferred(&self) -> usize
+        ensures { result ≡ waiting_in self.now.deferred }
     {
-        self.slots.aside()
+        self.slots.deferred()
     }
 
     /// Takes out a freed value that waits for its drop. It returns none if no value waits. Constant time.
     ///
     /// ```ignore
-    /// for _ in 0..queue.aside() {
-    ///     drop(queue.take_aside());
+    /// for _ in 0..queue.deferred() {
+    ///     drop(queue.take_deferred());
     /// }
     /// ```
-    pub fn take_aside(&mut self) -> Option<T>
+    pub fn take_deferred(&mut self) -> Option<T>
         // One comes exactly while one waits, and nothing else changes.
-        ensures takes { TakesAside self.old.aside result self.new.aside }
-        ensures rest { self.new ≡ record self.old { aside = self.new.aside } }
+        ensures takes { TakesDeferredValue self.old.deferred result self.new.deferred }
+        ensures rest { self.new ≡ record self.old { deferred = self.new.deferred } }
         ensures kept { IfNone result (self.new ≡ self.old) }
     {
-        self.slots.take_aside()
+        self.slots.take_deferred()
     }
 
     /// Takes out the value that waits for its drop in the slot that the next insert takes, if one does: none while a
     /// slot is free. Constant time.
     #[inline(always)]
-    pub fn take_crowded(&mut self) -> Option<T>
+    pub fn take_displaced(&mut self) -> Option<T>
         // One comes exactly where a slot is left and a value waits in each, and nothing else changes.
-        ensures takes { TakesCrowded self.old.slots self.old.aside result self.new.aside }
-        ensures rest { self.new ≡ record self.old { aside = self.new.aside } }
+        ensures takes { TakesDisplaced self.old.slots self.old.deferred result self.new.deferred }
+        ensures rest { self.new ≡ record self.old { deferred = self.new.deferred } }
         ensures kept { IfNone result (self.new ≡ self.old) }
     {
-        self.slots.take_crowded()
+        self.slots.take_displaced()
     }
 
     // Where an entry is held, none where it is missing.
@@ -558,8 +559,8 @@ impl<T, W: Words, A: Allocator> DelayCore<T, W, A> {
         ensures kept { KeepsSlots self.old self.new }
         ensures others { OthersStay self.old self.new entry.now.index }
 
-        // Nothing is set aside or taken out.
-        ensures aside { self.new.aside ≡ self.old.aside }
+        // Nothing is deferred or taken out.
+        ensures deferred { self.new.deferred ≡ self.old.deferred }
 
         // Exactly: what is known after it, and all else as it was.
         ensures tells { TellsDeadline W.shared self.old entry.now result self.new }
@@ -596,8 +597,8 @@ impl<T, W: Words, A: Allocator> DelayCore<T, W, A> {
         ensures refused { OnErr result (KeepsSlots self.old self.new) }
         ensures missing { IsErrOf result Missing ↔ IsMissing self.old entry.now }
 
-        // Nothing is set aside or taken out.
-        ensures aside { self.new.aside ≡ self.old.aside }
+        // Nothing is deferred or taken out.
+        ensures deferred { self.new.deferred ≡ self.old.deferred }
 
         // Exactly: a step of the queue machine, and what it leaves of the wheel, the slots and the words.
         ensures removes { Removes W.shared self.old entry.now result self.new }
@@ -645,8 +646,8 @@ impl<T, W: Words, A: Allocator> DelayCore<T, W, A> {
         ensures refused { OnErr result (KeepsSlots self.old self.new) }
         ensures too_far { IsErrOf result (TooFar LAST_TICK) ↔ (LAST_TICK < when) }
 
-        // Nothing is set aside or taken out.
-        ensures aside { self.new.aside ≡ self.old.aside }
+        // Nothing is deferred or taken out.
+        ensures deferred { self.new.deferred ≡ self.old.deferred }
 
         // Exactly: a step of the queue machine, and what it leaves of the wheel, the slots and the words.
         ensures resets { Resets W.shared self.old entry.now when result self.new }

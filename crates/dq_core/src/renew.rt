@@ -91,8 +91,8 @@ impl<T, W: Words, A: Allocator> DelayCore<T, W, A> {
             ((self.old.shard < self.new.shard) × (self.new.shard ≡ shard)) }
         ensures stale { OnOk result (OldAreMissing self.old self.new) }
 
-        // What is set aside stays so.
-        ensures aside { self.new.aside ≡ self.old.aside }
+        // What is deferred stays so.
+        ensures deferred { self.new.deferred ≡ self.old.deferred }
 
         // Refused, the words come back and nothing changes.
         ensures refused { IfErr result (λ e. (e.1 ≡ words) × (self.new ≡ self.old)) }
@@ -157,7 +157,7 @@ impl<T, W: Words, A: Allocator> DelayCore<T, W, A> {
         // It goes on over the other's words and slots, and what it was comes back.
         ensures rows { OnOk result
             ((self.new.words ≡ fresh.words) × (self.new.slots ≡ fresh.slots)
-            × (self.new.aside ≡ fresh.aside)) }
+            × (self.new.deferred ≡ fresh.deferred)) }
         ensures back { IfOk result (λ old. old ≡ self.old) }
 
         // Its number rises to the other's, so each entry from before is missing for good.

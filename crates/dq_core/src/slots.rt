@@ -4,7 +4,7 @@
 //! is held there. A slot that holds nothing at the last stamp is worn: it is never used again. All the memory is
 //! taken by `new`. Every other call is of constant time but `forget`, which goes over every slot.
 //!
-//! A value that is let go stays in its slot, which holds nothing from then on, until somebody takes it out. Until then
+//! A value that is freed stays in its slot, which holds nothing from then on, until somebody takes it out. Until then
 //! the slot isn't among the free ones: a fill takes it only where no slot is free, and hands the value over. No call
 //! drops a value: no impl here says that one may be dropped.
 ghost use Rattle.std.specs.Prelude.{◌≡◌, ℕ, ◌+◌, ◌<◌, ◌≤◌, ◌^◌, length, replicate, IfOk, MatchOption, Some, None, true, false};
@@ -37,7 +37,7 @@ struct Cell<T> {
     stamp: u32,
     // The birth stamp of what it holds, and 0 where it holds nothing.
     born: u32,
-    // What it holds, or a value that was let go and is set aside here.
+    // What it holds, or a value that was freed and is deferred here.
     value: Option<T>,
 }
 
@@ -54,7 +54,7 @@ impl<T> Model for Cell<T> {
 impl<T> Cell<T> {
     ghost use Rattle.dq_core.specs.Slots.{is_held, IsBorn};
     ghost use Rattle.std.specs.Fn.{FnOnceReturnsAtMut};
-    ghost use Rattle.dq_core.specs.Cells.{ChangesCell, unused_cell, empty_cell, filled_cell, vacated_cell, let_go_cell, emptied_cell, forgotten_cell, raised_cell};
+    ghost use Rattle.dq_core.specs.Cells.{ChangesCell, unused_cell, empty_cell, filled_cell, vacated_cell, deferred_cell, emptied_cell, forgotten_cell, raised_cell};
 
     fn unused() -> Self
         ensures { result ≡ unused_cell }
@@ -122,12 +122,12 @@ impl<T> Cell<T> {
         }
     }
 
-    // Puts a value in, and returns the one that was set aside here.
+    // Puts a value in, and returns the one that was deferred here.
     #[inline]
     fn fill(&mut self, value: T) -> Option<T>
         requires { self.old.row.stamp + 1 < 2 ^ 32 }
         ensures filled { self.new ≡ filled_cell self.old value }
-        ensures crowded { self.old.row.held ≡ None → result ≡ self.old.aside }
+        ensures displaced { self.old.row.held ≡ None → result ≡ self.old.deferred }
     {
         self.stamp += 1;
         self.born = self.stamp;
@@ -138,7 +138,7 @@ impl<T> Cell<T> {
     fn vacate(&mut self) -> Held<T>
         requires { is_held self.old.row ≡ true }
         ensures held { self.old.row.held ≡ Some result }
-        ensures none { self.old.aside ≡ None }
+        ensures none { self.old.deferred ≡ None }
         ensures vacated { self.new ≡ vacated_cell self.old }
     {
         let value = self.value.take().unwrap();
@@ -147,16 +147,16 @@ impl<T> Cell<T> {
         Held { born, value }
     }
 
-    // Lets go of what it holds, which is set aside here.
-    fn let_go(&mut self)
-        ensures { self.new ≡ let_go_cell self.old }
+    // Frees the value that it holds, and defers its drop.
+    fn defer(&mut self)
+        ensures { self.new ≡ deferred_cell self.old }
     {
         self.born = 0;
     }
 
-    // Takes out what was set aside here, if anything was.
-    fn take_aside(&mut self) -> Option<T>
-        ensures out { result ≡ self.old.aside }
+    // Takes out what was deferred here, if anything was.
+    fn take_deferred(&mut self) -> Option<T>
+        ensures out { result ≡ self.old.deferred }
         ensures left { self.new ≡ emptied_cell self.old }
     {
         if self.born != 0 {
@@ -178,7 +178,7 @@ impl<T> Cell<T> {
         }
     }
 
-    // As if it had never been used; but what was set aside stays.
+    // As if it had never been used; but what was deferred stays.
     fn forget(&mut self)
         ensures { self.new ≡ forgotten_cell self.old }
     {
@@ -216,7 +216,7 @@ impl<T, A: Allocator> Model for Slots<T, A> {
     ghost use Rattle.dq_core.specs.Slots.{SlotState};
     ghost use Rattle.std.specs.Prelude.{◌≤◌, length};
     ghost use Rattle.dq_core.specs.Deferred.{defers_room};
-    ghost use Rattle.dq_core.specs.Cells.{rows_of, values_of, AreAside, AreNoted};
+    ghost use Rattle.dq_core.specs.Cells.{rows_of, values_of, AreDeferred, AreNoted};
     ghost use Rattle.dq_core.specs.SlotRowsKept.{IsSlotRowsKept};
 
     ghost Value = { SlotState T };
@@ -224,19 +224,19 @@ impl<T, A: Allocator> Model for Slots<T, A> {
     ghost view = { λ a. record {
       last_stamp = a.last;
       rows = rows_of a.cells.items;
-      aside = record { drops = a.drops; values = values_of a.cells.items };
+      deferred = record { drops = a.drops; values = values_of a.cells.items };
     } };
 
     ghost invariant = { λ a. IsSlotRowsKept a.last (rows_of a.cells.items) a.free a.deferred
         a.held_count a.free_count
         × (length a.cells.items ≤ defers_room a.deferred)
         × (length a.cells.items ≤ defers_room a.deferred_worn)
-        × AreAside a.last a.cells.items a.deferred a.deferred_worn
+        × AreDeferred a.last a.cells.items a.deferred a.deferred_worn
         × AreNoted a.drops a.cells.items a.deferred a.deferred_worn };
 }
 
 impl<T, A: Allocator + Clone> Slots<T, A> {
-    ghost use Rattle.dq_core.specs.Asides.{NoneAside};
+    ghost use Rattle.dq_core.specs.Deferring.{NoneDeferred};
     ghost use Rattle.dq_core.specs.Slots.{shown, unused};
     ghost use Rattle.dq_ticks.specs.declared.TheConstants.{CAPACITY_LIMIT, LAST_STAMP};
 
@@ -247,7 +247,7 @@ impl<T, A: Allocator + Clone> Slots<T, A> {
         requires bound { last ≤ LAST_STAMP }
         ensures rows { IfOk result
             (λ s. shown s ≡ record { last_stamp = last; rows = replicate capacity unused }) }
-        ensures none { IfOk result (λ s. NoneAside s.aside) }
+        ensures none { IfOk result (λ s. NoneDeferred s.deferred) }
     {
         let deferred = DeferredDrops::new(alloc.clone()?, capacity)?;
         let deferred_worn = DeferredDrops::new(alloc.clone()?, capacity)?;
@@ -273,7 +273,7 @@ impl<T, A: Allocator + Clone> Slots<T, A> {
 
 impl<T, A: Allocator + Clone> Slots<T, A> {
     ghost use Rattle.std.specs.Prelude.{OnErr};
-    ghost use Rattle.dq_core.specs.Asides.{NoneAside};
+    ghost use Rattle.dq_core.specs.Deferring.{NoneDeferred};
     ghost use Rattle.dq_ticks.specs.declared.words.Parts.{Parts};
     ghost use Rattle.dq_ticks.specs.declared.TheConstants.{CAPACITY_LIMIT, LAST_STAMP};
     ghost use Rattle.dq_core.specs.Words.{StillBegun};
@@ -286,7 +286,7 @@ impl<T, A: Allocator + Clone> Slots<T, A> {
         requires bound { last ≤ LAST_STAMP }
         requires over { AreOver last (W.known words.old) }
         ensures rows { IfOk result (λ s. (s.last_stamp ≡ last) × AreVacant s.rows (W.known words.old)) }
-        ensures none { IfOk result (λ s. NoneAside s.aside) }
+        ensures none { IfOk result (λ s. NoneDeferred s.deferred) }
         ensures refused { OnErr result (words.new ≡ words.old) }
         ensures known { W.known words.new ≡ W.known words.old }
         ensures counts { W.counts words.new ≡ W.counts words.old }
@@ -321,7 +321,7 @@ impl<T, A: Allocator + Clone> Slots<T, A> {
     }
 }
 
-// Notes that the value of a worn slot was let go there, and waits for its drop where values do.
+// Notes that the value of a worn slot was freed there, and waits for its drop where values do.
 #[inline(always)]
 fn mark<A: Allocator>(deferred: &mut DeferredDrops<A>, drops: bool, index: usize)
     requires { index < defers_room deferred.old }
@@ -332,10 +332,10 @@ fn mark<A: Allocator>(deferred: &mut DeferredDrops<A>, drops: bool, index: usize
     }
 }
 
-// Gives a slot whose value was let go to the next fills: as a free one, or where the value waits for its drop as one
+// Gives a slot, whose value was freed, to the next fills: as a free one, or where the value waits for its drop as one
 // that is taken where none is free.
 #[inline(always)]
-fn set_aside<A: Allocator>(
+fn defer_slot<A: Allocator>(
     free: &mut FreeSlots<A>,
     deferred: &mut DeferredDrops<A>,
     drops: bool,
@@ -389,7 +389,7 @@ fn take_waiting<T, A: Allocator>(
         return None;
     };
     let cell = &mut cells[index];
-    let value = cell.take_aside().unwrap();
+    let value = cell.take_deferred().unwrap();
     Some((index, value))
 }
 
@@ -434,7 +434,7 @@ impl<T, A: Allocator> Beside for Slots<T, A> {
 
 impl<T, A: Allocator> Slots<T, A> {
     ghost use Rattle.std.specs.Prelude.{IfErr, IsTrue, is_some};
-    ghost use Rattle.dq_core.specs.Asides.{aside_at, with_aside, waiting_in, IsCrowded, IsClearAt, SetsAsideBut, TakesAside, TakesCrowded};
+    ghost use Rattle.dq_core.specs.Deferring.{deferred_value_at, with_deferred, waiting_in, WillDisplace, IsClearAt, DefersValuesBut, TakesDeferredValue, TakesDisplaced};
     ghost use Rattle.dq_core.specs.Slots.{SlotRows, row_at, is_free, is_held, is_worn, shown, vacated, raised, unused, IsBorn, IsFilled, IsSlotRows};
     ghost use Rattle.dq_core.specs.Renewals.{forgotten, never_used};
     ghost use Rattle.std.specs.Fn.{FnOnceReturnsAtMut};
@@ -525,8 +525,8 @@ impl<T, A: Allocator> Slots<T, A> {
     #[inline]
     pub fn next(&self) -> Option<usize>
         ensures { MatchOption result
-            ((i : ℕ) → ¬ IsClearAt (shown self.now) self.now.aside i)
-            (λ i. IsClearAt (shown self.now) self.now.aside i) }
+            ((i : ℕ) → ¬ IsClearAt (shown self.now) self.now.deferred i)
+            (λ i. IsClearAt (shown self.now) self.now.deferred i) }
     {
         self.free.next()
     }
@@ -536,22 +536,22 @@ impl<T, A: Allocator> Slots<T, A> {
     #[inline(always)]
     pub fn fill(&mut self, value: T) -> Result<(usize, Option<T>), T>
         ensures filled { IsFilled (shown self.old) value result (shown self.new) }
-        // What comes out beside the index is what was set aside there, in a slot that no fill
+        // What comes out beside the index is what was deferred there, in a slot that no fill
         // takes while it may take one in which no value waits.
-        ensures aside { IfOk result (λ f. (f.1 ≡ aside_at self.old.aside f.0)
-            × (self.new.aside ≡ with_aside self.old.aside f.0 None)) }
-        ensures crowded { IfOk result (λ f. self.old.aside.drops ≡ true → is_some f.1 ≡ true
-            → IsCrowded (shown self.old) self.old.aside) }
-        ensures kept { IfErr result (λ _. self.new.aside ≡ self.old.aside) }
+        ensures deferred { IfOk result (λ f. (f.1 ≡ deferred_value_at self.old.deferred f.0)
+            × (self.new.deferred ≡ with_deferred self.old.deferred f.0 None)) }
+        ensures displaced { IfOk result (λ f. self.old.deferred.drops ≡ true → is_some f.1 ≡ true
+            → WillDisplace (shown self.old) self.old.deferred) }
+        ensures kept { IfErr result (λ _. self.new.deferred ≡ self.old.deferred) }
     {
         let Some(index) = self.free.take(&mut self.deferred) else {
             return Err(value);
         };
         let cell = &mut self.cells[index];
-        let crowded = cell.fill(value);
+        let displaced = cell.fill(value);
         self.held_count += 1;
         self.free_count -= 1;
-        Ok((index, crowded))
+        Ok((index, displaced))
     }
 
     /// Takes out what a slot holds.
@@ -560,7 +560,7 @@ impl<T, A: Allocator> Slots<T, A> {
         requires { is_held (row_at self.old.rows index) ≡ true }
         ensures held { (row_at self.old.rows index).held ≡ Some result }
         ensures vacated { shown self.new ≡ vacated (shown self.old) index }
-        ensures aside { self.new.aside ≡ self.old.aside }
+        ensures deferred { self.new.deferred ≡ self.old.deferred }
     {
         let cell = &mut self.cells[index];
         let held = cell.vacate();
@@ -572,17 +572,18 @@ impl<T, A: Allocator> Slots<T, A> {
         held
     }
 
-    /// Lets go of what a slot holds. The value is set aside in the slot, and waits for its drop where it has one.
+    /// Frees what a slot holds. The value is deferred: it stays in the slot, and waits for its drop where it has one.
     #[inline]
-    pub fn let_go(&mut self, index: usize)
+    pub fn defer(&mut self, index: usize)
         requires { is_held (row_at self.old.rows index) ≡ true }
         ensures vacated { shown self.new ≡ vacated (shown self.old) index }
-        ensures aside { SetsAsideBut self.old.rows self.old.aside None self.new.rows self.new.aside }
+        ensures deferred { DefersValuesBut self.old.rows self.old.deferred None
+            self.new.rows self.new.deferred }
     {
         let cell = &mut self.cells[index];
-        cell.let_go();
+        cell.defer();
         if cell.stamp() < self.last {
-            set_aside(&mut self.free, &mut self.deferred, self.drops, index);
+            defer_slot(&mut self.free, &mut self.deferred, self.drops, index);
             self.free_count += 1;
         } else {
             mark(&mut self.deferred_worn, self.drops, index);
@@ -592,8 +593,8 @@ impl<T, A: Allocator> Slots<T, A> {
 
     /// How many values wait for their drop.
     #[inline(always)]
-    pub fn aside(&self) -> usize
-        ensures { result ≡ waiting_in self.now.aside }
+    pub fn deferred(&self) -> usize
+        ensures { result ≡ waiting_in self.now.deferred }
     {
         self.deferred.law();
         self.deferred_worn.law();
@@ -601,9 +602,9 @@ impl<T, A: Allocator> Slots<T, A> {
     }
 
     /// Takes out a value that waits for its drop; none comes exactly where none does.
-    pub fn take_aside(&mut self) -> Option<T>
+    pub fn take_deferred(&mut self) -> Option<T>
         ensures rows { shown self.new ≡ shown self.old }
-        ensures takes { TakesAside self.old.aside result self.new.aside }
+        ensures takes { TakesDeferredValue self.old.deferred result self.new.deferred }
     {
         self.deferred.law();
         self.deferred_worn.law();
@@ -619,7 +620,7 @@ impl<T, A: Allocator> Slots<T, A> {
     #[inline(never)]
     fn take_from_next(&mut self) -> Option<T>
         ensures rows { shown self.new ≡ shown self.old }
-        ensures takes { TakesCrowded (shown self.old) self.old.aside result self.new.aside }
+        ensures takes { TakesDisplaced (shown self.old) self.old.deferred result self.new.deferred }
     {
         self.deferred.law();
         let waiting = self.deferred.count();
@@ -634,16 +635,16 @@ impl<T, A: Allocator> Slots<T, A> {
         )
     }
 
-    /// Takes out the value that is set aside where the next fill puts its own; none comes exactly where a slot is free
+    /// Takes out the value that is deferred where the next fill puts its own; none comes exactly where a slot is free
     /// in which none is, or where a fill is refused.
     #[inline(always)]
-    pub fn take_crowded(&mut self) -> Option<T>
+    pub fn take_displaced(&mut self) -> Option<T>
         ensures rows { shown self.new ≡ shown self.old }
-        ensures takes { TakesCrowded (shown self.old) self.old.aside result self.new.aside }
+        ensures takes { TakesDisplaced (shown self.old) self.old.deferred result self.new.deferred }
     {
         self.deferred.law();
         self.deferred_worn.law();
-        if self.aside() == 0 {
+        if self.deferred() == 0 {
             return None;
         }
         self.take_from_next()
@@ -656,7 +657,7 @@ impl<T, A: Allocator> Slots<T, A> {
         requires callable { F.IsAlwaysCallable call }
         ensures changes { ChangesSlot (FnOnceReturnsAtMut F.FnOnce call)
             (shown self.old) index result (shown self.new) }
-        ensures aside { self.new.aside ≡ self.old.aside }
+        ensures deferred { self.new.deferred ≡ self.old.deferred }
     {
         let cell = &mut self.cells[index];
         cell.with_value(call)
@@ -668,7 +669,7 @@ impl<T, A: Allocator> Slots<T, A> {
         requires held { is_held (row_at self.old.rows index) ≡ true }
         requires left { (row_at self.old.rows index).stamp < self.old.last_stamp }
         ensures raised { shown self.new ≡ raised (shown self.old) index }
-        ensures aside { self.new.aside ≡ self.old.aside }
+        ensures deferred { self.new.deferred ≡ self.old.deferred }
     {
         let cell = &mut self.cells[index];
         cell.raise();
@@ -679,7 +680,7 @@ impl<T, A: Allocator> Slots<T, A> {
         requires in_range { index < length self.old.rows }
         requires empty { is_held (row_at self.old.rows index) ≡ false }
         ensures forgotten { shown self.new ≡ forgotten (shown self.old) index }
-        ensures aside { self.new.aside ≡ self.old.aside }
+        ensures deferred { self.new.deferred ≡ self.old.deferred }
     {
         let cell = &mut self.cells[index];
         let was_worn = cell.stamp() >= self.last;
@@ -695,7 +696,7 @@ impl<T, A: Allocator> Slots<T, A> {
     pub fn forget(&mut self)
         requires { count_by is_held self.old.rows ≡ 0 }
         ensures forgotten { shown self.new ≡ never_used (shown self.old) }
-        ensures aside { self.new.aside ≡ self.old.aside }
+        ensures deferred { self.new.deferred ≡ self.old.deferred }
     {
         for index in 0..self.cells.len() {
             self.forget_at(index);

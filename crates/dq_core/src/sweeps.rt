@@ -4,7 +4,7 @@
 //! once.
 
 ghost use Rattle.std.specs.Prelude.{◌≡◌, ℕ, ◌+◌, ◌<◌, ◌≤◌, ◌⊎◌, ◌↔◌, nat_lt, if◌then◌else◌, length, Some, None, OnOk, OnErr, IsErrOf};
-ghost use Rattle.dq_core.specs.Asides.{SetsAside};
+ghost use Rattle.dq_core.specs.Deferring.{DefersValues};
 ghost use Rattle.dq_core.specs.AtTheCall.{linked_in, OthersStay};
 ghost use Rattle.dq_core.specs.Calls.{SameCore, IsMissing};
 ghost use Rattle.dq_core.specs.declared.errors.ReapError.TheVariants.{Missing};
@@ -46,7 +46,7 @@ impl<T, W: Words, A: Allocator> DelayCore<T, W, A> {
         ensures begun { StillBegun W.begun self.old.words self.new.words }
         ensures one_step { W.steps self.new.words ≤ W.steps self.old.words + 1 }
         ensures swept { IsSwept W.shared self.old index result self.new }
-        ensures aside { SetsAside self.old None self.new }
+        ensures deferred { DefersValues self.old None self.new }
     {
         if !self.slots.is_held(index) {
             return false;
@@ -56,7 +56,7 @@ impl<T, W: Words, A: Allocator> DelayCore<T, W, A> {
             return false;
         };
         self.wheel.unlink(index);
-        self.slots.let_go(index);
+        self.slots.defer(index);
         true
     }
 
@@ -72,8 +72,8 @@ impl<T, W: Words, A: Allocator> DelayCore<T, W, A> {
         ensures noted { self.new.noted ≡ self.old.noted }
         ensures tick { self.new.wheel.filing.tick ≡ self.old.wheel.filing.tick }
 
-        // The value of each entry that left is set aside.
-        ensures aside { SetsAside self.old None self.new }
+        // The value of each entry that left is deferred.
+        ensures deferred { DefersValues self.old None self.new }
 
         // Exactly: a run of the queue machine, and what it leaves of the wheel, the slots and the words.
         ensures sweeps { Sweeps W.shared self.old result self.new }
@@ -111,8 +111,8 @@ impl<T, W: Words, A: Allocator> DelayCore<T, W, A> {
         ensures noted { self.new.noted ≡ self.old.noted }
         ensures tick { self.new.wheel.filing.tick ≡ self.old.wheel.filing.tick }
 
-        // The value of each entry that left is set aside.
-        ensures aside { SetsAside self.old None self.new }
+        // The value of each entry that left is deferred.
+        ensures deferred { DefersValues self.old None self.new }
 
         // Exactly: a run of the queue machine, and what it leaves of the wheel, the slots and the words.
         ensures sweeps { SweepsSome W.shared self.old from (from + count) result.reaped self.new }
@@ -157,8 +157,8 @@ impl<T, W: Words, A: Allocator> DelayCore<T, W, A> {
         ensures counts { self.new.counts ≡ self.old.counts }
         ensures noted { self.new.noted ≡ self.old.noted }
 
-        // The value of each entry that left is set aside.
-        ensures aside { SetsAside self.old None self.new }
+        // The value of each entry that left is deferred.
+        ensures deferred { DefersValues self.old None self.new }
 
         // Exactly: a run of the queue machine, and what it leaves of the wheel, the slots and the words.
         ensures reaps { Reaps W.shared self.old entry.now result self.new }
@@ -184,7 +184,7 @@ impl<T, W: Words, A: Allocator> DelayCore<T, W, A> {
         ensures origin { W.origin self.new.words ≡ W.origin self.old.words }
         ensures begun { StillBegun W.begun self.old.words self.new.words }
         ensures emptied { IsEmptied W.shared self.old index result self.new }
-        ensures aside { SetsAside self.old None self.new }
+        ensures deferred { DefersValues self.old None self.new }
     {
         if !self.slots.is_held(index) {
             return false;
@@ -195,11 +195,11 @@ impl<T, W: Words, A: Allocator> DelayCore<T, W, A> {
         match ended {
             Some(_) => {
                 self.removed += 1;
-                self.slots.let_go(index);
+                self.slots.defer(index);
                 true
             }
             None => {
-                self.slots.let_go(index);
+                self.slots.defer(index);
                 false
             }
         }
@@ -217,8 +217,8 @@ impl<T, W: Words, A: Allocator> DelayCore<T, W, A> {
         ensures noted { self.new.noted ≡ self.old.noted }
         ensures tick { self.new.wheel.filing.tick ≡ self.old.wheel.filing.tick }
 
-        // The value of each entry that left is set aside.
-        ensures aside { SetsAside self.old None self.new }
+        // The value of each entry that left is deferred.
+        ensures deferred { DefersValues self.old None self.new }
 
         // Exactly: a run of the queue machine, and what it leaves of the wheel, the slots and the words.
         ensures clears { Clears W.shared self.old result self.new }

@@ -17,10 +17,10 @@ use Rattle.dq_core.specs.AtTheCall.{IfRests}
 use Rattle.dq_core.specs.declared.outcomes.Turn.TheVariants.{Out, Waiting, Idle}
 use Rattle.dq_core.specs.declared.outcomes.Piece.TheVariants.{Answer, Working}
 use Rattle.dq_core.specs.Readers.{TellsLeast}
-use Rattle.dq_core.specs.Asides.{TakesAside, waiting_in}
+use Rattle.dq_core.specs.Deferring.{TakesDeferredValue, waiting_in}
 use Rattle.dq_ticks.specs.declared.keys.Key.{Key}
 use Rattle.dq_growing.specs.Cores.{CoreRow, IsCoreAt, with_core}
-use Rattle.dq_growing.specs.Polls.{joined_with, AreIdleBelow, IsLeastBelow, TellsLeastBelow, WakeBounds, OthersAreQuiet, NoneLiveIn, RestsIn, IfPieceRests, PollsCore, HasTurn, TellsDue, PeeksIn, TakesAsideAt, TakesAsideIn, told}
+use Rattle.dq_growing.specs.Polls.{joined_with, AreIdleBelow, IsLeastBelow, TellsLeastBelow, WakeBounds, OthersAreQuiet, NoneLiveIn, RestsIn, IfPieceRests, PollsCore, HasTurn, TellsDue, PeeksIn, TakesDeferredAt, TakesDeferredIn, told}
 use Rattle.dq_growing.specs.declared.least.Due.TheVariants.{In}
 use Rattle.dq_growing.proofs.Rows.{at_after, one_at, on_place}
 
@@ -135,13 +135,13 @@ module _ {T W : Type 0} where
   peeks s l c (Some k) is at tells = (l, c, is, (is.at.0, sym at), tells)
 
   -- a core in which a value waits gives one
-  pub takes_aside : (s : CoreRow T W) (i : ℕ) (b c : Core T W) (r : Option T) → ((x : Core T W) × IsCoreAt s.cores i x × (waiting_in x.aside ≢ 0))
-      → b ≡ get_or s.cores i b → TakesAside b.aside r c.aside → c ≡ record b { aside = c.aside } → TakesAsideIn s r (with_core s i c)
-  takes_aside s i b c None found at takes rest =
-      let P : Core T W → Type 0 = λ k. waiting_in k.aside ≢ 0 in
+  pub takes_deferred : (s : CoreRow T W) (i : ℕ) (b c : Core T W) (r : Option T) → ((x : Core T W) × IsCoreAt s.cores i x × (waiting_in x.deferred ≢ 0))
+      → b ≡ get_or s.cores i b → TakesDeferredValue b.deferred r c.deferred → c ≡ record b { deferred = c.deferred } → TakesDeferredIn s r (with_core s i c)
+  takes_deferred s i b c None found at takes rest =
+      let P : Core T W → Type 0 = λ k. waiting_in k.deferred ≢ 0 in
       let same = one_at s.cores i found.0 b found.1 (found.1.0, sym at) in
       absurd (subst P same found.2 takes.0)
-  takes_aside s i b c (Some v) found at takes rest = (i, on_place s i (TakesAsideAt v) b c found.1.0 at (takes, rest))
+  takes_deferred s i b c (Some v) found at takes rest = (i, on_place s i (TakesDeferredAt v) b c found.1.0 at (takes, rest))
 
   -- no live entry of the store has a deadline before the least wake
   pub quiet_in : (cores : List (Core T W)) (l : Least) → IsLeastBelow cores (length cores) l → (i : ℕ) (c : Core T W) → IsCoreAt cores i c

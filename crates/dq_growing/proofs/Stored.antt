@@ -20,7 +20,7 @@ use Rattle.dq_growing.specs.Stands.{IsThere, IsPastAt, IsPastIn, IsAheadIn, Ages
 use Rattle.dq_growing.specs.Moving.{IfTo, IfCameOut, GoesOnIn}
 use Rattle.dq_growing.specs.declared.moving.Moved.{Moved}
 use Rattle.dq_growing.specs.declared.moving.Moved.TheVariants.{To, Out}
-use Rattle.dq_growing.specs.Polls.{TakesAsideIn}
+use Rattle.dq_growing.specs.Polls.{TakesDeferredIn}
 use Rattle.dq_growing.specs.Notes.{Book, AreNotes, SameNotes, Forgets, IsNoted, with_id, or_own, user_at, place_by, meant_place}
 use Rattle.dq_growing.specs.Store.{entry_told, TellsPlaceFor, TakeRefusedFor, TellsFirstIn, TellsFrom, HasFor, NoneStandsFor, ChangesFor, NotesAfter, answer_as, NotesAnswered, AfterReset, ResetsFor, GoesOnFor, StoreState, IsStore, StandsFor, KeysAreApart, RemovesFor, ComesFor, removed_as, ResetsThere, reset_as}
 use Rattle.dq_growing.specs.declared.cores.TakeError.{TakeError}
@@ -502,22 +502,22 @@ module _ {T W : Type 0} where
   law_opens s cores true place law opens refused = law_same_notes s cores law (opened_ages s.cores cores place (opens refl).1)
   law_opens s cores false place law opens refused = law_same_cores s cores law (refused refl).1
 
-  -- a value that was set aside is taken out
-  aside_ages : (s t : CoreRow T W) (o : Option T) → AreCores s → TakesAsideIn s o t → Ages s t
-  aside_ages s t None has did = let P : CoreRow T W → Type 0 = λ k. Ages s k in subst P (sym did.1) (all_age s)
-  aside_ages s t (Some v) has did =
+  -- a value that was deferred is taken out
+  deferred_ages : (s t : CoreRow T W) (o : Option T) → AreCores s → TakesDeferredIn s o t → Ages s t
+  deferred_ages s t None has did = let P : CoreRow T W → Type 0 = λ k. Ages s k in subst P (sym did.1) (all_age s)
+  deferred_ages s t (Some v) has did =
       let on = did.1 in
       let b = on.before in
       let c = on.after in
-      let same : c ≡ record b { aside = c.aside } = on.did.1 in
+      let same : c ≡ record b { deferred = c.deferred } = on.did.1 in
       let number : c.shard ≡ b.shard = ap (λ k. k.shard) same in
       let P : Core T W → Type 0 = λ k. AgesAt b k in
       let ages : AgesAt b c = subst P (sym same) (λ id past. (past, λ e x. (e, record { shard = x.shard; linked = x.linked; born = x.born }, refl))) in
       let Q : CoreRow T W → Type 0 = λ k. Ages s k in
       subst Q (sym on.rest) (ages_in s did.0 b c has on.at number ages)
 
-  pub law_takes_aside : (s : StoreState T W) (cores : CoreRow T W) (o : Option T) → IsStore s → AreCores s.cores → TakesAsideIn s.cores o cores → IsStore (stored cores s.notes)
-  law_takes_aside s cores o law has did = law_same_notes s cores law (aside_ages s.cores cores o has did)
+  pub law_takes_deferred : (s : StoreState T W) (cores : CoreRow T W) (o : Option T) → IsStore s → AreCores s.cores → TakesDeferredIn s.cores o cores → IsStore (stored cores s.notes)
+  law_takes_deferred s cores o law has did = law_same_notes s cores law (deferred_ages s.cores cores o has did)
 
 -- a user's id under which an entry stands at a place means that place
 module _ {T W : Type 0} (s : StoreState T W) (law : IsStore s) (u q : EntryId) (e : Entry T) (has : HasEntry s.cores q e) where

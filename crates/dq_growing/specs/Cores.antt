@@ -11,7 +11,7 @@ use Rattle.dq_core.specs.declared.errors.CoreError.TheVariants.{TooFar, Full, Mi
 use Rattle.dq_core.specs.Core.{Core}
 use Rattle.dq_growing.specs.declared.cores.TakeError.{TakeError}
 use Rattle.dq_growing.specs.declared.cores.TakeError.TheVariants.{StillLinked, UsedNumber, NoMemory}
-use Rattle.dq_core.specs.Asides.{aside_at, with_aside}
+use Rattle.dq_core.specs.Deferring.{deferred_value_at, with_deferred}
 use Rattle.dq_core.specs.Folds.{IsFoldable}
 use Rattle.dq_core.specs.AtTheCall.{linked_in, HoldsValue}
 use Rattle.dq_core.specs.Readers.{TellsNext}
@@ -118,13 +118,13 @@ module _ {T W : Type 0} where
   abbrev pub HoldsIn : CoreRow T W → EntryId → T → Type 0
   HoldsIn s id v = (i : ℕ) × (c : Core T W) × IsCoreAt s.cores i c × HoldsValue c id v
 
-  -- an insert into a core, and what comes out beside its key: what was set aside in the slot
+  -- an insert into a core, and what comes out beside its key: what was deferred in the slot
   abbrev pub InsertsBeside : T → ℕ → Result Key (CoreError × T) × Option T → Core T W → Core T W →
       Type 0
   InsertsBeside v when r b c =
       Inserts b v when r.0 c
-      × IfOk r.0 (λ k. (r.1 ≡ aside_at b.aside k.entry.index)
-      × (c.aside ≡ with_aside b.aside k.entry.index None))
+      × IfOk r.0 (λ k. (r.1 ≡ deferred_value_at b.deferred k.entry.index)
+      × (c.deferred ≡ with_deferred b.deferred k.entry.index None))
       × OnErr r.0 (r.1 ≡ None)
 
   -- the slot to go on from, none behind the core's last

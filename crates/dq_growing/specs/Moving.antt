@@ -8,7 +8,7 @@ use Rattle.dq_ticks.specs.declared.keys.EntryId.{EntryId}
 use Rattle.dq_core.specs.declared.errors.CoreError.{CoreError}
 use Rattle.dq_core.specs.declared.errors.CoreError.TheVariants.{TooFar, Full, Missing}
 use Rattle.dq_core.specs.declared.outcomes.Removed.{Removed}
-use Rattle.dq_core.specs.Asides.{aside_at, with_aside}
+use Rattle.dq_core.specs.Deferring.{deferred_value_at, with_deferred}
 use Rattle.dq_core.specs.AtTheCall.{linked_in}
 use Rattle.dq_core.specs.Calls.{IsInserted, IsRemoved, FindRefused, base_for}
 use Rattle.dq_core.specs.Core.{Core}
@@ -57,12 +57,12 @@ module _ {T W : Type 0} where
   abbrev pub HasFreeSlot : Core T W → Type 0
   HasFreeSlot c = linked_in c + worn_in c < length c.slots.rows
 
-  -- a value goes to a free slot of a core; what was set aside there comes out
+  -- a value goes to a free slot of a core; what was deferred there comes out
   abbrev pub PutsIn : T → ℕ → Key → Option T → Core T W → Core T W → Type 0
   PutsIn v d k beside b c =
       IsInserted b v d k c
-      × (beside ≡ aside_at b.aside k.entry.index)
-      × (c.aside ≡ with_aside b.aside k.entry.index None)
+      × (beside ≡ deferred_value_at b.deferred k.entry.index)
+      × (c.deferred ≡ with_deferred b.deferred k.entry.index None)
 
   -- an entry left its core as a removal takes it
   abbrev pub IsTakenOut : Bool → EntryId → Removed T → CoreRow T W → CoreRow T W → Type 0

@@ -14,7 +14,7 @@ use Rattle.dq_core.specs.Machine.{NoneLinked, NoneLiveBefore}
 use Rattle.dq_core.specs.Calls.{TellsWake, Polls}
 use Rattle.dq_core.specs.Pieces.{PollsSome}
 use Rattle.dq_core.specs.Readers.{TellsLeast}
-use Rattle.dq_core.specs.Asides.{TakesAside, waiting_in}
+use Rattle.dq_core.specs.Deferring.{TakesDeferredValue, waiting_in}
 use Rattle.dq_ticks.specs.declared.keys.Key.{Key}
 use Rattle.dq_growing.specs.declared.TheConstants.{NEVER}
 use Rattle.dq_growing.specs.declared.least.Least.{Least}
@@ -176,17 +176,17 @@ module _ {T W : Type 0} where
 
   -- no value waits for its drop in any core
   abbrev pub NoneWaits : CoreRow T W → Type 0
-  NoneWaits s = (i : ℕ) (c : Core T W) → IsCoreAt s.cores i c → waiting_in c.aside ≡ 0
+  NoneWaits s = (i : ℕ) (c : Core T W) → IsCoreAt s.cores i c → waiting_in c.deferred ≡ 0
 
   -- a value that waits in a core is taken out, and nothing else changes
-  abbrev pub TakesAsideAt : T → Core T W → Core T W → Type 0
-  TakesAsideAt v b c =
-      TakesAside b.aside (Some v) c.aside × (c ≡ record b { aside = c.aside })
+  abbrev pub TakesDeferredAt : T → Core T W → Core T W → Type 0
+  TakesDeferredAt v b c =
+      TakesDeferredValue b.deferred (Some v) c.deferred × (c ≡ record b { deferred = c.deferred })
 
   -- a value that waits is taken out; none comes exactly where none waits
-  abbrev pub TakesAsideIn : CoreRow T W → Option T → CoreRow T W → Type 0
-  TakesAsideIn s None t = NoneWaits s × (t ≡ s)
-  TakesAsideIn s (Some v) t = (i : ℕ) × OnCoreAt i (TakesAsideAt v) s t
+  abbrev pub TakesDeferredIn : CoreRow T W → Option T → CoreRow T W → Type 0
+  TakesDeferredIn s None t = NoneWaits s × (t ≡ s)
+  TakesDeferredIn s (Some v) t = (i : ℕ) × OnCoreAt i (TakesDeferredAt v) s t
 
 -- where a piece took an entry out
 abbrev pub IfPieceOut : {T : Type 0} → Result (Piece T) CoreError → (Expired T → Type 0) → Type 0

@@ -73,7 +73,7 @@ fn is_foldable<T, W: Words, A: Allocator>(core: &DelayCore<T, W, A>) -> bool
     ensures yes { result ≡ true → IsFoldable core.now }
     ensures no { result ≡ false → ¬ IsFoldable core.now }
 {
-    core.is_empty() && core.aside() == 0
+    core.is_empty() && core.deferred() == 0
 }
 
 // Takes a live entry out of a core.

@@ -85,7 +85,7 @@ fn full_of<T, W: Words, A: Allocator>(core: &DelayCore<T, W, A>) -> Option<(usiz
     }
 }
 
-// Puts a value into a free slot. What was set aside there comes out beside the key.
+// Puts a value into a free slot. What was deferred there comes out beside the key.
 fn put_in<T, W: Words, A: Allocator>(
     core: &mut DelayCore<T, W, A>,
     value: T,
@@ -104,9 +104,9 @@ fn put_in<T, W: Words, A: Allocator>(
     ensures origin { W.origin core.new.words ≡ W.origin core.old.words }
     ensures begun { StillBegun W.begun core.old.words core.new.words }
 {
-    let (answer, crowded) = core.insert_deferring(value, deadline);
+    let (answer, displaced) = core.insert_deferring(value, deadline);
     match answer {
-        Ok(key) => (key, crowded),
+        Ok(key) => (key, displaced),
         Err(_) => unreachable!(),
     }
 }
@@ -197,7 +197,7 @@ impl<T, W: Words, A: Allocator> Cores<T, W, A> {
         let Some(deadline) = next.of(removed.deadline) else {
             return (Ok(Moved::Out(removed)), None);
         };
-        let (key, crowded) = self.put_in_open(removed.value, deadline);
-        (Ok(Moved::To { key, deadline }), crowded)
+        let (key, displaced) = self.put_in_open(removed.value, deadline);
+        (Ok(Moved::To { key, deadline }), displaced)
     }
 }

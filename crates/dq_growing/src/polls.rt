@@ -3,12 +3,12 @@
 ghost use Rattle.std.specs.Prelude.{◌≡◌, true, ◌↔◌, IsErr, OnOk, ℕ, ◌<◌, ◌≤◌, max, length, MatchOption, IfSome, IfNone, Some, None, Ok, ◌≢◌, ◌+◌};
 ghost use Rattle.dq_growing.specs.declared.TheConstants.{NEVER};
 ghost use Rattle.dq_core.specs.Core.{Core, machine};
-ghost use Rattle.dq_core.specs.Asides.{waiting_in};
+ghost use Rattle.dq_core.specs.Deferring.{waiting_in};
 ghost use Rattle.dq_core.specs.Machine.{NoneLinked, NoneLiveBefore};
 ghost use Rattle.dq_core.specs.Calls.{TellsWake};
 ghost use Rattle.dq_growing.specs.Cores.{IsCoreAt};
 ghost use Rattle.dq_growing.specs.Stands.{Ages, KeepsWords};
-ghost use Rattle.dq_growing.specs.Polls.{IsLeastBelow, TellsLeastBelow, WakeBounds, PollsRow, DoesPoll, DoesPiece, TellsDue, told, IfPieceOut, IfPieceRests, OthersAreQuiet, PollsCore, HasTurn, NoneLiveIn, TellsWakeIn, PeeksIn, NoneWaits, TakesAsideIn};
+ghost use Rattle.dq_growing.specs.Polls.{IsLeastBelow, TellsLeastBelow, WakeBounds, PollsRow, DoesPoll, DoesPiece, TellsDue, told, IfPieceOut, IfPieceRests, OthersAreQuiet, PollsCore, HasTurn, NoneLiveIn, TellsWakeIn, PeeksIn, NoneWaits, TakesDeferredIn};
 
 use crate::NEVER;
 use crate::cores::Cores;
@@ -325,24 +325,24 @@ impl<T, W: Words, A: Allocator> Cores<T, W, A> {
     }
 
     /// Takes out a freed value that waits for its drop. It returns none if no value waits.
-    pub fn take_aside(&mut self) -> Option<T>
-        ensures { TakesAsideIn self.old result self.new }
+    pub fn take_deferred(&mut self) -> Option<T>
+        ensures { TakesDeferredIn self.old result self.new }
     {
         let Some(at) = self.waiting() else {
             return None;
         };
-        let value = self.cores[at].take_aside();
+        let value = self.cores[at].take_deferred();
         value
     }
 
     // The place of a core in which a value waits for its drop.
     fn waiting(&self) -> Option<usize>
         ensures found { IfSome result
-            (λ i. (c : Core T W) × IsCoreAt self.now.cores i c × (waiting_in c.aside ≢ 0)) }
+            (λ i. (c : Core T W) × IsCoreAt self.now.cores i c × (waiting_in c.deferred ≢ 0)) }
         ensures none { IfNone result (NoneWaits self.now) }
     {
         for at in 0..self.cores.len() {
-            if self.cores[at].aside() > 0 {
+            if self.cores[at].deferred() > 0 {
                 return Some(at);
             }
         }

@@ -55,7 +55,7 @@ fn free<T, W: Words, A: Allocator>(core: &DelayCore<T, W, A>) -> usize
 {
     core.law();
     let waiting = if mem::needs_drop::<T>() {
-        core.aside()
+        core.deferred()
     } else {
         0
     };
@@ -352,7 +352,7 @@ impl Sizing {
         let Some(core) = cores.get(place) else {
             return false;
         };
-        core.is_empty() && core.aside() == 0 && self.is_needless(cores, core, slots)
+        core.is_empty() && core.deferred() == 0 && self.is_needless(cores, core, slots)
     }
 
     fn has_needless<T, W: Words, A: Allocator>(&self, cores: &Cores<T, W, A>) -> bool {

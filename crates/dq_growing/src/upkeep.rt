@@ -4,7 +4,7 @@ ghost use Rattle.std.specs.Prelude.{◌≡◌, ◌+◌, true, false, ◌<◌, �
 ghost use Rattle.std.specs.Fn.{FnOnceReturnsAtMut};
 ghost use Rattle.dq_growing.specs.Cores.{OnCoreAt, SweepsFrom, TellsNextIn};
 ghost use Rattle.dq_growing.specs.Notes.{HasNoteRoom, SameNotes, meant_place};
-ghost use Rattle.dq_growing.specs.Polls.{TakesAsideIn};
+ghost use Rattle.dq_growing.specs.Polls.{TakesDeferredIn};
 ghost use Rattle.dq_growing.specs.Stands.{KeepsWords};
 ghost use Rattle.dq_growing.specs.Store.{ChangesFor, ChangesThere, HasFor, NoneStandsFor, TellsFirstIn, TellsFrom, TellsPlaceFor};
 
@@ -164,13 +164,13 @@ impl<T, W: Words, A: Allocator + Clone> Store<T, W, A> {
     }
 
     /// Takes out a freed value that waits for its drop. It returns none if no value waits.
-    pub fn take_aside(&mut self) -> Option<T>
+    pub fn take_deferred(&mut self) -> Option<T>
         // One comes exactly while one waits, and nothing else changes.
-        ensures takes { TakesAsideIn self.old.cores result self.new.cores }
+        ensures takes { TakesDeferredIn self.old.cores result self.new.cores }
         ensures notes { self.new.notes ≡ self.old.notes }
     {
         self.cores.law();
-        let value = self.cores.take_aside();
+        let value = self.cores.take_deferred();
         value
     }
 }

@@ -33,9 +33,9 @@ OnEnd (Ready (Some x)) P = ⊤
 OnEnd (Ready None) P = P
 OnEnd Pending P = ⊤
 
--- how many of the values that are set aside are dropped behind an answer: none where it has an entry
+-- how many of the values that are deferred are dropped behind an answer: none where it has an entry
 abbrev pub dropped_after : {T : Type 0} → Answer T → ℕ → ℕ
-dropped_after (Ready (Some (Ok x))) aside = 0
-dropped_after (Ready (Some (Err e))) aside = aside
-dropped_after (Ready None) aside = aside
-dropped_after Pending aside = aside
+dropped_after (Ready (Some (Ok x))) deferred = 0
+dropped_after (Ready (Some (Err e))) deferred = deferred
+dropped_after (Ready None) deferred = deferred
+dropped_after Pending deferred = deferred

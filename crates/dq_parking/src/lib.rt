@@ -3,16 +3,16 @@
 //! threads wait for the shard's lock.
 #![tactic(auto)]
 
-mod attended;
 mod parked;
 mod row;
 mod sleeping;
 mod source;
 mod streaming;
+mod watched;
 
-pub use attended::{WatchedCore, keep_or_leave};
 pub use parked::{Parked, PendingWake, let_sleep, ring, take};
 pub use row::{Row, Shard, unlock};
 pub use sleeping::{Polled, Sleeps, StreamFault, park_with};
 pub use source::{MillisecondTicks, TickSource};
 pub use streaming::{ShardStream, Shards, Whole, poll_place};
+pub use watched::{WatchedCore, keep_or_leave};

@@ -5,12 +5,12 @@
 //!
 //! ```ignore
 //! let mut shard = self.row.lock(rt, place);
-//! let (reaped, leaver) = shard.attended.sweep();
-//! self.row.leave(rt, place, shard, leaver, false);
+//! let (reaped, pending) = shard.watched.sweep();
+//! self.row.leave(rt, place, shard, pending, false);
 //! ```
 //!
 //! `lock` compares once whether the shard stands at the place, and waits for ever where another was put there. `leave`
-//! lets the lock go, wakes who has left, and drops what is set aside; `unlock` is for what drops nothing. A value's drop
+//! lets the lock go, wakes who has left, and drops what is deferred; `unlock` is for what drops nothing. A value's drop
 //! is a user's code: it may call the queue, and it may panic. So it runs while the lock is free, and where it panics the
 //! shard is whole.
 ghost use Rattle.std.specs.Prelude.{◌≡◌, ℕ, ◌<◌, ◌≤◌, ◌^◌, IfNone, IfOk, IfErr, IsTrue, vec_len, vec_capacity};
@@ -55,7 +55,7 @@ pub trait Shard {
     /// Whether it stands at a place of so many.
     ghost stands: { Self → ℕ → ℕ → Type 0 };
 
-    /// Whether it is one and the other but for what is set aside.
+    /// Whether it is one and the other but for what is deferred.
     ghost same: { Self → Self → Type 0 };
 
     /// What it keeps. The call does nothing, and is for proofs.
@@ -67,15 +67,15 @@ pub trait Shard {
         requires { place < places }
         ensures { IsTrue result → stands self.now place places };
 
-    /// How many values are set aside: those that were let go and aren't dropped yet. Constant time.
-    fn aside(&self) -> usize;
+    /// How many values are deferred: those that were freed and aren't dropped yet. Constant time.
+    fn deferred(&self) -> usize;
 
-    /// Takes out the value that is set aside where the next insert's entry goes, if one is.
-    fn take_crowded(&mut self) -> Option<Self::Value>
+    /// Takes out the value that is deferred where the next insert's entry goes, if one is.
+    fn take_displaced(&mut self) -> Option<Self::Value>
         ensures same { same self.old self.new }
         ensures kept { IfNone result (self.new ≡ self.old) };
 
-    /// Takes out a value for the thread that drops what is set aside, as `WatchedCore::take_one`.
+    /// Takes out a value for the thread that drops what is deferred, as `WatchedCore::take_one`.
     fn take_one(&mut self, is_mine: &mut bool) -> Option<Self::Value>
         ensures { same self.old self.new };
 
@@ -260,16 +260,16 @@ impl<S: Shard, A: Allocator> Row<S, A> {
 }
 
 /// Lets a shard's lock go, and then wakes who has left: whoever is woken may call the queue at once. Answers how many
-/// values are set aside.
+/// values are deferred.
 #[inline(always)]
-pub fn unlock<S: Shard>(shard: MutexGuard<'_, S>, leaver: PendingWake<S::Next>) -> usize
+pub fn unlock<S: Shard>(shard: MutexGuard<'_, S>, pending: PendingWake<S::Next>) -> usize
     ensures { S.keeps (mutex_guard_value shard.entry) }
 {
     shard.law();
-    let aside = shard.aside();
+    let deferred = shard.deferred();
     drop(shard);
-    leaver.wake();
-    aside
+    pending.wake();
+    deferred
 }
 
 // The one impl of a row that says that a value may be dropped. It does so while no lock is held.
@@ -288,16 +288,16 @@ where
     {
         for _ in rt.forever() {
             let mut shard = self.lock(rt, place);
-            let Some(crowded) = shard.take_crowded() else {
+            let Some(displaced) = shard.take_displaced() else {
                 return shard;
             };
             drop(shard);
-            drop(crowded);
+            drop(displaced);
         }
         unreachable!()
     }
 
-    /// Ends a call on the shard at a place: lets its lock go, wakes who has left, and then drops what is set aside
+    /// Ends a call on the shard at a place: lets its lock go, wakes who has left, and then drops what is deferred
     /// there. Where an entry came out nothing is dropped, since a drop that panics would lose it: a later call does so.
     #[inline(always)]
     pub fn leave<R: Wait>(
@@ -305,29 +305,29 @@ where
         rt: &R,
         place: usize,
         shard: MutexGuard<'_, S>,
-        leaver: PendingWake<S::Next>,
+        pending: PendingWake<S::Next>,
         is_out: bool,
     )
         ensures { S.keeps (mutex_guard_value shard.entry) }
     {
-        let aside = unlock(shard, leaver);
+        let deferred = unlock(shard, pending);
         if !is_out {
-            self.drop_aside(rt, place, aside);
+            self.drop_deferred(rt, place, deferred);
         }
     }
 
-    /// Drops what is set aside in the shard at a place, where the caller has left so many there: nothing is done where
+    /// Drops what is deferred in the shard at a place, where the caller has left so many there: nothing is done where
     /// it has left none, or where there is no such place.
     #[inline(always)]
-    pub fn drop_aside<R: Wait>(&self, rt: &R, place: usize, most: usize) {
+    pub fn drop_deferred<R: Wait>(&self, rt: &R, place: usize, most: usize) {
         if most > 0 && place < self.len() {
-            self.drop_all_aside(rt, place);
+            self.drop_all_deferred(rt, place);
         }
     }
 
     // Drops it until nothing is left, where no thread does so already.
     #[inline(never)]
-    fn drop_all_aside<'q, R: Wait>(&'q self, rt: &'q R, place: usize)
+    fn drop_all_deferred<'q, R: Wait>(&'q self, rt: &'q R, place: usize)
         requires { place < self.now }
     {
         let mut dropper = Dropper {
@@ -347,7 +347,7 @@ where
     }
 }
 
-// The thread that drops what is set aside in a shard, one value at a time, while the lock is free. Where a value's drop
+// The thread that drops what is deferred in a shard, one value at a time, while the lock is free. Where a value's drop
 // panics, others may do it from then on.
 struct Dropper<'q, S: Shard, R: Wait, A: Allocator> {
     row: &'q Row<S, A>,

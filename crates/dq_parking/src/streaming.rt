@@ -196,14 +196,14 @@ impl<'q, Q: Shards, S, R: Wait, P: Drop> ShardStream<'q, Q, S, R, P> {
     }
 }
 
-// How many of the values that are set aside are dropped behind a poll: none where it gave an entry, which a drop that
+// How many of the values that are deferred are dropped behind a poll: none where it gave an entry, which a drop that
 // panics would lose.
-fn dropped_behind<T>(answer: &Polled<T>, aside: usize) -> usize
-    ensures { result ≡ dropped_after answer.now aside }
+fn dropped_behind<T>(answer: &Polled<T>, deferred: usize) -> usize
+    ensures { result ≡ dropped_after answer.now deferred }
 {
     match answer {
         Poll::Ready(Some(Ok(_))) => 0,
-        _ => aside,
+        _ => deferred,
     }
 }
 
@@ -218,7 +218,7 @@ fn ends_by<T>(ends: bool, answer: &Polled<T>) -> bool
 }
 
 // What a poll does under its shard's lock, for a task that left its waker. Who was parked there before goes out with
-// the answer, and so does how many values are set aside. It knows no drop of a value, so none is dropped here.
+// the answer, and so does how many values are deferred. It knows no drop of a value, so none is dropped here.
 fn poll_entered<Q: Shards, S: TickSource, R: Wait>(
     queue: &Q,
     rt: &R,
@@ -236,11 +236,11 @@ fn poll_entered<Q: Shards, S: TickSource, R: Wait>(
     let (mut shard, tick) = queue.entered(rt, place, source, before);
     let polled = turn(&mut *shard, tick, most, slot);
     shard.law();
-    (polled, shard.aside())
+    (polled, shard.deferred())
 }
 
 /// Polls the shard at a place of a queue once for a task, whole or by at most `most` steps. It is pending where the
-/// shard has more to do: the task is woken then. What is set aside is dropped once the lock is free; where an entry is
+/// shard has more to do: the task is woken then. What is deferred is dropped once the lock is free; where an entry is
 /// given, by a later call.
 pub fn poll_place<Q: Shards, S: TickSource, R: Wait>(
     queue: &Q,
@@ -263,17 +263,17 @@ where
     // The task's waker is made, and those that aren't parked are let go, while the lock is free.
     let mut before = None;
     let mut slot = register(name, cx);
-    let (polled, aside) = poll_entered(queue, rt, place, source, most, &mut slot, &mut before);
+    let (polled, deferred) = poll_entered(queue, rt, place, source, most, &mut slot, &mut before);
     let_sleep(before);
     forget(slot);
     let Some(answer) = polled else {
         let _woken: Poll<()> = cx.yield_now();
-        queue.row().drop_aside(rt, place, aside);
+        queue.row().drop_deferred(rt, place, deferred);
         return Poll::Pending;
     };
     queue
         .row()
-        .drop_aside(rt, place, dropped_behind(&answer, aside));
+        .drop_deferred(rt, place, dropped_behind(&answer, deferred));
     answer
 }
 

@@ -92,8 +92,8 @@ impl<T, A: Allocator> ShardState<T, A> {
         // All that it does.
         ensures audits { ShardAudits self.old result self.new }
     {
-        let tally = self.attended.core.tally();
-        match self.attended.core.returned() {
+        let tally = self.watched.core.tally();
+        match self.watched.core.returned() {
             Ok(cancelled) => Ok(totals_of(&tally, cancelled)),
             Err(out) => Err(HandlesOut { out }),
         }

@@ -53,8 +53,8 @@ impl<T, A: Allocator> SharedDelayQueue<T, A> {
             (λ old r new. ShardResets old entry.now when r new) result }
     {
         let mut shard = self.enter(rt, entry.shard() as usize)?;
-        let (answer, leaver) = shard.attended.reset(entry, when);
-        unlock(shard, leaver);
+        let (answer, pending) = shard.watched.reset(entry, when);
+        unlock(shard, pending);
         Ok(answer?)
     }
 
@@ -85,8 +85,8 @@ impl<T, A: Allocator> SharedDelayQueue<T, A> {
             (λ old r new. ShardRemoves old entry.now r new) result }
     {
         let mut shard = self.enter(rt, entry.shard() as usize)?;
-        let (answer, leaver) = shard.attended.remove(entry);
-        unlock(shard, leaver);
+        let (answer, pending) = shard.watched.remove(entry);
+        unlock(shard, pending);
         Ok(answer?)
     }
 
@@ -154,7 +154,7 @@ impl<T, A: Allocator> SharedDelayQueue<T, A> {
             (λ old r new. Rings old tick r new) result }
     {
         let mut shard = self.enter(rt, shard)?;
-        let rung = ring(&mut shard.attended.parked, tick);
+        let rung = ring(&mut shard.watched.parked, tick);
         let is_rung = rung.is_some();
         unlock(shard, rung);
         Ok(is_rung)

@@ -1,9 +1,9 @@
 //! The calls of a queue of shards by name that may let a value go: each takes one shard's lock and makes the state's
-//! call. Who leaves by it is woken once the lock is free, and what it lets go is dropped then.
+//! call. Who leaves by it is woken once the lock is free, and what it frees is dropped then.
 //!
-//! A value's drop is a user's code: it may call the queue, and it may panic. What is reaped or cleared is set aside in
+//! A value's drop is a user's code: it may call the queue, and it may panic. What is reaped or cleared is deferred in
 //! the shard, and the row takes it out and drops it behind the lock. Where a drop panics the shard is whole, and what
-//! is still set aside is dropped by a later call. Beside the row and a stream's poll no other impl of a queue says that
+//! is still deferred is dropped by a later call. Beside the row and a stream's poll no other impl of a queue says that
 //! a value of it may be dropped, so the checker refuses a drop anywhere else.
 ghost use Rattle.std.specs.Prelude.{◌≡◌, ◌%◌, ◌<◌, ◌≤◌, ◌↔◌, vec_capacity};
 ghost use Rattle.std.specs.Prelude.{IfOk, IfErr, OnOk, OnErr, IsErrOf, IsErrAnd};
@@ -105,8 +105,8 @@ impl<T: Drop, A: Allocator> SharedDelayQueue<T, A> {
         let shard = routed_shard(route, self.row.len() as u64);
         let mut locked = self.row.lock_with_room(rt, shard as usize);
         // A value that waited for its drop where the entry is now is dropped once the lock is free.
-        let (answer, leaver, _crowded) = locked.attended.insert(value, when);
-        unlock(locked, leaver);
+        let (answer, pending, _displaced) = locked.watched.insert(value, when);
+        unlock(locked, pending);
         match answer {
             Ok(key) => Ok(key),
             Err((e, value)) => Err((QueueError::Core(e), value)),
@@ -190,9 +190,9 @@ impl<T: Drop, A: Allocator> SharedDelayQueue<T, A> {
             (λ old r new. ShardPolls old tick r new) result }
     {
         let mut locked = self.enter(rt, shard)?;
-        let (answer, leaver) = locked.attended.poll(tick);
+        let (answer, pending) = locked.watched.poll(tick);
         let is_out = matches!(answer, Ok(Turn::Out(_)));
-        self.row.leave(rt, shard, locked, leaver, is_out);
+        self.row.leave(rt, shard, locked, pending, is_out);
         Ok(answer?)
     }
 
@@ -246,9 +246,9 @@ impl<T: Drop, A: Allocator> SharedDelayQueue<T, A> {
             (λ old r new. ShardPollsSome old tick most r new) result }
     {
         let mut locked = self.enter(rt, shard)?;
-        let (answer, leaver) = locked.attended.poll_some(tick, most);
+        let (answer, pending) = locked.watched.poll_some(tick, most);
         let is_out = matches!(answer, Ok(Piece::Answer(Turn::Out(_))));
-        self.row.leave(rt, shard, locked, leaver, is_out);
+        self.row.leave(rt, shard, locked, pending, is_out);
         Ok(answer?)
     }
 
@@ -357,9 +357,9 @@ impl<T: Drop, A: Allocator> SharedDelayQueue<T, A> {
     {
         let before = row.len();
         let mut locked = self.enter(rt, shard)?;
-        let (answer, leaver) = locked.attended.poll_many(tick, row);
+        let (answer, pending) = locked.watched.poll_many(tick, row);
         let is_out = row.len() != before;
-        self.row.leave(rt, shard, locked, leaver, is_out);
+        self.row.leave(rt, shard, locked, pending, is_out);
         Ok(answer?)
     }
 
@@ -377,8 +377,8 @@ impl<T: Drop, A: Allocator> SharedDelayQueue<T, A> {
             (λ old r new. ShardSweeps old r new) result }
     {
         let mut locked = self.enter(rt, shard)?;
-        let (reaped, leaver) = locked.attended.sweep();
-        self.row.leave(rt, shard, locked, leaver, false);
+        let (reaped, pending) = locked.watched.sweep();
+        self.row.leave(rt, shard, locked, pending, false);
         Ok(reaped)
     }
 
@@ -416,8 +416,8 @@ impl<T: Drop, A: Allocator> SharedDelayQueue<T, A> {
             (λ old r new. ShardSweepsSome old from count r new) result }
     {
         let mut locked = self.enter(rt, shard)?;
-        let (swept, leaver) = locked.attended.sweep_some(from, count);
-        self.row.leave(rt, shard, locked, leaver, false);
+        let (swept, pending) = locked.watched.sweep_some(from, count);
+        self.row.leave(rt, shard, locked, pending, false);
         Ok(swept)
     }
 
@@ -442,8 +442,8 @@ impl<T: Drop, A: Allocator> SharedDelayQueue<T, A> {
     {
         let shard = entry.shard() as usize;
         let mut locked = self.enter(rt, shard)?;
-        let (answer, leaver) = locked.attended.reap(entry);
-        self.row.leave(rt, shard, locked, leaver, false);
+        let (answer, pending) = locked.watched.reap(entry);
+        self.row.leave(rt, shard, locked, pending, false);
         Ok(answer)
     }
 
@@ -460,12 +460,12 @@ impl<T: Drop, A: Allocator> SharedDelayQueue<T, A> {
             (λ old r new. ShardClears old r new) result }
     {
         let mut locked = self.enter(rt, shard)?;
-        let (cleared, leaver) = locked.attended.clear();
-        self.row.leave(rt, shard, locked, leaver, false);
+        let (cleared, pending) = locked.watched.clear();
+        self.row.leave(rt, shard, locked, pending, false);
         Ok(cleared)
     }
 
-    /// Drops the values that are set aside in `shard`, each while the shard's lock is free. `most` is how many the
+    /// Drops the values that are deferred in `shard`, each while the shard's lock is free. `most` is how many the
     /// caller has left there: if that is 0, the call takes no lock and does nothing. Else it goes on until none is
     /// left. If there is no such shard, there is nothing to drop.
     ///
@@ -473,7 +473,7 @@ impl<T: Drop, A: Allocator> SharedDelayQueue<T, A> {
     /// other drops these values too, and this call returns at once. If a drop panics, a later call drops the rest.
     ///
     /// Every call by name does this by itself, and so does [`SharedDelayQueue::lend`]. Whoever holds a shard by
-    /// [`SharedDelayQueue::enter`] asks [`ShardState::aside`] before the lock is released.
+    /// [`SharedDelayQueue::enter`] asks [`ShardState::deferred`] before the lock is released.
     ///
     /// ```
     /// use hontkhale::shards::{QueueConfig, SharedDelayQueue};
@@ -481,14 +481,14 @@ impl<T: Drop, A: Allocator> SharedDelayQueue<T, A> {
     /// let queue: SharedDelayQueue<String> = SharedDelayQueue::new(QueueConfig::of(1, 100))?;
     /// let mut state = queue.enter(0)?;
     /// state.sweep();
-    /// let aside = state.aside();
+    /// let deferred = state.deferred();
     /// drop(state);
-    /// queue.drop_aside(0, aside);
+    /// queue.drop_deferred(0, deferred);
     /// # Ok::<(), hontkhale::shards::QueueError>(())
     /// ```
     #[inline(always)]
-    pub fn drop_aside<R: Wait>(&self, rt: &R, shard: usize, most: usize) {
-        self.row.drop_aside(rt, shard, most);
+    pub fn drop_deferred<R: Wait>(&self, rt: &R, shard: usize, most: usize) {
+        self.row.drop_deferred(rt, shard, most);
     }
 }
 

@@ -17,7 +17,7 @@ impl<T, A: Allocator> ShardState<T, A> {
     pub fn shard(&self) -> u32
         ensures { result ≡ self.now.core.shard }
     {
-        self.attended.core.shard()
+        self.watched.core.shard()
     }
 
     /// Returns the tick, of one millisecond, at which the shard has something to do next. It returns none if nothing
@@ -25,42 +25,42 @@ impl<T, A: Allocator> ShardState<T, A> {
     pub fn next_wake(&self) -> Option<u64>
         ensures { TellsWake self.now.core result }
     {
-        self.attended.core.next_wake()
+        self.watched.core.next_wake()
     }
 
     /// The number of linked entries, live or cancelled and not yet reaped.
     pub fn len(&self) -> usize
         ensures { result ≡ count_by is_held self.now.core.slots.rows }
     {
-        self.attended.core.len()
+        self.watched.core.len()
     }
 
     /// Whether nothing is linked.
     pub fn is_empty(&self) -> bool
         ensures { IsTrue result ↔ (count_by is_held self.now.core.slots.rows ≡ 0) }
     {
-        self.attended.core.is_empty()
+        self.watched.core.is_empty()
     }
 
     /// The number of slots.
     pub fn capacity(&self) -> usize
         ensures { result ≡ length self.now.core.slots.rows }
     {
-        self.attended.core.capacity()
+        self.watched.core.capacity()
     }
 
     /// The wheel's tick of one millisecond, which is not after the noted one.
     pub fn tick(&self) -> u64
         ensures { result ≡ self.now.core.wheel.filing.tick }
     {
-        self.attended.core.tick()
+        self.watched.core.tick()
     }
 
     /// The greatest tick of one millisecond that a poll accepted; at first 0.
     pub fn noted(&self) -> u64
         ensures { result ≡ self.now.core.noted }
     {
-        self.attended.core.noted()
+        self.watched.core.noted()
     }
 
     /// Returns how many entries came and went, and how many are linked. A cancelled entry counts as cancelled only
@@ -68,7 +68,7 @@ impl<T, A: Allocator> ShardState<T, A> {
     pub fn tally(&self) -> Tally
         ensures { IsTally self.now.core result }
     {
-        self.attended.core.tally()
+        self.watched.core.tally()
     }
 
     /// Returns the key of an entry that is scheduled first, possibly a cancelled one. It returns none if nothing is
@@ -76,14 +76,14 @@ impl<T, A: Allocator> ShardState<T, A> {
     pub fn peek(&self) -> Option<Key>
         ensures { TellsLeast self.now.core result }
     {
-        self.attended.core.peek()
+        self.watched.core.peek()
     }
 
     /// Returns where an entry stands in the wheel. It returns none if the entry isn't linked here.
     pub fn place(&self, entry: &EntryId) -> Option<Place>
         ensures { TellsPlace self.now.core entry.now result }
     {
-        self.attended.core.place(entry)
+        self.watched.core.place(entry)
     }
 
     /// Returns the tick, of one millisecond, at which an entry is scheduled, which isn't after its deadline. It
@@ -91,6 +91,6 @@ impl<T, A: Allocator> ShardState<T, A> {
     pub fn filed(&self, entry: &EntryId) -> Option<u64>
         ensures { TellsFiled self.now.core entry.now result }
     {
-        self.attended.core.filed(entry)
+        self.watched.core.filed(entry)
     }
 }

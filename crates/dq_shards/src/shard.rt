@@ -1,7 +1,7 @@
 //! What a queue's row and a stream ask of a shard behind its lock, and of the poller that waits for it, one at a time; and
 //! what a stream asks of the queue.
 ghost use Rattle.std.specs.Prelude.{◌≡◌, true, Some, option_map};
-ghost use Rattle.dq_core.specs.Asides.{waiting_in};
+ghost use Rattle.dq_core.specs.Deferring.{waiting_in};
 ghost use Rattle.dq_parking.specs.Parking.{poller};
 ghost use Rattle.dq_shards.specs.declared.errors.QueueError.TheVariants.{Unknown};
 ghost use Rattle.dq_shards.specs.Shard.{IsParked, IsShard};
@@ -18,20 +18,20 @@ use std::alloc::Allocator;
 use std::sync::{MutexGuard, Wait};
 
 impl<T, A: Allocator> ShardState<T, A> {
-    /// How many values are set aside: those of entries that were reaped or cleared, and that aren't dropped yet.
+    /// How many values are deferred: those of entries that were reaped or cleared, and that aren't dropped yet.
     /// Constant time.
     #[inline(always)]
-    pub fn aside(&self) -> usize
-        ensures { result ≡ waiting_in self.now.core.aside }
+    pub fn deferred(&self) -> usize
+        ensures { result ≡ waiting_in self.now.core.deferred }
     {
-        self.attended.core.aside()
+        self.watched.core.deferred()
     }
 
     /// Returns the tick, of one millisecond, until which a task is parked. It returns none if no task is parked.
     pub fn parked(&self) -> Option<u64>
         ensures { result ≡ option_map (λ p. p.next) self.now.parked }
     {
-        match &self.attended.parked {
+        match &self.watched.parked {
             Some(poller) => Some(poller.next),
             None => None,
         }
@@ -47,7 +47,7 @@ impl<T, A: Allocator> ShardState<T, A> {
         ensures { self.new ≡ record self.old { parked = Some (poller next waker) } }
     {
         self.unpark();
-        self.attended.parked = Some(Parked { next, waker });
+        self.watched.parked = Some(Parked { next, waker });
     }
 
     /// Takes the parked task out, and doesn't wake it. It returns whether there was one.
@@ -62,7 +62,7 @@ impl<T, A: Allocator> ShardState<T, A> {
     pub fn take_parked(&mut self) -> Option<Parked>
         ensures { TakesParked self.old result self.new }
     {
-        self.attended.parked.take()
+        self.watched.parked.take()
     }
 
     /// Tells the shard that `tick`, of one millisecond, is reached: a task that is parked until `tick` or before is
@@ -70,7 +70,7 @@ impl<T, A: Allocator> ShardState<T, A> {
     pub fn ring(&mut self, tick: u64) -> bool
         ensures { Rings self.old tick result self.new }
     {
-        let rung = ring(&mut self.attended.parked, tick);
+        let rung = ring(&mut self.watched.parked, tick);
         let is_rung = rung.is_some();
         rung.wake();
         is_rung
@@ -86,34 +86,34 @@ impl<T, A: Allocator> Shard for ShardState<T, A> {
 
     ghost stands = { λ s place places. s.core.shard ≡ place };
 
-    ghost same = { λ s t. t ≡ record s { core = record s.core { aside = t.core.aside } } };
+    ghost same = { λ s t. t ≡ record s { core = record s.core { deferred = t.core.deferred } } };
 
     #[tactic(auto, using(crate::proofs::Parking::told))]
     fn law(&self) {
-        self.attended.core.law();
+        self.watched.core.law();
     }
 
     #[inline(always)]
     fn stands_at(&self, place: usize, _places: usize) -> bool {
-        self.attended.core.shard() as usize == place
+        self.watched.core.shard() as usize == place
     }
 
     #[inline(always)]
-    fn aside(&self) -> usize {
-        self.attended.core.aside()
+    fn deferred(&self) -> usize {
+        self.watched.core.deferred()
     }
 
     #[inline(always)]
-    fn take_crowded(&mut self) -> Option<T> {
-        self.attended.core.take_crowded()
+    fn take_displaced(&mut self) -> Option<T> {
+        self.watched.core.take_displaced()
     }
 
     fn take_one(&mut self, is_mine: &mut bool) -> Option<T> {
-        self.attended.take_one(is_mine)
+        self.watched.take_one(is_mine)
     }
 
     fn end_dropping(&mut self, is_mine: &mut bool) {
-        self.attended.end_dropping(is_mine);
+        self.watched.end_dropping(is_mine);
     }
 }
 
@@ -136,7 +136,7 @@ impl<T, A: Allocator> Sleeps for ShardState<T, A> {
     }
 
     fn poll_piece(&mut self, tick: u64, most: Option<u32>) -> Result<Piece<T>, CoreError> {
-        self.attended.poll_unparked(tick, most)
+        self.watched.poll_unparked(tick, most)
     }
 
     ghost is_parked = { λ s p. refl };

@@ -8,7 +8,7 @@ ghost use Rattle.dq_core.specs.Machine.{NoneLiveBefore, NoneLinked, table_at};
 ghost use Rattle.dq_core.specs.Calls.{base_for, noting, IsMissing, IsLiveEntry, IsCancelledEntry};
 ghost use Rattle.dq_core.specs.Pieces.{IfAnswer, steps_left};
 ghost use Rattle.dq_core.specs.Sweeps.{NoneCancelled, NotCancelled};
-ghost use Rattle.dq_core.specs.Asides.{answered_at, out_at, with_aside, SetsAside};
+ghost use Rattle.dq_core.specs.Deferring.{answered_at, out_at, with_deferred, DefersValues};
 ghost use Rattle.dq_core.specs.AtTheCall.{IfOut, IfRests, linked_in, IsLinkedAs, HoldsValue, OthersStay, KeepsSlots};
 ghost use Rattle.dq_words.specs.AtTheCall.{KnowsNothing, NoCallerAfter};
 ghost use Rattle.dq_shards.specs.Shard.{IsShard, KeepsOrWakes, keeper_of};
@@ -41,7 +41,7 @@ pub struct ShardState<T, A: Allocator = Global> {
     _apart: [u64; 7],
     // Shards stand in one row. Each is, behind its lock, a whole number of cache lines, and no line has what two of
     // them write. A test tells: where a field is added, some room has to be.
-    pub(crate) attended: WatchedCore<T, u64, A>,
+    pub(crate) watched: WatchedCore<T, u64, A>,
     _room: [u64; 4],
 }
 
@@ -52,9 +52,9 @@ impl<T, A: Allocator> Model for ShardState<T, A> {
 
     ghost Value = { ShardView T };
 
-    ghost view = { λ s. record { core = s.attended.core; parked = s.attended.parked } };
+    ghost view = { λ s. record { core = s.watched.core; parked = s.watched.parked } };
 
-    ghost invariant = { λ s. MayWait lasts_until s.attended.core s.attended.parked };
+    ghost invariant = { λ s. MayWait lasts_until s.watched.core s.watched.parked };
 }
 
 impl<T, A: Allocator> From<DelayCore<T, Keeper<A>, A>> for ShardState<T, A> {
@@ -65,7 +65,7 @@ impl<T, A: Allocator> From<DelayCore<T, Keeper<A>, A>> for ShardState<T, A> {
     fn from(core: DelayCore<T, Keeper<A>, A>) -> ShardState<T, A> {
         ShardState {
             _apart: [0; 7],
-            attended: WatchedCore::new(core),
+            watched: WatchedCore::new(core),
             _room: [0; 4],
         }
     }
@@ -96,14 +96,14 @@ impl<T: Drop, A: Allocator> ShardState<T, A> {
         ensures poller { KeepsOrWakes self.new.core self.old.parked self.new.parked }
 
         // No value is dropped but one that waited in the slot that the entry takes.
-        ensures aside { IfOk result (λ k. self.new.core.aside
-            ≡ with_aside self.old.core.aside k.entry.index None) }
+        ensures deferred { IfOk result (λ k. self.new.core.deferred
+            ≡ with_deferred self.old.core.deferred k.entry.index None) }
 
         // All that it does.
         ensures inserts { ShardInserts self.old value when result self.new }
     {
-        let answer = self.attended.core.insert(value, when);
-        keep_or_leave(&self.attended.core, &mut self.attended.parked).wake();
+        let answer = self.watched.core.insert(value, when);
+        keep_or_leave(&self.watched.core, &mut self.watched.parked).wake();
         answer
     }
 }
@@ -114,7 +114,7 @@ impl<T, A: Allocator> ShardState<T, A> {
     pub fn law(&self)
         ensures { IsShard self.now }
     {
-        self.attended.core.law();
+        self.watched.core.law();
     }
 
     /// Gives a live entry the deadline `when`, a tick of one millisecond, sooner or later than the one that it has,
@@ -142,14 +142,14 @@ impl<T, A: Allocator> ShardState<T, A> {
         // The poller is woken where it waits for a tick after the next wake.
         ensures poller { KeepsOrWakes self.new.core self.old.parked self.new.parked }
 
-        // Nothing is set aside or taken out.
-        ensures aside { self.new.core.aside ≡ self.old.core.aside }
+        // Nothing is deferred or taken out.
+        ensures deferred { self.new.core.deferred ≡ self.old.core.deferred }
 
         // All that it does.
         ensures resets { ShardResets self.old entry.now when result self.new }
     {
-        let answer = self.attended.core.reset(entry, when);
-        keep_or_leave(&self.attended.core, &mut self.attended.parked).wake();
+        let answer = self.watched.core.reset(entry, when);
+        keep_or_leave(&self.watched.core, &mut self.watched.parked).wake();
         answer
     }
 
@@ -176,14 +176,14 @@ impl<T, A: Allocator> ShardState<T, A> {
         // The poller is woken where it waits for a tick after the next wake.
         ensures poller { KeepsOrWakes self.new.core self.old.parked self.new.parked }
 
-        // Nothing is set aside or taken out.
-        ensures aside { self.new.core.aside ≡ self.old.core.aside }
+        // Nothing is deferred or taken out.
+        ensures deferred { self.new.core.deferred ≡ self.old.core.deferred }
 
         // All that it does.
         ensures removes { ShardRemoves self.old entry.now result self.new }
     {
-        let answer = self.attended.core.remove(entry);
-        keep_or_leave(&self.attended.core, &mut self.attended.parked).wake();
+        let answer = self.watched.core.remove(entry);
+        keep_or_leave(&self.watched.core, &mut self.watched.parked).wake();
         answer
     }
 
@@ -206,13 +206,13 @@ impl<T, A: Allocator> ShardState<T, A> {
         ensures kept { KeepsSlots self.old.core self.new.core }
         ensures poller { self.new.parked ≡ self.old.parked }
 
-        // Nothing is set aside or taken out.
-        ensures aside { self.new.core.aside ≡ self.old.core.aside }
+        // Nothing is deferred or taken out.
+        ensures deferred { self.new.core.deferred ≡ self.old.core.deferred }
 
         // All that it does.
         ensures tells { ShardDeadline self.old entry.now result self.new }
     {
-        self.attended.core.deadline(entry)
+        self.watched.core.deadline(entry)
     }
 
     /// Notes `tick`, of one millisecond, and takes one entry out that is due at the greatest tick noted. Call it
@@ -223,7 +223,7 @@ impl<T, A: Allocator> ShardState<T, A> {
     ///
     /// It takes constant time for each entry that it moves down the wheel, schedules again or reaps; an entry moves
     /// at most five times after it was scheduled. It takes no memory, and drops no value: the values of reaped
-    /// entries are set aside.
+    /// entries are deferred.
     ///
     /// # Errors
     /// `TickTooLarge` if `tick` is beyond the last tick. It isn't noted then.
@@ -249,15 +249,15 @@ impl<T, A: Allocator> ShardState<T, A> {
         // The poller is woken where it waits for a tick after the next wake.
         ensures poller { KeepsOrWakes self.new.core self.old.parked self.new.parked }
 
-        // The value of each entry that left is set aside, but of what came out.
-        ensures aside { IfOk result
-            (λ turn. SetsAside self.old.core (out_at turn) self.new.core) }
+        // The value of each entry that left is deferred, but of what came out.
+        ensures deferred { IfOk result
+            (λ turn. DefersValues self.old.core (out_at turn) self.new.core) }
 
         // All that it does.
         ensures polls { ShardPolls self.old tick result self.new }
     {
-        let answer = self.attended.core.poll_deferring(tick);
-        keep_or_leave(&self.attended.core, &mut self.attended.parked).wake();
+        let answer = self.watched.core.poll_deferring(tick);
+        keep_or_leave(&self.watched.core, &mut self.watched.parked).wake();
         answer
     }
 
@@ -271,8 +271,8 @@ impl<T, A: Allocator> ShardState<T, A> {
     /// when its tick was noted. A call of no steps that returns `Working` tells nothing. Between two calls the lock
     /// may be released, and every other call may be made.
     ///
-    /// A step takes constant time. The call takes no memory, and drops no value: the values of reaped entries are set
-    /// aside.
+    /// A step takes constant time. The call takes no memory, and drops no value: the values of reaped entries are
+    /// deferred.
     ///
     /// # Errors
     /// `TickTooLarge` if `tick` is beyond the last tick. It isn't noted then.
@@ -301,15 +301,15 @@ impl<T, A: Allocator> ShardState<T, A> {
         // The poller is woken where it waits for a tick after the next wake.
         ensures poller { KeepsOrWakes self.new.core self.old.parked self.new.parked }
 
-        // The value of each entry that left is set aside, but of what came out.
-        ensures aside { IfOk result
-            (λ piece. SetsAside self.old.core (answered_at piece) self.new.core) }
+        // The value of each entry that left is deferred, but of what came out.
+        ensures deferred { IfOk result
+            (λ piece. DefersValues self.old.core (answered_at piece) self.new.core) }
 
         // All that it does.
         ensures polls { ShardPollsSome self.old tick most result self.new }
     {
-        let answer = self.attended.core.poll_some_deferring(tick, most);
-        keep_or_leave(&self.attended.core, &mut self.attended.parked).wake();
+        let answer = self.watched.core.poll_some_deferring(tick, most);
+        keep_or_leave(&self.watched.core, &mut self.watched.parked).wake();
         answer
     }
 
@@ -340,12 +340,12 @@ impl<T, A: Allocator> ShardState<T, A> {
         ensures polls { ShardPollsMany self.old tick (vec_capacity row.old) row.old.items
             row.new.items result self.new }
     {
-        let (answer, leaver) = self.attended.poll_many(tick, row);
-        leaver.wake();
+        let (answer, pending) = self.watched.poll_many(tick, row);
+        pending.wake();
         answer
     }
 
-    /// Reaps all cancelled entries, and returns how many these were. Their values are set aside. It looks at every
+    /// Reaps all cancelled entries, and returns how many these were. Their values are deferred. It looks at every
     /// slot.
     pub fn sweep(&mut self) -> usize
         // No entry is left that is known as cancelled, and so many are fewer. Nothing is ended by it.
@@ -356,19 +356,19 @@ impl<T, A: Allocator> ShardState<T, A> {
         // The poller is woken where it waits for a tick after the next wake.
         ensures poller { KeepsOrWakes self.new.core self.old.parked self.new.parked }
 
-        // The value of each entry that left is set aside.
-        ensures aside { SetsAside self.old.core None self.new.core }
+        // The value of each entry that left is deferred.
+        ensures deferred { DefersValues self.old.core None self.new.core }
 
         // All that it does.
         ensures sweeps { ShardSweeps self.old result self.new }
     {
-        let reaped = self.attended.core.sweep_deferring();
-        keep_or_leave(&self.attended.core, &mut self.attended.parked).wake();
+        let reaped = self.watched.core.sweep_deferring();
+        keep_or_leave(&self.watched.core, &mut self.watched.parked).wake();
         reaped
     }
 
     /// Reaps the cancelled entries among the `count` slots from the slot `from` on. It returns how many these were,
-    /// and the slot to go on from, which is none after the last slot. Their values are set aside. It takes time in
+    /// and the slot to go on from, which is none after the last slot. Their values are deferred. It takes time in
     /// proportion to `count`. Between two calls the lock may be released.
     pub fn sweep_some(&mut self, from: usize, count: usize) -> Swept
         // No entry is left there that is known as cancelled, so many are fewer, and no other slot
@@ -386,18 +386,18 @@ impl<T, A: Allocator> ShardState<T, A> {
         // The poller is woken where it waits for a tick after the next wake.
         ensures poller { KeepsOrWakes self.new.core self.old.parked self.new.parked }
 
-        // The value of each entry that left is set aside.
-        ensures aside { SetsAside self.old.core None self.new.core }
+        // The value of each entry that left is deferred.
+        ensures deferred { DefersValues self.old.core None self.new.core }
 
         // All that it does.
         ensures sweeps { ShardSweepsSome self.old from count result self.new }
     {
-        let swept = self.attended.core.sweep_some_deferring(from, count);
-        keep_or_leave(&self.attended.core, &mut self.attended.parked).wake();
+        let swept = self.watched.core.sweep_some_deferring(from, count);
+        keep_or_leave(&self.watched.core, &mut self.watched.parked).wake();
         swept
     }
 
-    /// Reaps `entry` if it was cancelled: its slot is free for another entry, or worn, and its value is set aside.
+    /// Reaps `entry` if it was cancelled: its slot is free for another entry, or worn, and its value is deferred.
     /// Constant time.
     ///
     /// # Errors
@@ -418,19 +418,19 @@ impl<T, A: Allocator> ShardState<T, A> {
         // The poller is woken where it waits for a tick after the next wake.
         ensures poller { KeepsOrWakes self.new.core self.old.parked self.new.parked }
 
-        // The value of each entry that left is set aside.
-        ensures aside { SetsAside self.old.core None self.new.core }
+        // The value of each entry that left is deferred.
+        ensures deferred { DefersValues self.old.core None self.new.core }
 
         // All that it does.
         ensures reaps { ShardReaps self.old entry.now result self.new }
     {
-        let answer = self.attended.core.reap_deferring(entry);
-        keep_or_leave(&self.attended.core, &mut self.attended.parked).wake();
+        let answer = self.watched.core.reap_deferring(entry);
+        keep_or_leave(&self.watched.core, &mut self.watched.parked).wake();
         answer
     }
 
     /// Takes all entries out, and returns how many live ones were removed. Their values, and those of cancelled
-    /// entries, are set aside. A parked task is woken. It looks at every slot.
+    /// entries, are deferred. A parked task is woken. It looks at every slot.
     #[tactic(auto, using(crate::proofs::Parking::none_waits))]
     pub fn clear(&mut self) -> usize
         // Nothing is linked any more, and so no poller is parked.
@@ -438,14 +438,14 @@ impl<T, A: Allocator> ShardState<T, A> {
         ensures at_most { result ≤ linked_in self.old.core }
         ensures poller { self.new.parked ≡ None }
 
-        // The value of each entry that left is set aside.
-        ensures aside { SetsAside self.old.core None self.new.core }
+        // The value of each entry that left is deferred.
+        ensures deferred { DefersValues self.old.core None self.new.core }
 
         // All that it does.
         ensures clears { ShardClears self.old result self.new }
     {
-        let removed = self.attended.core.clear_deferring();
-        keep_or_leave(&self.attended.core, &mut self.attended.parked).wake();
+        let removed = self.watched.core.clear_deferring();
+        keep_or_leave(&self.watched.core, &mut self.watched.parked).wake();
         removed
     }
 
@@ -470,7 +470,7 @@ impl<T, A: Allocator> ShardState<T, A> {
         // All that it does.
         ensures issues { ShardIssues self.old result self.new }
     {
-        self.attended.core.issue()
+        self.watched.core.issue()
     }
 
     /// Returns the number of callers that were made and not given back, by one load. A caller that was dropped stays
@@ -483,6 +483,6 @@ impl<T, A: Allocator> ShardState<T, A> {
         // All that it does.
         ensures tells { ShardTells self.old result self.new }
     {
-        self.attended.core.out()
+        self.watched.core.out()
     }
 }

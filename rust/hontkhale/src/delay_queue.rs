@@ -105,7 +105,7 @@ use std::time::{Duration, Instant};
 /// whose slot has served a million inserts and sooner resets.
 ///
 /// # What a value's drop may do
-/// The queue holds no lock while it drops a value, so a drop may call the queue. What these calls let go in their turn is
+/// The queue holds no lock while it drops a value, so a drop may call the queue. What these calls free in their turn is
 /// dropped after it, so that the stack holds one drop of the queue at a time. If the drop calls another queue, that one's
 /// values are dropped within that call. A drop that panics passes through the call that made it; no entry but the dropped one
 /// is lost, though a value that was handed to [`insert`](DelayQueue::insert) is dropped with the call. A later call drops

@@ -191,7 +191,7 @@ impl<T> crate::shards::ShardState<T> {
     /// What isn't as it has to be.
     #[doc(hidden)]
     pub fn check_law(&mut self) -> Result<(), Broken> {
-        self.attended.core.check_law()?;
+        self.watched.core.check_law()?;
         let next_wake = self.next_wake();
         let waits_lawfully = match (self.parked(), next_wake) {
             (None, _) => true,
@@ -215,8 +215,8 @@ mod tests {
 
     const CAPACITY: usize = 70;
 
-    /// A queue of slots of each kind: entries near and far, cancelled ones, free slots, worn ones, and such as have a value set
-    /// aside.
+    /// A queue of slots of each kind: entries near and far, cancelled ones, free slots, worn ones, and such as have a deferred
+    /// value.
     fn queue() -> Queue {
         let config = CoreConfig {
             shard: 0,
@@ -299,8 +299,8 @@ mod tests {
             }
         }),
         ("a summary", |queue| queue.slots.free.summary[0] ^= 1),
-        ("a count of values set aside", |queue| queue.slots.deferred.count += 1),
-        ("a bit of values set aside", |queue| {
+        ("a count of deferred values", |queue| queue.slots.deferred.count += 1),
+        ("a bit of deferred values", |queue| {
             queue.slots.deferred.bits[0] ^= 1 << 30
         }),
         ("a count of worn slots' values", |queue| {
@@ -323,7 +323,7 @@ mod tests {
         assert_eq!(queue().check_law(), Ok(()));
         let missed = |(what, plant): &Plant| -> Option<&'static str> {
             let mut queue = queue();
-            assert!(queue.slots.is_held(30) && queue.aside() > 0);
+            assert!(queue.slots.is_held(30) && queue.deferred() > 0);
             plant(&mut queue);
             let found: Result<(), Broken> = queue.check_law();
             found.is_ok().then_some(*what)

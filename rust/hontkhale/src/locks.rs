@@ -28,7 +28,7 @@ thread_local! {
 
 /// Calls a program's closure with what lies behind a lock of a queue that this thread holds. If the closure waits for the lock, it
 /// panics in the place of waiting for ever.
-pub(crate) fn lend<S, R>(lent: &mut S, queue: usize, call: impl FnOnce(&mut S) -> R) -> R {
+pub(crate) fn with_lock<S, R>(lent: &mut S, queue: usize, call: impl FnOnce(&mut S) -> R) -> R {
     struct Back(Lent);
     impl Drop for Back {
         fn drop(&mut self) {

@@ -2,14 +2,13 @@
 //! parked in a shard, the shard's queue with it, and its registration with the context of its task; and how many
 //! threads wait for the shard's lock.
 
-mod attended;
 mod parked;
 mod row;
 mod sleeping;
 mod source;
 mod streaming;
+mod watched;
 
-pub use attended::{keep_or_leave, WatchedCore};
 pub use parked::{let_sleep, ring, Parked, PendingWake};
 pub use row::{unlock, Row, Shard};
 #[cfg(test)]
@@ -18,3 +17,4 @@ pub use sleeping::{Sleeps, StreamFault};
 pub use source::{MillisecondTicks, TickSource};
 pub(crate) use streaming::Rows;
 pub use streaming::{LockedShard, Pace, ShardStream, Shards, Whole};
+pub use watched::{keep_or_leave, WatchedCore};

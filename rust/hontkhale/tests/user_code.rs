@@ -8,20 +8,20 @@
 
 #[path = "user_code/cache_keys.rs"]
 mod cache_keys;
+#[path = "user_code/deferred.rs"]
+mod deferred;
 #[path = "user_code/drops_that_call.rs"]
 mod drops_that_call;
+#[path = "user_code/drops_that_defer.rs"]
+mod drops_that_defer;
 #[path = "user_code/drops_that_panic.rs"]
 mod drops_that_panic;
-#[path = "user_code/drops_that_set_aside.rs"]
-mod drops_that_set_aside;
 #[path = "user_code/each_place.rs"]
 mod each_place;
 #[path = "user_code/kit.rs"]
 mod kit;
 #[path = "user_code/owner_drops.rs"]
 mod owner_drops;
-#[path = "user_code/set_aside.rs"]
-mod set_aside;
 #[path = "user_code/wakers_that_call.rs"]
 mod wakers_that_call;
 #[path = "user_code/wakes.rs"]

@@ -139,7 +139,7 @@ impl<T> Entries<T> {
     /// Drops the values of entries that were freed. Where a drop panics the others stay, for the next call.
     fn drop_freed(&mut self) {
         while self.has_freed {
-            let value = self.store.take_aside();
+            let value = self.store.take_deferred();
             self.has_freed = value.is_some();
         }
     }

@@ -34,13 +34,13 @@ impl<T> Entries<T> {
     #[inline(always)]
     pub(super) fn has_room(&self) -> bool {
         let open = self.store.cores().get(self.store.cores().opened());
-        open.is_some_and(|open| free(open) > open.aside())
+        open.is_some_and(|open| free(open) > open.deferred())
     }
 
     /// Opens the core that has the most room, or else a new one.
     #[cold]
     pub(super) fn make_room(&mut self) {
-        let rooms = self.cores().map(|core| free(core).saturating_sub(core.aside())).enumerate();
+        let rooms = self.cores().map(|core| free(core).saturating_sub(core.deferred())).enumerate();
         match rooms.max_by_key(|(_, room)| *room) {
             Some((place, 1..)) => _ = self.store.open(place),
             _ if self.promised == 0 => self.add_core(self.next_slots()),

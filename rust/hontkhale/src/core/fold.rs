@@ -84,7 +84,7 @@ impl<T, W: Words> DelayCore<T, W> {
     /// ```
     #[allow(clippy::result_large_err)]
     pub fn fold(self) -> Result<Folded<W>, DelayCore<T, W>> {
-        if self.slots.linked() > 0 || self.slots.aside() > 0 {
+        if self.slots.linked() > 0 || self.slots.deferred() > 0 {
             return Err(self);
         }
         let tick = self.wheel.tick();

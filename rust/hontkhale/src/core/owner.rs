@@ -1,4 +1,4 @@
-//! The calls by which an owner's queue drops the values that it let go.
+//! The calls by which an owner's queue drops the values that it freed.
 //!
 //! A drop is a user's code, and may panic. So each of these calls is one that defers all drops, and what is left of it
 //! is to drop them: with the queue lawful, as the last thing it does, and where it loses nothing that the call gives.
@@ -15,9 +15,9 @@ impl<T, W: Words> DelayCore<T, W> {
     /// Drops the freed values that wait for their drop. If a drop panics, the others wait for the next call that
     /// drops.
     #[inline]
-    pub fn drop_aside(&mut self) {
-        for _turn in 0..self.aside() {
-            drop(self.take_aside());
+    pub fn drop_deferred(&mut self) {
+        for _turn in 0..self.deferred() {
+            drop(self.take_deferred());
         }
     }
 
@@ -25,7 +25,7 @@ impl<T, W: Words> DelayCore<T, W> {
     #[inline(always)]
     fn make_room(&mut self) {
         if mem::needs_drop::<T>() {
-            drop(self.take_crowded());
+            drop(self.take_displaced());
         }
     }
 
@@ -105,7 +105,7 @@ impl<T, W: Words> DelayCore<T, W> {
         if let Turn::Out(_) = &answer {
             return Ok(answer);
         }
-        self.drop_aside();
+        self.drop_deferred();
         Ok(answer)
     }
 
@@ -130,7 +130,7 @@ impl<T, W: Words> DelayCore<T, W> {
         if let Piece::Answer(Turn::Out(_)) = &answer {
             return Ok(answer);
         }
-        self.drop_aside();
+        self.drop_deferred();
         Ok(answer)
     }
 
@@ -138,7 +138,7 @@ impl<T, W: Words> DelayCore<T, W> {
     /// stamps left is worn then. It looks at every slot, and takes no memory.
     pub fn sweep(&mut self) -> usize {
         let reaped = self.sweep_deferring();
-        self.drop_aside();
+        self.drop_deferred();
         reaped
     }
 
@@ -147,7 +147,7 @@ impl<T, W: Words> DelayCore<T, W> {
     /// takes time in proportion to `count`, and no memory.
     pub fn sweep_some(&mut self, from: usize, count: usize) -> Swept {
         let swept = self.sweep_some_deferring(from, count);
-        self.drop_aside();
+        self.drop_deferred();
         swept
     }
 
@@ -160,7 +160,7 @@ impl<T, W: Words> DelayCore<T, W> {
     /// - `Live` if the entry wasn't cancelled. It stays.
     pub fn reap(&mut self, entry: &EntryId) -> Result<(), ReapError> {
         self.reap_deferring(entry)?;
-        self.drop_aside();
+        self.drop_deferred();
         Ok(())
     }
 
@@ -168,7 +168,7 @@ impl<T, W: Words> DelayCore<T, W> {
     /// removed. It looks at every slot, and takes no memory.
     pub fn clear(&mut self) -> usize {
         let removed = self.clear_deferring();
-        self.drop_aside();
+        self.drop_deferred();
         removed
     }
 }

@@ -97,7 +97,7 @@ impl<T, W: Words> DelayCore<T, W> {
         let next = self.wheel.next_due(index);
         let Mark::LiveMark = word.mark else {
             self.wheel.unlink(index);
-            self.slots.let_go(index);
+            self.slots.defer(index);
             return (true, next);
         };
         let tick = self.wheel.tick();

@@ -170,7 +170,7 @@ impl<T, W: Words> DelayCore<T, W> {
             return (Err((CoreError::TooFar { limit: LAST_TICK }, value)), None);
         }
         match self.slots.fill(value) {
-            Ok((index, crowded)) => {
+            Ok((index, displaced)) => {
                 let stamp = self.slots.stamp(index);
                 let tick = self.wheel.tick();
                 let base = when.max(tick);
@@ -178,7 +178,7 @@ impl<T, W: Words> DelayCore<T, W> {
                 self.wheel.link(index, filing_tick(tick, base));
                 self.inserted += 1;
                 let entry = EntryId::new(self.shard, index as u32, stamp);
-                (Ok(Key::new(entry, stamp)), crowded)
+                (Ok(Key::new(entry, stamp)), displaced)
             }
             Err(value) => {
                 let full = CoreError::Full {
@@ -214,7 +214,7 @@ impl<T, W: Words> DelayCore<T, W> {
                 Some(Progress::Went)
             }
             Settled::SettledCancelled => {
-                self.slots.let_go(index);
+                self.slots.defer(index);
                 Some(Progress::Went)
             }
         }
@@ -301,26 +301,26 @@ impl<T, W: Words> DelayCore<T, W> {
 
     /// Returns how many freed values wait for their drop. Constant time.
     #[inline(always)]
-    pub fn aside(&self) -> usize {
-        self.slots.aside()
+    pub fn deferred(&self) -> usize {
+        self.slots.deferred()
     }
 
     /// Takes out a freed value that waits for its drop. It returns none if no value waits. Constant time.
     ///
     /// ```ignore
-    /// for _ in 0..queue.aside() {
-    ///     drop(queue.take_aside());
+    /// for _ in 0..queue.deferred() {
+    ///     drop(queue.take_deferred());
     /// }
     /// ```
-    pub fn take_aside(&mut self) -> Option<T> {
-        self.slots.take_aside()
+    pub fn take_deferred(&mut self) -> Option<T> {
+        self.slots.take_deferred()
     }
 
     /// Takes out the value that waits for its drop in the slot that the next insert takes, if one does: none while a
     /// slot is free. Constant time.
     #[inline(always)]
-    pub fn take_crowded(&mut self) -> Option<T> {
-        self.slots.take_crowded()
+    pub fn take_displaced(&mut self) -> Option<T> {
+        self.slots.take_displaced()
     }
 
     // Where an entry is held, none where it is missing.

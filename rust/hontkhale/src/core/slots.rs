@@ -4,7 +4,7 @@
 //! is held there. A slot that holds nothing at the last stamp is worn: it is never used again. All the memory is
 //! taken by `new`. Every other call is of constant time but `forget`, which goes over every slot.
 //!
-//! A value that is let go stays in its slot, which holds nothing from then on, until somebody takes it out. Until then
+//! A value that is freed stays in its slot, which holds nothing from then on, until somebody takes it out. Until then
 //! the slot isn't among the free ones: a fill takes it only where no slot is free, and hands the value over. No call
 //! drops a value: no impl here says that one may be dropped.
 
@@ -30,7 +30,7 @@ pub(crate) struct Cell<T> {
     pub(crate) stamp: u32,
     // The birth stamp of what it holds, and 0 where it holds nothing.
     pub(crate) born: u32,
-    // What it holds, or a value that was let go and is set aside here.
+    // What it holds, or a value that was freed and is deferred here.
     pub(crate) value: Option<T>,
 }
 
@@ -90,7 +90,7 @@ impl<T> Cell<T> {
         }
     }
 
-    // Puts a value in, and returns the one that was set aside here.
+    // Puts a value in, and returns the one that was deferred here.
     #[inline]
     fn fill(&mut self, value: T) -> Option<T> {
         // requires self.old.row.stamp + 1 < 2 ^ 32
@@ -108,13 +108,13 @@ impl<T> Cell<T> {
         Held { born, value }
     }
 
-    // Lets go of what it holds, which is set aside here.
-    fn let_go(&mut self) {
+    // Frees the value that it holds, and defers its drop.
+    fn defer(&mut self) {
         self.born = 0;
     }
 
-    // Takes out what was set aside here, if anything was.
-    fn take_aside(&mut self) -> Option<T> {
+    // Takes out what was deferred here, if anything was.
+    fn take_deferred(&mut self) -> Option<T> {
         if self.born != 0 {
             return None;
         }
@@ -132,7 +132,7 @@ impl<T> Cell<T> {
         }
     }
 
-    // As if it had never been used; but what was set aside stays.
+    // As if it had never been used; but what was deferred stays.
     fn forget(&mut self) {
         self.stamp = 0;
         self.born = 0;
@@ -224,7 +224,7 @@ impl<T> Slots<T> {
     }
 }
 
-// Notes that the value of a worn slot was let go there, and waits for its drop where values do.
+// Notes that the value of a worn slot was freed there, and waits for its drop where values do.
 #[inline(always)]
 fn mark(deferred: &mut DeferredDrops, drops: bool, index: usize) {
     // requires index < defers_room deferred.old
@@ -233,10 +233,10 @@ fn mark(deferred: &mut DeferredDrops, drops: bool, index: usize) {
     }
 }
 
-// Gives a slot whose value was let go to the next fills: as a free one, or where the value waits for its drop as one
+// Gives a slot, whose value was freed, to the next fills: as a free one, or where the value waits for its drop as one
 // that is taken where none is free.
 #[inline(always)]
-fn set_aside(free: &mut FreeSlots, deferred: &mut DeferredDrops, drops: bool, index: usize) {
+fn defer_slot(free: &mut FreeSlots, deferred: &mut DeferredDrops, drops: bool, index: usize) {
     // requires index < room_of free.old
     // requires free_times free.old index ≡ 0
     // requires index < defers_room deferred.old
@@ -267,7 +267,7 @@ fn take_waiting<T>(cells: &mut [Cell<T>], waiting: &mut DeferredDrops) -> Option
     // requires AreThere cells.old.items waiting.old
     let index = waiting.take()?;
     let cell = nth_mut(cells, index);
-    let value = cell.take_aside().unwrap();
+    let value = cell.take_deferred().unwrap();
     Some((index, value))
 }
 
@@ -374,10 +374,10 @@ impl<T> Slots<T> {
             return Err(value);
         };
         let cell = nth_mut(&mut self.cells, index);
-        let crowded = cell.fill(value);
+        let displaced = cell.fill(value);
         self.held_count += 1;
         self.free_count -= 1;
-        Ok((index, crowded))
+        Ok((index, displaced))
     }
 
     /// Takes out what a slot holds.
@@ -394,14 +394,14 @@ impl<T> Slots<T> {
         held
     }
 
-    /// Lets go of what a slot holds. The value is set aside in the slot, and waits for its drop where it has one.
+    /// Frees what a slot holds. The value is deferred: it stays in the slot, and waits for its drop where it has one.
     #[inline]
-    pub fn let_go(&mut self, index: usize) {
+    pub fn defer(&mut self, index: usize) {
         // requires is_held (row_at self.old.rows index) ≡ true
         let cell = nth_mut(&mut self.cells, index);
-        cell.let_go();
+        cell.defer();
         if cell.stamp() < self.last {
-            set_aside(&mut self.free, &mut self.deferred, self.drops, index);
+            defer_slot(&mut self.free, &mut self.deferred, self.drops, index);
             self.free_count += 1;
         } else {
             mark(&mut self.deferred_worn, self.drops, index);
@@ -411,12 +411,12 @@ impl<T> Slots<T> {
 
     /// How many values wait for their drop.
     #[inline(always)]
-    pub fn aside(&self) -> usize {
+    pub fn deferred(&self) -> usize {
         self.deferred.count() + self.deferred_worn.count()
     }
 
     /// Takes out a value that waits for its drop; none comes exactly where none does.
-    pub fn take_aside(&mut self) -> Option<T> {
+    pub fn take_deferred(&mut self) -> Option<T> {
         take_any(
             &mut self.cells,
             &mut self.free,
@@ -440,11 +440,11 @@ impl<T> Slots<T> {
         )
     }
 
-    /// Takes out the value that is set aside where the next fill puts its own; none comes exactly where a slot is free
+    /// Takes out the value that is deferred where the next fill puts its own; none comes exactly where a slot is free
     /// in which none is, or where a fill is refused.
     #[inline(always)]
-    pub fn take_crowded(&mut self) -> Option<T> {
-        if self.aside() == 0 {
+    pub fn take_displaced(&mut self) -> Option<T> {
+        if self.deferred() == 0 {
             return None;
         }
         self.take_from_next()

@@ -30,7 +30,7 @@ impl<T, W: Words> DelayCore<T, W> {
             return false;
         };
         self.wheel.unlink(index);
-        self.slots.let_go(index);
+        self.slots.defer(index);
         true
     }
 
@@ -92,11 +92,11 @@ impl<T, W: Words> DelayCore<T, W> {
         match ended {
             Some(_) => {
                 self.removed += 1;
-                self.slots.let_go(index);
+                self.slots.defer(index);
                 true
             }
             None => {
-                self.slots.let_go(index);
+                self.slots.defer(index);
                 false
             }
         }

@@ -43,10 +43,10 @@ fn end_within() {
     });
 }
 
-/// Values of a queue that were let go within a drop of another one of its values. They are dropped after it.
+/// Values of a queue that were freed within a drop of another one of its values. They are dropped after it.
 pub(crate) struct DropQueue<T> {
     values: Mutex<Vec<T>>,
-    /// In how many places values wait for their drop: here, and in the shards where some are set aside.
+    /// In how many places values wait for their drop: here, and in the shards where some are deferred.
     places: AtomicUsize,
 }
 
@@ -136,7 +136,7 @@ impl<T> DropQueue<T> {
         Some(Dropping { is_outermost: false })
     }
 
-    /// Drops them, and those that are let go meanwhile. Nothing within a drop of the queue.
+    /// Drops them, and those that are freed meanwhile. Nothing within a drop of the queue.
     pub fn drop_all(&self) {
         if let Some(dropping) = self.begin() {
             self.drop_rest(&dropping);
@@ -152,7 +152,7 @@ impl<T> DropQueue<T> {
         }
     }
 
-    /// Drops a value, or lets it go within a drop of the queue.
+    /// Drops a value, or defers it within a drop of the queue.
     #[inline(always)]
     pub fn drop_value(&self, value: T) {
         match self.begin() {

@@ -41,7 +41,7 @@ impl<T> Drop for Place<'_, T> {
 
 impl<T> Shared<T> {
     /// What `take` takes, as soon as it takes something, and why nothing from `until` on, or once the queue is closed. Values
-    /// that were let go are dropped here, before something is in hand and outside the line.
+    /// that were freed are dropped here, before something is in hand and outside the line.
     pub fn wait_for<R>(
         &self,
         until: Option<Instant>,

@@ -5,7 +5,7 @@
 //! 1. `Ends::emptied`: whether the receivers end, and who waits until the queue is empty.
 //! 2. `Shared::makes`: the clerk, held while a core is made.
 //! 3. A shard's, one at a time. Under it a closure of `get_mut` or `insert_with` may run, and no other code of a program's.
-//! 4. Each of these alone, while nobody's code runs: the line of receivers, the values that were let go, the queues of a manual
+//! 4. Each of these alone, while nobody's code runs: the line of receivers, the deferred values, the queues of a manual
 //!    clock.
 
 use crate::bell::{Hint, Rung};
@@ -127,8 +127,8 @@ impl<'s, T> Locked<'s, T> {
             return Rung::Nobody;
         };
         let Shard { store, hint } = &mut *shard;
-        if store.may_have_aside {
-            note_aside(store, self.deferred);
+        if store.may_have_deferred {
+            note_deferred(store, self.deferred);
         }
         let rung = if hint.tick() == store.hint {
             Rung::Nobody
@@ -144,10 +144,10 @@ impl<'s, T> Locked<'s, T> {
     }
 }
 
-/// Notes whether values are set aside, and counts the places where some are.
+/// Notes whether values are deferred, and counts the places where some are.
 #[cold]
-fn note_aside<T>(store: &mut ShardStore<T>, deferred: &DropQueue<T>) {
-    match store.note_aside() {
+fn note_deferred<T>(store: &mut ShardStore<T>, deferred: &DropQueue<T>) {
+    match store.note_deferred() {
         (false, true) => deferred.count_place(),
         (true, false) => deferred.uncount_place(),
         _ => {}

@@ -354,7 +354,7 @@ impl<T> Shared<T> {
 }
 
 impl<T> Shared<T> {
-    /// Drops the values that were let go and that nobody dropped yet. No lock is held meanwhile.
+    /// Drops the deferred values. No lock is held meanwhile.
     #[inline]
     pub fn drop_deferred(&self) {
         if self.deferred.has_values() {
@@ -365,7 +365,7 @@ impl<T> Shared<T> {
     #[cold]
     fn drop_all(&self) {
         self.deferred.drop_all();
-        (0..self.shards.len()).for_each(|at| self.drop_aside(at));
+        (0..self.shards.len()).for_each(|at| self.drop_deferred_at(at));
     }
 
     /// Whether there are no such values that this thread may drop now.
@@ -373,10 +373,10 @@ impl<T> Shared<T> {
         !self.deferred.has_values() || self.deferred.is_dropping()
     }
 
-    /// Drops the values that are set aside in a shard, each while the lock is free. Within a drop of the queue they are let go.
-    pub fn drop_aside(&self, at: usize) {
+    /// Drops the values that are deferred in a shard, each while the lock is free. Within a drop of the queue they stay deferred.
+    pub fn drop_deferred_at(&self, at: usize) {
         loop {
-            let value = self.lock(at).take_aside();
+            let value = self.lock(at).take_deferred();
             let Some(value) = value else { return };
             self.deferred.drop_value(value);
         }

@@ -42,8 +42,8 @@ pub struct Stats {
     pub waiting: usize,
     /// The entries that were cancelled and whose values are still in the queue.
     pub cancelled: usize,
-    /// The values, of cancelled entries and others, that were let go within the drop of another one, and are dropped after it.
-    pub let_go: usize,
+    /// The values, of cancelled entries and others, that were freed within the drop of another one, and are dropped after it.
+    pub deferred: usize,
     /// About how many bytes the queue takes, without what its values point to.
     pub memory: usize,
     /// By how much the oldest entry that is due is late, at most; nothing where none is due. An entry that was extended,
@@ -100,7 +100,7 @@ pub trait Metrics {
 }
 
 impl Stats {
-    /// Tells all of it: the counters `inserted`, `expired`, `removed` and `cancels`, the gauges `waiting`, `cancelled`, `let_go`,
+    /// Tells all of it: the counters `inserted`, `expired`, `removed` and `cancels`, the gauges `waiting`, `cancelled`, `deferred`,
     /// `memory_bytes`, `late_seconds` and `latest_seconds`, and the buckets of `lateness_seconds`.
     pub fn report(&self, metrics: &mut impl Metrics) {
         metrics.counter("inserted", self.inserted);
@@ -109,7 +109,7 @@ impl Stats {
         metrics.counter("cancels", self.cancels);
         metrics.gauge("waiting", self.waiting as f64);
         metrics.gauge("cancelled", self.cancelled as f64);
-        metrics.gauge("let_go", self.let_go as f64);
+        metrics.gauge("deferred", self.deferred as f64);
         metrics.gauge("memory_bytes", self.memory as f64);
         metrics.gauge("late_seconds", self.late.as_secs_f64());
         metrics.gauge("latest_seconds", self.latest.as_secs_f64());
@@ -178,7 +178,7 @@ impl<T> Shared<T> {
             cancels,
             waiting,
             cancelled: cancels.saturating_sub(freed) as usize,
-            let_go: self.deferred.len(),
+            deferred: self.deferred.len(),
             memory,
             late: Duration::from_millis(late),
             latest: Duration::from_millis(sum.latest.max(late)),

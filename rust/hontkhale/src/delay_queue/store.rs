@@ -10,7 +10,7 @@ use crate::delay_queue::errors::{InsertErrorKind, KeyError};
 use crate::delay_queue::key::Key;
 use crate::directory::Directory;
 use crate::growing::{Cores, Folds, Moved, NextDeadline, Sizing, Store};
-use crate::locks::lend;
+use crate::locks::with_lock;
 use crate::memory::AllocError;
 use crate::ticks::{self, EntryId};
 use crate::words::{Keeper, OpenWords};
@@ -51,9 +51,9 @@ pub(crate) struct ShardStore<T> {
     pub counts: Counts,
     /// The words that were made, which stay as long as the queue.
     words: usize,
-    /// Whether values may have been set aside since that was asked last, and whether some were then.
-    pub may_have_aside: bool,
-    has_aside: bool,
+    /// Whether values may have been deferred since that was asked last, and whether some were then.
+    pub may_have_deferred: bool,
+    has_deferred: bool,
 }
 
 /// What became of a shard's entries. One that is moved isn't counted.
@@ -111,8 +111,8 @@ impl<T> ShardStore<T> {
             hint: NEVER,
             counts: Counts::default(),
             words: 0,
-            may_have_aside: false,
-            has_aside: false,
+            may_have_deferred: false,
+            has_deferred: false,
         }
     }
 
@@ -157,7 +157,7 @@ impl<T> ShardStore<T> {
     pub fn insert_with(&mut self, make: impl FnOnce(Key) -> T, tick: u64) -> Key {
         let next = self.store.next_key().expect("a free slot");
         let (next, queue) = (self.named(&next), self.queue as usize);
-        let value = lend(self, queue, |_| make(next));
+        let value = with_lock(self, queue, |_| make(next));
         let key = self.insert(value, tick);
         // The contracts say that an insert may give that key. Which one it gives of several is the order of the free slots,
         // of which no contract speaks.
@@ -171,17 +171,17 @@ impl<T> ShardStore<T> {
         self.counts.left
     }
 
-    /// Whether values were set aside when that was asked last, and whether some are.
-    pub fn note_aside(&mut self) -> (bool, bool) {
-        self.may_have_aside = false;
-        let had_aside = self.has_aside;
-        self.has_aside = self.aside() > 0;
-        (had_aside, self.has_aside)
+    /// Whether values were deferred when that was asked last, and whether some are.
+    pub fn note_deferred(&mut self) -> (bool, bool) {
+        self.may_have_deferred = false;
+        let had_deferred = self.has_deferred;
+        self.has_deferred = self.deferred() > 0;
+        (had_deferred, self.has_deferred)
     }
 
-    /// How many values are set aside.
-    fn aside(&self) -> usize {
-        self.rows().map(DelayCore::aside).sum()
+    /// How many values are deferred.
+    fn deferred(&self) -> usize {
+        self.rows().map(DelayCore::deferred).sum()
     }
 
     /// How many entries are linked, of which some may be cancelled.
@@ -191,7 +191,7 @@ impl<T> ShardStore<T> {
 
     /// How many cancelled entries were freed and dropped.
     pub fn freed(&self) -> u64 {
-        self.left() - self.linked() as u64 - self.aside() as u64
+        self.left() - self.linked() as u64 - self.deferred() as u64
     }
 }
 
@@ -224,7 +224,7 @@ impl<T> ShardStore<T> {
         if matches!(step, Step::Cancel) && made.is_ok() {
             // It doesn't come out by this key any more.
             let _ = self.store.reap(&entry);
-            self.may_have_aside = true;
+            self.may_have_deferred = true;
         }
         made.map_err(|_| KeyError::Ended)
     }
@@ -314,7 +314,7 @@ impl<T> ShardStore<T> {
     pub fn with_value<R>(&mut self, key: &Key, call: impl FnOnce(&mut T) -> R) -> Result<R, KeyError> {
         let (entry, queue) = (key.entry(), self.queue as usize);
         self.store.deadline(&entry).map_err(refused)?;
-        let made = lend(self, queue, |shard| shard.store.with_value(&entry, call));
+        let made = with_lock(self, queue, |shard| shard.store.with_value(&entry, call));
         Ok(made.expect("a live entry"))
     }
 }
@@ -330,7 +330,7 @@ impl<T> ShardStore<T> {
     /// What a poll comes to at a tick, as a whole or by 256 steps.
     #[inline(always)]
     pub fn poll(&mut self, now: u64, is_whole: bool) -> Polled<T> {
-        self.may_have_aside |= needs_drop::<T>();
+        self.may_have_deferred |= needs_drop::<T>();
         let piece = if is_whole {
             self.store.poll(now)
         } else {
@@ -398,7 +398,7 @@ impl<T> ShardStore<T> {
             }
             Err(_) => {
                 let _ = self.store.reap(&entry);
-                self.may_have_aside = true;
+                self.may_have_deferred = true;
                 Polled::Works
             }
         }
@@ -408,14 +408,14 @@ impl<T> ShardStore<T> {
     /// it looked at some.
     pub fn sweep(&mut self, cancels: u64) -> bool {
         let has_looked = self.sizing.sweep(&mut self.store, cancels);
-        self.may_have_aside |= has_looked;
+        self.may_have_deferred |= has_looked;
         has_looked
     }
 
-    /// Takes out a value that is set aside. Its slot is free then.
-    pub fn take_aside(&mut self) -> Option<T> {
-        self.may_have_aside = true;
-        let value = self.store.take_aside();
+    /// Takes out a value that is deferred. Its slot is free then.
+    pub fn take_deferred(&mut self) -> Option<T> {
+        self.may_have_deferred = true;
+        let value = self.store.take_deferred();
         if value.is_some() && self.store.cores().count() > 1 {
             self.sizing.note_work();
         }
@@ -498,7 +498,7 @@ impl<T> ShardStore<T> {
                 Ok(_) => break,
                 Err(_) => {
                     let _ = self.store.reap(&entry);
-                    self.may_have_aside = true;
+                    self.may_have_deferred = true;
                     // A receiver is to come, and to drop the value.
                     self.hint = 0;
                 }

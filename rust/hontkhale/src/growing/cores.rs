@@ -40,7 +40,7 @@ pub(crate) fn missing_at(when: u64) -> CoreError {
 
 // Whether nothing is linked in a core, and no value waits for its drop there.
 fn is_foldable<T, W: Words>(core: &DelayCore<T, W>) -> bool {
-    core.is_empty() && core.aside() == 0
+    core.is_empty() && core.deferred() == 0
 }
 
 // Takes a live entry out of a core.

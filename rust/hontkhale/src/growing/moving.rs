@@ -71,13 +71,13 @@ fn full_of<T, W: Words>(core: &DelayCore<T, W>) -> Option<(usize, usize)> {
     }
 }
 
-// Puts a value into a free slot. What was set aside there comes out beside the key.
+// Puts a value into a free slot. What was deferred there comes out beside the key.
 fn put_in<T, W: Words>(core: &mut DelayCore<T, W>, value: T, deadline: u64) -> (Key, Option<T>) {
     // requires deadline ≤ LAST_TICK
     // requires HasFreeSlot core.old
-    let (answer, crowded) = core.insert_deferring(value, deadline);
+    let (answer, displaced) = core.insert_deferring(value, deadline);
     match answer {
-        Ok(key) => (key, crowded),
+        Ok(key) => (key, displaced),
         Err(_) => unreachable!(),
     }
 }
@@ -124,7 +124,7 @@ impl<T, W: Words> Cores<T, W> {
         let Some(deadline) = next.of(removed.deadline) else {
             return (Ok(Moved::Out(removed)), None);
         };
-        let (key, crowded) = self.put_in_open(removed.value, deadline);
-        (Ok(Moved::To { key, deadline }), crowded)
+        let (key, displaced) = self.put_in_open(removed.value, deadline);
+        (Ok(Moved::To { key, deadline }), displaced)
     }
 }

@@ -207,15 +207,15 @@ impl<T, W: Words> Cores<T, W> {
     }
 
     /// Takes out a freed value that waits for its drop. It returns none if no value waits.
-    pub fn take_aside(&mut self) -> Option<T> {
+    pub fn take_deferred(&mut self) -> Option<T> {
         let at = self.waiting()?;
-        nth_mut(&mut self.cores, at).take_aside()
+        nth_mut(&mut self.cores, at).take_deferred()
     }
 
     // The place of a core in which a value waits for its drop.
     fn waiting(&self) -> Option<usize> {
         for at in 0..self.cores.len() {
-            if nth(&self.cores, at).aside() > 0 {
+            if nth(&self.cores, at).deferred() > 0 {
                 return Some(at);
             }
         }

@@ -43,7 +43,7 @@ pub struct Sizing {
 // waited in free ones.
 #[inline(always)]
 fn free<T, W: Words>(core: &DelayCore<T, W>) -> usize {
-    let waiting = if mem::needs_drop::<T>() { core.aside() } else { 0 };
+    let waiting = if mem::needs_drop::<T>() { core.deferred() } else { 0 };
     let taken = core.len() + core.worn();
     core.capacity().saturating_sub(taken).saturating_sub(waiting)
 }
@@ -285,7 +285,7 @@ impl Sizing {
         let Some(core) = cores.get(place) else {
             return false;
         };
-        core.is_empty() && core.aside() == 0 && self.is_needless(cores, core, slots)
+        core.is_empty() && core.deferred() == 0 && self.is_needless(cores, core, slots)
     }
 
     fn has_needless<T, W: Words>(&self, cores: &Cores<T, W>) -> bool {

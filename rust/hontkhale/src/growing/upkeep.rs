@@ -88,7 +88,7 @@ impl<T, W: Words> Store<T, W> {
     }
 
     /// Takes out a freed value that waits for its drop. It returns none if no value waits.
-    pub fn take_aside(&mut self) -> Option<T> {
-        self.cores.take_aside()
+    pub fn take_deferred(&mut self) -> Option<T> {
+        self.cores.take_deferred()
     }
 }

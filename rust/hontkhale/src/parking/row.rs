@@ -5,12 +5,12 @@
 //!
 //! ```ignore
 //! let mut shard = self.row.lock(rt, place);
-//! let (reaped, leaver) = shard.attended.sweep();
-//! self.row.leave(rt, place, shard, leaver, false);
+//! let (reaped, pending) = shard.watched.sweep();
+//! self.row.leave(rt, place, shard, pending, false);
 //! ```
 //!
 //! `lock` compares once whether the shard stands at the place, and waits for ever where another was put there. `leave`
-//! lets the lock go, wakes who has left, and drops what is set aside; `unlock` is for what drops nothing. A value's drop
+//! lets the lock go, wakes who has left, and drops what is deferred; `unlock` is for what drops nothing. A value's drop
 //! is a user's code: it may call the queue, and it may panic. So it runs while the lock is free, and where it panics the
 //! shard is whole.
 
@@ -49,13 +49,13 @@ pub trait Shard {
     /// Whether it stands at a place of so many.
     fn stands_at(&self, place: usize, places: usize) -> bool;
 
-    /// How many values are set aside: those that were let go and aren't dropped yet. Constant time.
-    fn aside(&self) -> usize;
+    /// How many values are deferred: those that were freed and aren't dropped yet. Constant time.
+    fn deferred(&self) -> usize;
 
-    /// Takes out the value that is set aside where the next insert's entry goes, if one is.
-    fn take_crowded(&mut self) -> Option<Self::Value>;
+    /// Takes out the value that is deferred where the next insert's entry goes, if one is.
+    fn take_displaced(&mut self) -> Option<Self::Value>;
 
-    /// Takes out a value for the thread that drops what is set aside, as `WatchedCore::take_one`.
+    /// Takes out a value for the thread that drops what is deferred, as `WatchedCore::take_one`.
     fn take_one(&mut self, is_mine: &mut bool) -> Option<Self::Value>;
 
     /// Ends the dropping before its time, as `WatchedCore::end_dropping`.
@@ -209,13 +209,13 @@ impl<S: Shard> Row<S> {
 }
 
 /// Lets a shard's lock go, and then wakes who has left: whoever is woken may call the queue at once. Answers how many
-/// values are set aside.
+/// values are deferred.
 #[inline(always)]
-pub fn unlock<S: Shard>(shard: MutexGuard<'_, S>, leaver: PendingWake<S::Next>) -> usize {
-    let aside = shard.aside();
+pub fn unlock<S: Shard>(shard: MutexGuard<'_, S>, pending: PendingWake<S::Next>) -> usize {
+    let deferred = shard.deferred();
     drop(shard);
-    leaver.wake();
-    aside
+    pending.wake();
+    deferred
 }
 
 // The one impl of a row that says that a value may be dropped. It does so while no lock is held.
@@ -228,36 +228,36 @@ impl<S: Shard> Row<S> {
         // requires place < self.now
         loop {
             let mut shard = self.lock(place);
-            let Some(crowded) = shard.take_crowded() else {
+            let Some(displaced) = shard.take_displaced() else {
                 return shard;
             };
             drop(shard);
-            drop(crowded);
+            drop(displaced);
         }
     }
 
-    /// Ends a call on the shard at a place: lets its lock go, wakes who has left, and then drops what is set aside
+    /// Ends a call on the shard at a place: lets its lock go, wakes who has left, and then drops what is deferred
     /// there. Where an entry came out nothing is dropped, since a drop that panics would lose it: a later call does so.
     #[inline(always)]
-    pub fn leave(&self, place: usize, shard: MutexGuard<'_, S>, leaver: PendingWake<S::Next>, is_out: bool) {
-        let aside = unlock(shard, leaver);
+    pub fn leave(&self, place: usize, shard: MutexGuard<'_, S>, pending: PendingWake<S::Next>, is_out: bool) {
+        let deferred = unlock(shard, pending);
         if !is_out {
-            self.drop_aside(place, aside);
+            self.drop_deferred(place, deferred);
         }
     }
 
-    /// Drops what is set aside in the shard at a place, where the caller has left so many there: nothing is done where
+    /// Drops what is deferred in the shard at a place, where the caller has left so many there: nothing is done where
     /// it has left none, or where there is no such place.
     #[inline(always)]
-    pub fn drop_aside(&self, place: usize, most: usize) {
+    pub fn drop_deferred(&self, place: usize, most: usize) {
         if most > 0 && place < self.len() {
-            self.drop_all_aside(place);
+            self.drop_all_deferred(place);
         }
     }
 
     // Drops it until nothing is left, where no thread does so already.
     #[inline(never)]
-    fn drop_all_aside(&self, place: usize) {
+    fn drop_all_deferred(&self, place: usize) {
         // requires place < self.now
         let mut dropper = Dropper {
             row: self,
@@ -274,7 +274,7 @@ impl<S: Shard> Row<S> {
     }
 }
 
-// The thread that drops what is set aside in a shard, one value at a time, while the lock is free. Where a value's drop
+// The thread that drops what is deferred in a shard, one value at a time, while the lock is free. Where a value's drop
 // panics, others may do it from then on.
 struct Dropper<'q, S: Shard> {
     row: &'q Row<S>,

@@ -131,12 +131,12 @@ impl<'q, Q: Shards, S, P> ShardStream<'q, Q, S, P> {
     }
 }
 
-// How many of the values that are set aside are dropped behind a poll: none where it gave an entry, which a drop that
+// How many of the values that are deferred are dropped behind a poll: none where it gave an entry, which a drop that
 // panics would lose.
-fn dropped_behind<T>(answer: &Polled<T>, aside: usize) -> usize {
+fn dropped_behind<T>(answer: &Polled<T>, deferred: usize) -> usize {
     match answer {
         Poll::Ready(Some(Ok(_))) => 0,
-        _ => aside,
+        _ => deferred,
     }
 }
 
@@ -146,7 +146,7 @@ fn ends_by<T>(ends: bool, answer: &Polled<T>) -> bool {
 }
 
 // What a poll does under its shard's lock, for a task that left its waker. Who was parked there before goes out with
-// the answer, and so does how many values are set aside. It knows no drop of a value, so none is dropped here.
+// the answer, and so does how many values are deferred. It knows no drop of a value, so none is dropped here.
 fn poll_entered<Q: Shards, S: TickSource>(
     queue: &Q,
     place: usize,
@@ -158,11 +158,11 @@ fn poll_entered<Q: Shards, S: TickSource>(
     // requires place < Q.places queue.now
     let (mut shard, tick) = queue.entered(place, source, before);
     let polled = turn(&mut *shard, tick, most, slot);
-    (polled, shard.aside())
+    (polled, shard.deferred())
 }
 
 /// Polls the shard at a place of a queue once for a task, whole or by at most `most` steps. It is pending where the
-/// shard has more to do: the task is woken then. What is set aside is dropped once the lock is free; where an entry is
+/// shard has more to do: the task is woken then. What is deferred is dropped once the lock is free; where an entry is
 /// given, by a later call.
 pub fn poll_place<Q: Shards, S: TickSource>(
     queue: &Q,
@@ -175,15 +175,15 @@ pub fn poll_place<Q: Shards, S: TickSource>(
     // The task's waker is made, and those that aren't parked are let go, while the lock is free.
     let mut before = None;
     let mut slot = register(cx);
-    let (polled, aside) = poll_entered(queue, place, source, most, &mut slot, &mut before);
+    let (polled, deferred) = poll_entered(queue, place, source, most, &mut slot, &mut before);
     let_sleep(before);
     forget(slot);
     let Some(answer) = polled else {
         cx.waker().wake_by_ref();
-        queue.row().drop_aside(place, aside);
+        queue.row().drop_deferred(place, deferred);
         return Poll::Pending;
     };
-    queue.row().drop_aside(place, dropped_behind(&answer, aside));
+    queue.row().drop_deferred(place, dropped_behind(&answer, deferred));
     answer
 }
 

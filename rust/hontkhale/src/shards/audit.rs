@@ -76,8 +76,8 @@ impl<T> ShardState<T> {
     /// # Errors
     /// `HandlesOut` if some callers aren't given back, with their number: what they cancelled isn't known.
     pub fn audit(&mut self) -> Result<Totals, HandlesOut> {
-        let tally = self.attended.core.tally();
-        match self.attended.core.returned() {
+        let tally = self.watched.core.tally();
+        match self.watched.core.returned() {
             Ok(cancelled) => Ok(totals_of(&tally, cancelled)),
             Err(out) => Err(HandlesOut { out }),
         }

@@ -34,8 +34,8 @@ impl<T> SharedDelayQueue<T> {
     /// ```
     pub fn reset(&self, entry: &EntryId, when: u64) -> Result<Key, QueueError> {
         let mut shard = self.enter(entry.shard() as usize)?;
-        let (answer, leaver) = shard.attended.reset(entry, when);
-        unlock(shard, leaver);
+        let (answer, pending) = shard.watched.reset(entry, when);
+        unlock(shard, pending);
         Ok(answer?)
     }
 
@@ -62,8 +62,8 @@ impl<T> SharedDelayQueue<T> {
     /// ```
     pub fn remove(&self, entry: &EntryId) -> Result<Removed<T>, QueueError> {
         let mut shard = self.enter(entry.shard() as usize)?;
-        let (answer, leaver) = shard.attended.remove(entry);
-        unlock(shard, leaver);
+        let (answer, pending) = shard.watched.remove(entry);
+        unlock(shard, pending);
         Ok(answer?)
     }
 
@@ -114,7 +114,7 @@ impl<T> SharedDelayQueue<T> {
     /// `Unknown` if there is no such shard.
     pub fn ring(&self, shard: usize, tick: u64) -> Result<bool, QueueError> {
         let mut shard = self.enter(shard)?;
-        let rung = ring(&mut shard.attended.parked, tick);
+        let rung = ring(&mut shard.watched.parked, tick);
         let is_rung = rung.is_some();
         unlock(shard, rung);
         Ok(is_rung)

@@ -1,9 +1,9 @@
 //! The calls of a queue of shards by name that may let a value go: each takes one shard's lock and makes the state's
-//! call. Who leaves by it is woken once the lock is free, and what it lets go is dropped then.
+//! call. Who leaves by it is woken once the lock is free, and what it frees is dropped then.
 //!
-//! A value's drop is a user's code: it may call the queue, and it may panic. What is reaped or cleared is set aside in
+//! A value's drop is a user's code: it may call the queue, and it may panic. What is reaped or cleared is deferred in
 //! the shard, and the row takes it out and drops it behind the lock. Where a drop panics the shard is whole, and what
-//! is still set aside is dropped by a later call. Beside the row and a stream's poll no other impl of a queue says that
+//! is still deferred is dropped by a later call. Beside the row and a stream's poll no other impl of a queue says that
 //! a value of it may be dropped, so the checker refuses a drop anywhere else.
 
 use crate::core::{CoreError, Expired, Piece, ReapError, Swept, Turn};
@@ -70,8 +70,8 @@ impl<T> SharedDelayQueue<T> {
         let shard = routed_shard(route, self.row.len() as u64);
         let mut locked = self.row.lock_with_room(shard as usize);
         // A value that waited for its drop where the entry is now is dropped once the lock is free.
-        let (answer, leaver, _crowded) = locked.attended.insert(value, when);
-        unlock(locked, leaver);
+        let (answer, pending, _displaced) = locked.watched.insert(value, when);
+        unlock(locked, pending);
         match answer {
             Ok(key) => Ok(key),
             Err((e, value)) => Err((QueueError::Core(e), value)),
@@ -132,9 +132,9 @@ impl<T> SharedDelayQueue<T> {
     /// ```
     pub fn poll(&self, shard: usize, tick: u64) -> Result<Turn<T>, QueueError> {
         let mut locked = self.enter(shard)?;
-        let (answer, leaver) = locked.attended.poll(tick);
+        let (answer, pending) = locked.watched.poll(tick);
         let is_out = matches!(answer, Ok(Turn::Out(_)));
-        self.row.leave(shard, locked, leaver, is_out);
+        self.row.leave(shard, locked, pending, is_out);
         Ok(answer?)
     }
 
@@ -173,9 +173,9 @@ impl<T> SharedDelayQueue<T> {
     /// ```
     pub fn poll_some(&self, shard: usize, tick: u64, most: u32) -> Result<Piece<T>, QueueError> {
         let mut locked = self.enter(shard)?;
-        let (answer, leaver) = locked.attended.poll_some(tick, most);
+        let (answer, pending) = locked.watched.poll_some(tick, most);
         let is_out = matches!(answer, Ok(Piece::Answer(Turn::Out(_))));
-        self.row.leave(shard, locked, leaver, is_out);
+        self.row.leave(shard, locked, pending, is_out);
         Ok(answer?)
     }
 
@@ -247,9 +247,9 @@ impl<T> SharedDelayQueue<T> {
     pub fn poll_many(&self, shard: usize, tick: u64, row: &mut Vec<Expired<T>>) -> Result<ManyTurn, QueueError> {
         let before = row.len();
         let mut locked = self.enter(shard)?;
-        let (answer, leaver) = locked.attended.poll_many(tick, row);
+        let (answer, pending) = locked.watched.poll_many(tick, row);
         let is_out = row.len() != before;
-        self.row.leave(shard, locked, leaver, is_out);
+        self.row.leave(shard, locked, pending, is_out);
         Ok(answer?)
     }
 
@@ -263,8 +263,8 @@ impl<T> SharedDelayQueue<T> {
     /// `Unknown` if there is no such shard.
     pub fn sweep(&self, shard: usize) -> Result<usize, QueueError> {
         let mut locked = self.enter(shard)?;
-        let (reaped, leaver) = locked.attended.sweep();
-        self.row.leave(shard, locked, leaver, false);
+        let (reaped, pending) = locked.watched.sweep();
+        self.row.leave(shard, locked, pending, false);
         Ok(reaped)
     }
 
@@ -292,8 +292,8 @@ impl<T> SharedDelayQueue<T> {
     /// ```
     pub fn sweep_some(&self, shard: usize, from: usize, count: usize) -> Result<Swept, QueueError> {
         let mut locked = self.enter(shard)?;
-        let (swept, leaver) = locked.attended.sweep_some(from, count);
-        self.row.leave(shard, locked, leaver, false);
+        let (swept, pending) = locked.watched.sweep_some(from, count);
+        self.row.leave(shard, locked, pending, false);
         Ok(swept)
     }
 
@@ -310,8 +310,8 @@ impl<T> SharedDelayQueue<T> {
     pub fn reap(&self, entry: &EntryId) -> Result<Result<(), ReapError>, QueueError> {
         let shard = entry.shard() as usize;
         let mut locked = self.enter(shard)?;
-        let (answer, leaver) = locked.attended.reap(entry);
-        self.row.leave(shard, locked, leaver, false);
+        let (answer, pending) = locked.watched.reap(entry);
+        self.row.leave(shard, locked, pending, false);
         Ok(answer)
     }
 
@@ -324,12 +324,12 @@ impl<T> SharedDelayQueue<T> {
     /// `Unknown` if there is no such shard.
     pub fn clear(&self, shard: usize) -> Result<usize, QueueError> {
         let mut locked = self.enter(shard)?;
-        let (cleared, leaver) = locked.attended.clear();
-        self.row.leave(shard, locked, leaver, false);
+        let (cleared, pending) = locked.watched.clear();
+        self.row.leave(shard, locked, pending, false);
         Ok(cleared)
     }
 
-    /// Drops the values that are set aside in `shard`, each while the shard's lock is free. `most` is how many the
+    /// Drops the values that are deferred in `shard`, each while the shard's lock is free. `most` is how many the
     /// caller has left there: if that is 0, the call takes no lock and does nothing. Else it goes on until none is
     /// left. If there is no such shard, there is nothing to drop.
     ///
@@ -337,7 +337,7 @@ impl<T> SharedDelayQueue<T> {
     /// other drops these values too, and this call returns at once. If a drop panics, a later call drops the rest.
     ///
     /// Every call by name does this by itself, and so does [`SharedDelayQueue::lend`]. Whoever holds a shard by
-    /// [`SharedDelayQueue::enter`] asks [`ShardState::aside`] before the lock is released.
+    /// [`SharedDelayQueue::enter`] asks [`ShardState::deferred`] before the lock is released.
     ///
     /// ```
     /// use hontkhale::parts::shards::{QueueConfig, SharedDelayQueue};
@@ -345,14 +345,14 @@ impl<T> SharedDelayQueue<T> {
     /// let queue: SharedDelayQueue<String> = SharedDelayQueue::new(QueueConfig::of(1, 100))?;
     /// let mut state = queue.enter(0)?;
     /// state.sweep();
-    /// let aside = state.aside();
+    /// let deferred = state.deferred();
     /// drop(state);
-    /// queue.drop_aside(0, aside);
+    /// queue.drop_deferred(0, deferred);
     /// # Ok::<(), hontkhale::parts::shards::QueueError>(())
     /// ```
     #[inline(always)]
-    pub fn drop_aside(&self, shard: usize, most: usize) {
-        self.row.drop_aside(shard, most);
+    pub fn drop_deferred(&self, shard: usize, most: usize) {
+        self.row.drop_deferred(shard, most);
     }
 }
 

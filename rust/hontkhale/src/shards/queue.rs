@@ -32,7 +32,7 @@ use crate::shards::state::ShardState;
 ///
 /// # Drops of values
 /// A call by name drops the values that it frees after it has released the lock, so a value's drop may call the
-/// queue. One thread at a time drops what a shard has set aside. A call that finds another thread at it, or that is
+/// queue. One thread at a time drops what a shard has deferred. A call that finds another thread at it, or that is
 /// made by a value's drop, leaves its values to that one, and returns before they are dropped. So drops don't nest,
 /// and a value may be dropped by another thread's call. An insert may drop one value before its own entry is in, if
 /// no other slot is free.
@@ -66,7 +66,7 @@ impl<T> SharedDelayQueue<T> {
     /// A thread that holds a shard and takes its lock once more, by any call that names the shard, waits for ever. So
     /// does a waker that calls the queue if a call on the held shard wakes it. [`ShardState::take_parked`] takes the
     /// parked task out before. Values that are freed meanwhile wait in the shard until
-    /// [`SharedDelayQueue::drop_aside`] or a later call drops them.
+    /// [`SharedDelayQueue::drop_deferred`] or a later call drops them.
     ///
     /// # Errors
     /// `Unknown` if there is no such shard.

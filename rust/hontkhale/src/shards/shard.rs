@@ -10,16 +10,16 @@ use crate::shards::state::ShardState;
 use core::task::Waker;
 
 impl<T> ShardState<T> {
-    /// How many values are set aside: those of entries that were reaped or cleared, and that aren't dropped yet.
+    /// How many values are deferred: those of entries that were reaped or cleared, and that aren't dropped yet.
     /// Constant time.
     #[inline(always)]
-    pub fn aside(&self) -> usize {
-        self.attended.core.aside()
+    pub fn deferred(&self) -> usize {
+        self.watched.core.deferred()
     }
 
     /// Returns the tick, of one millisecond, until which a task is parked. It returns none if no task is parked.
     pub fn parked(&self) -> Option<u64> {
-        match &self.attended.parked {
+        match &self.watched.parked {
             Some(poller) => Some(poller.next),
             None => None,
         }
@@ -37,7 +37,7 @@ impl<T> ShardState<T> {
             "a poller is parked after the next wake"
         );
         self.unpark();
-        self.attended.parked = Some(Parked { next, waker });
+        self.watched.parked = Some(Parked { next, waker });
     }
 
     /// Takes the parked task out, and doesn't wake it. It returns whether there was one.
@@ -48,13 +48,13 @@ impl<T> ShardState<T> {
     /// Takes the parked task out, and returns it unwoken. Whoever has its waker may wake it, or drop it, after the
     /// shard's lock is released.
     pub fn take_parked(&mut self) -> Option<Parked> {
-        self.attended.parked.take()
+        self.watched.parked.take()
     }
 
     /// Tells the shard that `tick`, of one millisecond, is reached: a task that is parked until `tick` or before is
     /// taken out and woken. It returns whether there was one.
     pub fn ring(&mut self, tick: u64) -> bool {
-        let rung = ring(&mut self.attended.parked, tick);
+        let rung = ring(&mut self.watched.parked, tick);
         let is_rung = rung.is_some();
         rung.wake();
         is_rung
@@ -68,25 +68,25 @@ impl<T> Shard for ShardState<T> {
 
     #[inline(always)]
     fn stands_at(&self, place: usize, _places: usize) -> bool {
-        self.attended.core.shard() as usize == place
+        self.watched.core.shard() as usize == place
     }
 
     #[inline(always)]
-    fn aside(&self) -> usize {
-        self.attended.core.aside()
+    fn deferred(&self) -> usize {
+        self.watched.core.deferred()
     }
 
     #[inline(always)]
-    fn take_crowded(&mut self) -> Option<T> {
-        self.attended.core.take_crowded()
+    fn take_displaced(&mut self) -> Option<T> {
+        self.watched.core.take_displaced()
     }
 
     fn take_one(&mut self, is_mine: &mut bool) -> Option<T> {
-        self.attended.take_one(is_mine)
+        self.watched.take_one(is_mine)
     }
 
     fn end_dropping(&mut self, is_mine: &mut bool) {
-        self.attended.end_dropping(is_mine);
+        self.watched.end_dropping(is_mine);
     }
 }
 
@@ -101,7 +101,7 @@ impl<T> Sleeps for ShardState<T> {
     }
 
     fn poll_piece(&mut self, tick: u64, most: Option<u32>) -> Result<Piece<T>, CoreError> {
-        self.attended.poll_unparked(tick, most)
+        self.watched.poll_unparked(tick, most)
     }
 }
 

@@ -18,13 +18,13 @@ use alloc::vec::Vec;
 /// until a call *reaps* it: its slot is free for another entry then, and its value is dropped.
 #[repr(align(64))]
 pub struct ShardState<T> {
-    pub(crate) attended: WatchedCore<T, u64>,
+    pub(crate) watched: WatchedCore<T, u64>,
 }
 
 impl<T> From<DelayCore<T, Keeper>> for ShardState<T> {
     fn from(core: DelayCore<T, Keeper>) -> ShardState<T> {
         ShardState {
-            attended: WatchedCore::new(core),
+            watched: WatchedCore::new(core),
         }
     }
 }
@@ -41,8 +41,8 @@ impl<T> ShardState<T> {
     /// - `Full` if no slot is free.
     #[inline(always)]
     pub fn insert(&mut self, value: T, when: u64) -> Result<Key, (CoreError, T)> {
-        let answer = self.attended.core.insert(value, when);
-        keep_or_leave(&self.attended.core, &mut self.attended.parked).wake();
+        let answer = self.watched.core.insert(value, when);
+        keep_or_leave(&self.watched.core, &mut self.watched.parked).wake();
         answer
     }
 }
@@ -60,8 +60,8 @@ impl<T> ShardState<T> {
     /// - `Worn` if the entry's slot has no stamp left for another key.
     #[inline(always)]
     pub fn reset(&mut self, entry: &EntryId, when: u64) -> Result<Key, CoreError> {
-        let answer = self.attended.core.reset(entry, when);
-        keep_or_leave(&self.attended.core, &mut self.attended.parked).wake();
+        let answer = self.watched.core.reset(entry, when);
+        keep_or_leave(&self.watched.core, &mut self.watched.parked).wake();
         answer
     }
 
@@ -74,8 +74,8 @@ impl<T> ShardState<T> {
     /// - `WasCancelled` if the entry was cancelled.
     #[inline(always)]
     pub fn remove(&mut self, entry: &EntryId) -> Result<Removed<T>, CoreError> {
-        let answer = self.attended.core.remove(entry);
-        keep_or_leave(&self.attended.core, &mut self.attended.parked).wake();
+        let answer = self.watched.core.remove(entry);
+        keep_or_leave(&self.watched.core, &mut self.watched.parked).wake();
         answer
     }
 
@@ -88,7 +88,7 @@ impl<T> ShardState<T> {
     /// - `WasCancelled` if the entry was cancelled.
     #[inline]
     pub fn deadline(&mut self, entry: &EntryId) -> Result<u64, CoreError> {
-        self.attended.core.deadline(entry)
+        self.watched.core.deadline(entry)
     }
 
     /// Notes `tick`, of one millisecond, and takes one entry out that is due at the greatest tick noted. Call it
@@ -99,14 +99,14 @@ impl<T> ShardState<T> {
     ///
     /// It takes constant time for each entry that it moves down the wheel, schedules again or reaps; an entry moves
     /// at most five times after it was scheduled. It takes no memory, and drops no value: the values of reaped
-    /// entries are set aside.
+    /// entries are deferred.
     ///
     /// # Errors
     /// `TickTooLarge` if `tick` is beyond the last tick. It isn't noted then.
     #[inline(always)]
     pub fn poll(&mut self, tick: u64) -> Result<Turn<T>, CoreError> {
-        let answer = self.attended.core.poll_deferring(tick);
-        keep_or_leave(&self.attended.core, &mut self.attended.parked).wake();
+        let answer = self.watched.core.poll_deferring(tick);
+        keep_or_leave(&self.watched.core, &mut self.watched.parked).wake();
         answer
     }
 
@@ -120,14 +120,14 @@ impl<T> ShardState<T> {
     /// when its tick was noted. A call of no steps that returns `Working` tells nothing. Between two calls the lock
     /// may be released, and every other call may be made.
     ///
-    /// A step takes constant time. The call takes no memory, and drops no value: the values of reaped entries are set
-    /// aside.
+    /// A step takes constant time. The call takes no memory, and drops no value: the values of reaped entries are
+    /// deferred.
     ///
     /// # Errors
     /// `TickTooLarge` if `tick` is beyond the last tick. It isn't noted then.
     pub fn poll_some(&mut self, tick: u64, most: u32) -> Result<Piece<T>, CoreError> {
-        let answer = self.attended.core.poll_some_deferring(tick, most);
-        keep_or_leave(&self.attended.core, &mut self.attended.parked).wake();
+        let answer = self.watched.core.poll_some_deferring(tick, most);
+        keep_or_leave(&self.watched.core, &mut self.watched.parked).wake();
         answer
     }
 
@@ -140,29 +140,29 @@ impl<T> ShardState<T> {
     /// # Errors
     /// `TickTooLarge` if `tick` is beyond the last tick. Nothing changes then.
     pub fn poll_many(&mut self, tick: u64, row: &mut Vec<Expired<T>>) -> Result<ManyTurn, CoreError> {
-        let (answer, leaver) = self.attended.poll_many(tick, row);
-        leaver.wake();
+        let (answer, pending) = self.watched.poll_many(tick, row);
+        pending.wake();
         answer
     }
 
-    /// Reaps all cancelled entries, and returns how many these were. Their values are set aside. It looks at every
+    /// Reaps all cancelled entries, and returns how many these were. Their values are deferred. It looks at every
     /// slot.
     pub fn sweep(&mut self) -> usize {
-        let reaped = self.attended.core.sweep_deferring();
-        keep_or_leave(&self.attended.core, &mut self.attended.parked).wake();
+        let reaped = self.watched.core.sweep_deferring();
+        keep_or_leave(&self.watched.core, &mut self.watched.parked).wake();
         reaped
     }
 
     /// Reaps the cancelled entries among the `count` slots from the slot `from` on. It returns how many these were,
-    /// and the slot to go on from, which is none after the last slot. Their values are set aside. It takes time in
+    /// and the slot to go on from, which is none after the last slot. Their values are deferred. It takes time in
     /// proportion to `count`. Between two calls the lock may be released.
     pub fn sweep_some(&mut self, from: usize, count: usize) -> Swept {
-        let swept = self.attended.core.sweep_some_deferring(from, count);
-        keep_or_leave(&self.attended.core, &mut self.attended.parked).wake();
+        let swept = self.watched.core.sweep_some_deferring(from, count);
+        keep_or_leave(&self.watched.core, &mut self.watched.parked).wake();
         swept
     }
 
-    /// Reaps `entry` if it was cancelled: its slot is free for another entry, or worn, and its value is set aside.
+    /// Reaps `entry` if it was cancelled: its slot is free for another entry, or worn, and its value is deferred.
     /// Constant time.
     ///
     /// # Errors
@@ -170,16 +170,16 @@ impl<T> ShardState<T> {
     /// - `Missing` if the entry isn't linked here.
     /// - `Live` if the entry wasn't cancelled. It stays.
     pub fn reap(&mut self, entry: &EntryId) -> Result<(), ReapError> {
-        let answer = self.attended.core.reap_deferring(entry);
-        keep_or_leave(&self.attended.core, &mut self.attended.parked).wake();
+        let answer = self.watched.core.reap_deferring(entry);
+        keep_or_leave(&self.watched.core, &mut self.watched.parked).wake();
         answer
     }
 
     /// Takes all entries out, and returns how many live ones were removed. Their values, and those of cancelled
-    /// entries, are set aside. A parked task is woken. It looks at every slot.
+    /// entries, are deferred. A parked task is woken. It looks at every slot.
     pub fn clear(&mut self) -> usize {
-        let removed = self.attended.core.clear_deferring();
-        keep_or_leave(&self.attended.core, &mut self.attended.parked).wake();
+        let removed = self.watched.core.clear_deferring();
+        keep_or_leave(&self.watched.core, &mut self.watched.parked).wake();
         removed
     }
 
@@ -190,12 +190,12 @@ impl<T> ShardState<T> {
     /// - `TooManyHandles` if 1,024 callers were made, given back or not.
     /// - `NoMemory` if memory is refused.
     pub fn issue(&mut self) -> Result<Caller, WordsError> {
-        self.attended.core.issue()
+        self.watched.core.issue()
     }
 
     /// Returns the number of callers that were made and not given back, by one load. A caller that was dropped stays
     /// counted.
     pub fn out(&mut self) -> u64 {
-        self.attended.core.out()
+        self.watched.core.out()
     }
 }

@@ -95,7 +95,7 @@ mod owned {
         mod peeks;
         mod race;
         mod renewals;
-        mod set_aside;
+        mod deferred;
     }
 
     mod shard_checks {

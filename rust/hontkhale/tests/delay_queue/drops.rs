@@ -71,7 +71,7 @@ fn an_insert_may_hold_a_mutex_that_a_drop_takes() {
     });
 }
 
-/// They were set aside by a receiver that took an entry, which drops nothing beside it.
+/// They were deferred by a receiver that took an entry, which drops nothing beside it.
 #[test]
 fn an_insert_that_has_room_drops_nothing() {
     let (clock, drops) = (ManualClock::new(), Drops::default());
@@ -130,7 +130,7 @@ fn an_insert_that_empties_a_core_drops_nothing() {
 
 /// Nothing else is due.
 #[test]
-fn a_receiver_that_sleeps_drops_what_an_insert_set_aside() {
+fn a_receiver_that_sleeps_drops_what_an_insert_deferred() {
     within_the_limit(|| {
         let drops = Drops::default();
         let queue = DelayQueue::builder().shards(1).build();
@@ -240,8 +240,8 @@ fn what_a_drop_lets_go_is_told_until_it_is_dropped() {
     let (clone, counts) = (queue.clone(), drops.clone());
     let value = drops.value(0).then(move || {
         drop(guards);
-        assert_eq!((clone.stats().let_go, clone.len(), dropped(&counts, 4)), (3, 0, 1));
+        assert_eq!((clone.stats().deferred, clone.len(), dropped(&counts, 4)), (3, 0, 1));
     });
     drop(queue.guard(value, FAR).expect("room"));
-    assert_eq!((queue.stats().let_go, drops.are_once(4)), (0, true));
+    assert_eq!((queue.stats().deferred, drops.are_once(4)), (0, true));
 }

@@ -20,7 +20,7 @@ pub struct Slot {
     pub stamp: u32,
     pub shows: Option<Look>,
     pub held: Option<Held>,
-    pub aside: Option<u64>,
+    pub deferred: Option<u64>,
 }
 
 /// A slot's core and its index there.
@@ -96,7 +96,7 @@ impl Model {
     /// Whether nothing is linked in a core, and no value waits there.
     pub fn is_foldable(&self, core: u32) -> bool {
         self.slots_of(core)
-            .all(|it| it.1.held.is_none() && it.1.aside.is_none())
+            .all(|it| it.1.held.is_none() && it.1.deferred.is_none())
     }
 
     /// The least deadline of a live entry of the row, and of one that wasn't late.
@@ -112,8 +112,8 @@ impl Model {
     }
 
     /// How many values wait for their drop in the row.
-    pub fn aside(&self) -> usize {
-        self.slots_in().filter(|it| it.1.aside.is_some()).count()
+    pub fn deferred(&self) -> usize {
+        self.slots_in().filter(|it| it.1.deferred.is_some()).count()
     }
 
     /// The keys of the live entries of the row.
@@ -207,10 +207,10 @@ impl Model {
     }
 
     /// An entry's slot is freed, and its value waits for its drop there.
-    pub fn sets_aside(&mut self, place: Place) {
+    pub fn defers(&mut self, place: Place) {
         let slot = self.slots.get_mut(&place).expect("a slot that is known");
         let held = slot.held.take().expect("an entry that is linked");
-        let before = slot.aside.replace(held.value);
+        let before = slot.deferred.replace(held.value);
         assert_eq!(before, None, "a slot has two values");
         if let Some(Look::StillLive(deadline)) = slot.shows {
             slot.shows = Some(Look::LookRemoved(deadline));

@@ -181,7 +181,7 @@ impl<T> Growing<T> {
     /// Does what may wait. It keeps what it can't do for want of memory.
     #[inline(never)]
     pub fn maintain(&mut self) {
-        while let Some(value) = self.cores.take_aside() {
+        while let Some(value) = self.cores.take_deferred() {
             drop(value);
         }
         while let Some(core) = self.cores.take_drained() {

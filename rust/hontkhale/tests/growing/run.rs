@@ -100,29 +100,29 @@ impl Run {
     pub fn insert(&mut self) {
         let (when, value) = (self.tick(), self.value());
         let refused = self.model.refuses_insert(when);
-        let (answer, crowded) = self.cores.insert(value, when);
+        let (answer, displaced) = self.cores.insert(value, when);
         let key = match answer {
             Ok(key) => key,
             Err((error, value)) => {
                 assert_eq!((Some(error), value.number()), (refused, self.values));
-                return assert!(crowded.is_none());
+                return assert!(displaced.is_none());
             }
         };
         assert_eq!((refused, Some(key.entry().shard())), (None, self.model.open));
-        self.takes_slot(key, crowded);
+        self.takes_slot(key, displaced);
         self.keys.push(key);
         self.finds_deadline(key, when);
     }
 
     /// An insert took a free slot, under its next stamp; and one whose value waits only where one waits in each.
-    fn takes_slot(&mut self, key: Key, crowded: Option<Value>) {
+    fn takes_slot(&mut self, key: Key, displaced: Option<Value>) {
         let free = self.model.free(key.entry().shard());
-        let all_wait = free.iter().all(|slot| slot.aside.is_some());
+        let all_wait = free.iter().all(|slot| slot.deferred.is_some());
         let value = self.values;
         let slot = self.model.slot(key.entry());
         assert!(free.contains(slot), "a slot that isn't free");
         assert_eq!((key.stamp(), key.entry().born()), (slot.stamp + 1, slot.stamp + 1));
-        assert_eq!(crowded.map(|value| value.number()), slot.aside.take());
+        assert_eq!(displaced.map(|value| value.number()), slot.deferred.take());
         let held = Held {
             born: key.stamp(),
             value,
@@ -130,7 +130,7 @@ impl Run {
             gave_up: None,
         };
         (slot.stamp, slot.held) = (key.stamp(), Some(held));
-        assert!(all_wait || !free.is_empty() && free.iter().any(|slot| slot.aside.is_none()));
+        assert!(all_wait || !free.is_empty() && free.iter().any(|slot| slot.deferred.is_none()));
     }
 
     /// The entry's deadline is `when`, or one up to the noted tick where that is sooner.
@@ -197,7 +197,7 @@ impl Run {
         };
         assert_eq!(self.cores.reap(&key.entry()), known);
         if known.is_ok() {
-            self.model.sets_aside(place_of(key.entry()));
+            self.model.defers(place_of(key.entry()));
         }
     }
 
@@ -302,7 +302,7 @@ impl Run {
     fn finds_reaped(&mut self, reached: Option<u64>) -> bool {
         for entry in self.model.cancelled() {
             match self.cores.deadline(&entry) {
-                Err(CoreError::Missing) => self.model.sets_aside(place_of(entry)),
+                Err(CoreError::Missing) => self.model.defers(place_of(entry)),
                 Err(CoreError::WasCancelled) => {
                     let gave_up = self.model.slot(entry).held.and_then(|held| held.gave_up);
                     assert!(gave_up > reached, "a cancelled entry stays");
@@ -354,17 +354,17 @@ impl Run {
         );
     }
 
-    pub fn take_aside(&mut self) {
-        let Some(value) = self.cores.take_aside() else {
-            return assert_eq!(self.model.aside(), 0);
+    pub fn take_deferred(&mut self) {
+        let Some(value) = self.cores.take_deferred() else {
+            return assert_eq!(self.model.deferred(), 0);
         };
-        let is_it = |it: &(Place, _)| self.model.slots[&it.0].aside == Some(value.number());
+        let is_it = |it: &(Place, _)| self.model.slots[&it.0].deferred == Some(value.number());
         let (place, _) = self
             .model
             .slots_in()
             .find(is_it)
             .expect("a value that waits in the row");
-        self.model.slots.get_mut(&place).expect("a slot that is known").aside = None;
+        self.model.slots.get_mut(&place).expect("a slot that is known").deferred = None;
     }
 
     fn place(&mut self) -> (usize, Option<u32>) {
@@ -382,7 +382,7 @@ impl Run {
             .filter(|it| Some(it.0) == core && (from..from + count).contains(&it.1.into()));
         let swept: Vec<_> = swept.collect();
         assert_eq!(answer.map_or(0, |answer| answer.reaped), swept.len());
-        swept.into_iter().for_each(|place| self.model.sets_aside(place));
+        swept.into_iter().for_each(|place| self.model.defers(place));
     }
 
     pub fn clear_core(&mut self) {
@@ -396,7 +396,7 @@ impl Run {
         });
         let is_live = |it: &&(Place, Slot)| it.1.held.is_some_and(|held| held.gave_up.is_none());
         assert_eq!(answer, held.as_ref().map(|held| held.iter().filter(is_live).count()));
-        held.iter().flatten().for_each(|it| self.model.sets_aside(it.0));
+        held.iter().flatten().for_each(|it| self.model.defers(it.0));
     }
 
     fn took_in(&mut self, core: Core) {
@@ -526,7 +526,7 @@ impl Run {
             self.poll(last, None);
         }
         assert!(self.cores.next_wake().is_none() || !self.model.cancelled().is_empty());
-        let waits = self.model.aside() + self.model.cancelled().len();
+        let waits = self.model.deferred() + self.model.cancelled().len();
         let lives = self.living.count();
         drop((self.cores, self.folds));
         assert_eq!((lives, self.living.count()), (waits as u64, 0));

@@ -28,7 +28,7 @@ pub struct Run {
     /// The ids that were given, the last one last.
     given: Vec<EntryId>,
     ways: BTreeMap<u32, (OpenWords, u32)>,
-    aside: BTreeSet<u64>,
+    deferred: BTreeSet<u64>,
     noted: u64,
     pub draw: Draw,
     living: Living,
@@ -51,7 +51,7 @@ impl Run {
             entries: BTreeMap::new(),
             given: Vec::new(),
             ways: BTreeMap::new(),
-            aside: BTreeSet::new(),
+            deferred: BTreeSet::new(),
             noted: 0,
             draw: Draw::new(seed),
             living: Living::default(),
@@ -105,7 +105,7 @@ impl Run {
     /// An entry came into the open core, by that key at that place. What waited in its slot came out beside.
     fn comes(&mut self, key: Key, place: EntryId, value: u64, when: u64, beside: Option<Value>) {
         if let Some(beside) = beside {
-            assert!(self.aside.remove(&beside.number()), "a value that didn't wait");
+            assert!(self.deferred.remove(&beside.number()), "a value that didn't wait");
         }
         let open = self
             .store
@@ -304,7 +304,7 @@ impl Run {
         assert_eq!(self.store.reap(&entry), known);
         if known.is_ok() {
             let value = self.leaves(&entry).value;
-            self.aside.insert(value);
+            self.deferred.insert(value);
             self.is_gone(&entry);
         }
     }
@@ -351,7 +351,7 @@ impl Run {
             match self.store.deadline(&entry) {
                 Err(CoreError::Missing) => {
                     let value = self.leaves(&entry).value;
-                    self.aside.insert(value);
+                    self.deferred.insert(value);
                 }
                 answer => assert_eq!(answer, Err(CoreError::WasCancelled)),
             }
@@ -369,10 +369,10 @@ impl Run {
         }
     }
 
-    pub fn take_aside(&mut self) {
-        match self.store.take_aside() {
-            Some(value) => assert!(self.aside.remove(&value.number()), "a value that didn't wait"),
-            None => assert!(self.aside.is_empty()),
+    pub fn take_deferred(&mut self) {
+        match self.store.take_deferred() {
+            Some(value) => assert!(self.deferred.remove(&value.number()), "a value that didn't wait"),
+            None => assert!(self.deferred.is_empty()),
         }
     }
 
@@ -384,11 +384,11 @@ impl Run {
 
     pub fn sweep_some(&mut self) {
         let ((place, core), from, count) = (self.place(), self.draw.below(5), self.draw.below(5));
-        let before = self.aside.len();
+        let before = self.deferred.len();
         let answer = self.store.sweep_some(place, from as usize, count as usize);
         assert_eq!(answer.is_none(), core.is_none());
         self.find_reaped();
-        assert_eq!(answer.map_or(0, |answer| answer.reaped), self.aside.len() - before);
+        assert_eq!(answer.map_or(0, |answer| answer.reaped), self.deferred.len() - before);
     }
 
     /// A core names its entries by the ids that their users have.
@@ -442,7 +442,7 @@ impl Run {
 
     /// Takes a core out that has drained, and drops it, or takes it in again.
     pub fn take_drained(&mut self) {
-        let is_foldable = |core: &DelayCore<Value, Keeper>| core.is_empty() && core.aside() == 0;
+        let is_foldable = |core: &DelayCore<Value, Keeper>| core.is_empty() && core.deferred() == 0;
         let cores = self.store.cores();
         let others = (0..cores.count()).filter(|place| *place != cores.opened());
         let has_drained = others.filter_map(|place| cores.get(place)).any(is_foldable);
@@ -473,7 +473,7 @@ impl Run {
             }
         }
         let lives = self.living.count();
-        let waits = self.aside.len() + self.entries.len();
+        let waits = self.deferred.len() + self.entries.len();
         drop(self.store);
         assert_eq!((lives, self.living.count()), (waits as u64, 0));
     }

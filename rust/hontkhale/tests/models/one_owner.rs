@@ -64,7 +64,7 @@ queues! {
     noted() -> u64,
     len() -> usize,
     worn() -> usize,
-    aside() -> usize,
+    deferred() -> usize,
     tally() -> Tally,
     ;
     insert_or_drop(value: Value, when: u64) -> Result<Key, CoreError>,
@@ -255,7 +255,7 @@ impl<Q: Queue, C: ByKey<Q>> Play<Q, C> {
 
     // Exactly where the queue holds nothing it is folded and unfolded. To the model only a tick is noted by it.
     fn fold(mut self, draw: &mut Draw) -> Self {
-        let is_empty = self.queue.len() + self.queue.aside() == 0;
+        let is_empty = self.queue.len() + self.queue.deferred() == 0;
         let tally = self.queue.tally();
         let tick = tick(draw, self.model.noted, None);
         match self.queue.fold_and_unfold(tick) {
@@ -309,7 +309,7 @@ impl<Q: Queue, C: ByKey<Q>> Play<Q, C> {
         assert_eq!((queue.tick(), queue.noted()), (self.model.tick, self.model.noted));
         assert_eq!(
             self.living.count(),
-            (queue.len() + queue.aside()) as u64,
+            (queue.len() + queue.deferred()) as u64,
             "values that live"
         );
     }

@@ -350,9 +350,9 @@ impl Play {
         assert_eq!((state.tick(), state.noted()), (place.model.tick, place.model.noted));
         drop(state);
         let linked: usize = self.places.iter().map(|place| place.model.len()).sum();
-        let aside = |place| self.queue.enter(place).expect("a shard").aside();
-        let aside: usize = (0..self.places.len()).map(aside).sum();
-        assert_eq!(self.living.count(), (linked + aside) as u64, "values that live");
+        let deferred = |place| self.queue.enter(place).expect("a shard").deferred();
+        let deferred: usize = (0..self.places.len()).map(deferred).sum();
+        assert_eq!(self.living.count(), (linked + deferred) as u64, "values that live");
     }
 
     fn end(self) {

@@ -124,11 +124,11 @@ impl Twin {
         &self.keys
     }
 
-    /// The values that live, but for those that are set aside in a shard and are dropped by a later call.
+    /// The values that live, but for those that are deferred in a shard and are dropped by a later call.
     pub fn lives(&self) -> u64 {
-        let aside = |shard| self.queue.enter(shard).expect("a shard").aside();
-        let aside: usize = (0..self.queue.shards()).map(aside).sum();
-        self.living.count() - aside as u64
+        let deferred = |shard| self.queue.enter(shard).expect("a shard").deferred();
+        let deferred: usize = (0..self.queue.shards()).map(deferred).sum();
+        self.living.count() - deferred as u64
     }
 
     fn value(&mut self) -> Value {

@@ -98,7 +98,10 @@ fn a_poll_that_reaps_values_that_panic() {
     assert!(keys.iter().all(|key| caller.cancel(key).is_ok()));
     for dropped in 1..=4 {
         bombs.panics(|| queue.poll(13));
-        assert_eq!((bombs.dropped(), queue.aside(), queue.len()), (dropped, 4 - dropped, 0));
+        assert_eq!(
+            (bombs.dropped(), queue.deferred(), queue.len()),
+            (dropped, 4 - dropped, 0)
+        );
     }
     assert!(matches!(queue.poll(13), Ok(Turn::Idle)));
     still_whole(&bombs, queue);

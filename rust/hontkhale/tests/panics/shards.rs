@@ -123,9 +123,9 @@ fn a_shard_in_hand_panics_in_turn() {
         let mut shard = queue.enter(0).expect("a shard");
         drop(shard.poll_some(50, 100));
         user_code("body");
-        let aside = shard.aside();
+        let deferred = shard.deferred();
         drop(shard);
-        queue.drop_aside(0, aside);
+        queue.drop_deferred(0, deferred);
     });
 }
 

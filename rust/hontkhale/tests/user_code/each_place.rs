@@ -1,4 +1,4 @@
-//! What is let go in a shard is dropped by the call that let it go, or by a later one where a drop panics: at each shard, the
+//! What is freed in a shard is dropped by the call that freed it, or by a later one where a drop panics: at each shard, the
 //! last one too.
 
 use super::kit::{panics, within_the_limit, Drops, Value};
@@ -27,8 +27,8 @@ macro_rules! cancelled {
     }};
 }
 
-fn aside(queue: &Shared, place: usize) -> usize {
-    queue.enter(place).expect("a shard").aside()
+fn deferred(queue: &Shared, place: usize) -> usize {
+    queue.enter(place).expect("a shard").deferred()
 }
 
 fn steps() -> NonZeroU32 {
@@ -78,7 +78,7 @@ fn row_of_one() -> Vec<Expired<Value>> {
     row
 }
 
-// Each call lets two cancelled entries of a place go. Then the drop of one of three panics in a sweep of it.
+// Each call frees two cancelled entries of a place. Then the drop of one of three panics in a sweep of it.
 macro_rules! lets_go {
     ($($call:expr,)*) => {
         for place in 0..PLACES {
@@ -86,7 +86,7 @@ macro_rules! lets_go {
                 let (queue, drops) = (shared(), Drops::default());
                 let keys = [0, 1].map(|_| cancelled!(queue, place, drops.value()));
                 $call(&queue, place, keys);
-                let seen = (drops.count(), aside(&queue, place));
+                let seen = (drops.count(), deferred(&queue, place));
                 assert_eq!(seen, (2, 0), "place {place}: {}", stringify!($call));
             })*
             let (queue, drops) = (shared(), Drops::default());
@@ -94,9 +94,9 @@ macro_rules! lets_go {
             cancelled!(queue, place, drops.value());
             cancelled!(queue, place, drops.value());
             assert_eq!(panics(|| queue.sweep(place)), "a value's drop");
-            assert_eq!(drops.count() + aside(&queue, place) as u64, 3, "none is lost");
+            assert_eq!(drops.count() + deferred(&queue, place) as u64, 3, "none is lost");
             assert_eq!(queue.sweep(place), Ok(0));
-            assert_eq!((drops.count(), aside(&queue, place)), (3, 0), "place {place}");
+            assert_eq!((drops.count(), deferred(&queue, place)), (3, 0), "place {place}");
         }
     };
 }
@@ -130,11 +130,11 @@ macro_rules! gives {
                 cancelled!(queue, place, drops.value_that_panics());
                 queue.insert_or_drop(place as u64, drops.value(), 10).expect("room");
                 assert!($call(&queue, place), "place {place}: {}", stringify!($call));
-                let seen = (drops.count(), aside(&queue, place));
+                let seen = (drops.count(), deferred(&queue, place));
                 assert_eq!(seen, (1, 1), "place {place}: {}", stringify!($call));
-                (0..PLACES + 2).filter(|other| *other != place).for_each(|other| queue.drop_aside(other, 1));
-                queue.drop_aside(place, 0);
-                assert_eq!(panics(|| queue.drop_aside(place, 1)), "a value's drop");
+                (0..PLACES + 2).filter(|other| *other != place).for_each(|other| queue.drop_deferred(other, 1));
+                queue.drop_deferred(place, 0);
+                assert_eq!(panics(|| queue.drop_deferred(place, 1)), "a value's drop");
             })*
         }
     };
@@ -158,7 +158,7 @@ fn a_poll_of_each_shard_that_gives_an_entry_drops_nothing() {
 // promise: shards.name-drops
 #[test]
 fn an_insert_makes_room_in_its_own_shard() {
-    let seen = |queue: &Shared, place| (aside(queue, place), queue.tally(place).expect("a shard").linked);
+    let seen = |queue: &Shared, place| (deferred(queue, place), queue.tally(place).expect("a shard").linked);
     within_the_limit(move || {
         for place in 0..PLACES {
             let (queue, drops) = (shared(), Drops::default());
@@ -189,7 +189,7 @@ fn a_piece_of_a_poll_drops_what_it_reaps() {
             queue.insert_or_drop(place as u64, drops.value(), 10).expect("room");
             let mut pieces = 0;
             while matches!(queue.poll_some(place, 10, 1), Ok(Piece::Working)) {
-                assert_eq!(aside(&queue, place), 0, "place {place}");
+                assert_eq!(deferred(&queue, place), 0, "place {place}");
                 pieces += 1;
             }
             assert!(pieces > 1 && queue.clear(place) == Ok(0));

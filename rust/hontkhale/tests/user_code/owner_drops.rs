@@ -41,14 +41,14 @@ impl Owner {
         }
     }
 
-    // The three values are set aside: a poll let them go, and gave an entry out.
+    // The three values are deferred: a poll freed them, and gave an entry out.
     fn after_a_poll() -> Owner {
         let mut owner = Owner::new();
         let Ok(Turn::Out(out)) = owner.queue.poll(10) else {
             panic!("an entry is due")
         };
         assert_eq!(out.key, owner.soon);
-        assert_eq!((owner.queue.aside(), owner.drops.count()), (3, 0));
+        assert_eq!((owner.queue.deferred(), owner.drops.count()), (3, 0));
         owner
     }
 
@@ -79,10 +79,10 @@ impl Owner {
         adds_up(&self.queue.tally());
         self.queue.sweep();
         self.fill();
-        self.queue.drop_aside();
+        self.queue.drop_deferred();
         let linked = self.queue.len();
         assert_eq!((linked, self.queue.entries().count()), (ROOM, ROOM));
-        assert_eq!((self.queue.sweep(), self.queue.aside()), (0, 0));
+        assert_eq!((self.queue.sweep(), self.queue.deferred()), (0, 0));
         for left in (0..linked).rev() {
             assert!(matches!(self.queue.poll(3_000), Ok(Turn::Out(_))));
             assert_eq!(self.queue.len(), left);
@@ -94,7 +94,7 @@ impl Owner {
     }
 }
 
-// The call panics, and has let go of so many values by then.
+// The call panics, and has freed so many values by then.
 fn panics_in(reaped: usize, call: impl FnOnce(&mut Owner) + Send + 'static) {
     within_the_limit(move || {
         let mut owner = Owner::new();
@@ -102,17 +102,17 @@ fn panics_in(reaped: usize, call: impl FnOnce(&mut Owner) + Send + 'static) {
         assert_eq!(panics(|| call(&mut owner)), "a value's drop");
         assert_eq!(owner.queue.len(), linked - reaped);
         assert_eq!(owner.drops.count(), 1);
-        assert_eq!(owner.queue.aside(), reaped - 1, "the others wait");
+        assert_eq!(owner.queue.deferred(), reaped - 1, "the others wait");
         owner.goes_on();
     });
 }
 
-// The call drops nothing, whatever is set aside.
+// The call drops nothing, whatever is deferred.
 fn drops_nothing_in(call: impl FnOnce(&mut Owner) + Send + 'static) {
     within_the_limit(move || {
         let mut owner = Owner::after_a_poll();
         call(&mut owner);
-        assert_eq!(owner.queue.aside(), 3);
+        assert_eq!(owner.queue.deferred(), 3);
         owner.goes_on_after_the_panic();
     });
 }
@@ -120,8 +120,8 @@ fn drops_nothing_in(call: impl FnOnce(&mut Owner) + Send + 'static) {
 impl Owner {
     // The drop that panics comes out of the next call that drops.
     fn goes_on_after_the_panic(mut self) {
-        assert_eq!(panics(|| self.queue.drop_aside()), "a value's drop");
-        assert_eq!(self.queue.aside(), 2);
+        assert_eq!(panics(|| self.queue.drop_deferred()), "a value's drop");
+        assert_eq!(self.queue.deferred(), 2);
         self.goes_on();
     }
 }
@@ -177,7 +177,7 @@ fn a_poll_in_pieces_that_gives_an_entry_drops_nothing() {
 }
 
 #[test]
-fn a_remove_drops_nothing_that_is_set_aside() {
+fn a_remove_drops_nothing_that_is_deferred() {
     drops_nothing_in(|owner| {
         let removed = owner.queue.remove(&owner.late.entry()).expect("an entry");
         assert_eq!(removed.deadline, 1_000);
@@ -185,7 +185,7 @@ fn a_remove_drops_nothing_that_is_set_aside() {
 }
 
 #[test]
-fn a_reset_drops_nothing_that_is_set_aside() {
+fn a_reset_drops_nothing_that_is_deferred() {
     drops_nothing_in(|owner| {
         let key = owner.queue.reset(&owner.late.entry(), 50).expect("an entry");
         assert_eq!(owner.queue.deadline(&key.entry()), Ok(50));
@@ -198,7 +198,7 @@ fn an_insert_whose_slot_has_a_value_that_panics() {
     within_the_limit(|| {
         let mut owner = Owner::after_a_poll();
         assert_eq!(owner.fill(), (4, 1));
-        assert_eq!(owner.queue.aside(), 0);
+        assert_eq!(owner.queue.deferred(), 0);
         owner.goes_on();
     });
 }

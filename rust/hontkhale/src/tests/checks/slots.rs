@@ -4,7 +4,7 @@ use crate::core::Slots;
 
 fn fills(slots: &mut Slots<char>, value: char, answer: Result<usize, char>) {
     let filled = match slots.fill(value) {
-        Ok((index, _crowded)) => Ok(index),
+        Ok((index, _displaced)) => Ok(index),
         Err(refused) => Err(refused),
     };
     same("fill", filled, answer);

@@ -12,10 +12,10 @@ loop-index-preserved g c =
     elim c.if-clear_at.branch [
       | then-clear_at w ↦
           let up = w.removed-is in
-          (c.loop-index.invariant.0, clear_on g.W.Words.shared c.args.self.now c.loop-index.self c.clear_at.new.self c.loop-index.index c.loop-index.removed c.if-clear_at.removed c.clear_at.result to c.clear_at.ensures.same c.clear_at.ensures.emptied (rw w.if-clear_at.true up) (omega (arith, up, few)), c.clear_at.ensures.origin ∙ c.loop-index.invariant.2, λ i s d b. c.clear_at.ensures.begun i s d (c.loop-index.invariant.3 i s d b), sets_then c.loop-index.invariant.4 c.clear_at.ensures.aside)
+          (c.loop-index.invariant.0, clear_on g.W.Words.shared c.args.self.now c.loop-index.self c.clear_at.new.self c.loop-index.index c.loop-index.removed c.if-clear_at.removed c.clear_at.result to c.clear_at.ensures.same c.clear_at.ensures.emptied (rw w.if-clear_at.true up) (omega (arith, up, few)), c.clear_at.ensures.origin ∙ c.loop-index.invariant.2, λ i s d b. c.clear_at.ensures.begun i s d (c.loop-index.invariant.3 i s d b), sets_then c.loop-index.invariant.4 c.clear_at.ensures.deferred)
       | else-clear_at w ↦
           let up = w.removed-is in
-          (c.loop-index.invariant.0, clear_on g.W.Words.shared c.args.self.now c.loop-index.self c.clear_at.new.self c.loop-index.index c.loop-index.removed c.if-clear_at.removed c.clear_at.result to c.clear_at.ensures.same c.clear_at.ensures.emptied (rw w.if-clear_at.false (omega (arith, up))) (omega (arith, up, few)), c.clear_at.ensures.origin ∙ c.loop-index.invariant.2, λ i s d b. c.clear_at.ensures.begun i s d (c.loop-index.invariant.3 i s d b), sets_then c.loop-index.invariant.4 c.clear_at.ensures.aside)
+          (c.loop-index.invariant.0, clear_on g.W.Words.shared c.args.self.now c.loop-index.self c.clear_at.new.self c.loop-index.index c.loop-index.removed c.if-clear_at.removed c.clear_at.result to c.clear_at.ensures.same c.clear_at.ensures.emptied (rw w.if-clear_at.false (omega (arith, up))) (omega (arith, up, few)), c.clear_at.ensures.origin ∙ c.loop-index.invariant.2, λ i s d b. c.clear_at.ensures.begun i s d (c.loop-index.invariant.3 i s d b), sets_then c.loop-index.invariant.4 c.clear_at.ensures.deferred)
     ]
 
 pub returns-clause-clears : goal.returns-clause-clears

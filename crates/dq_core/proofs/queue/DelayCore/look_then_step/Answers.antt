@@ -18,8 +18,8 @@ returns-in-Some-clause-piece g c =
     let same = subst (λ r. SettlesByLook g.W.Words.shared c.args.self.now r c.settle_by_look-is_settled.new.self) c.if-is_settled.false look.settles in
     piece_by_two g.W.Words.shared c.args.self.now c.settle_by_look-is_settled.new.self c.in-Some.index c.step.result c.step.new.self due same c.step.ensures.progress
 
-pub returns-then-is_settled-clause-aside : goal.returns-then-is_settled-clause-aside
-returns-then-is_settled-clause-aside g c = sets_then c.settle_by_look-is_settled.ensures.aside c.settle_more-more.ensures.aside
+pub returns-then-is_settled-clause-deferred : goal.returns-then-is_settled-clause-deferred
+returns-then-is_settled-clause-deferred g c = sets_then c.settle_by_look-is_settled.ensures.deferred c.settle_more-more.ensures.deferred
 
-pub returns-in-Some-clause-aside : goal.returns-in-Some-clause-aside
-returns-in-Some-clause-aside g c = sets_then c.settle_by_look-is_settled.ensures.aside c.step.ensures.aside
+pub returns-in-Some-clause-deferred : goal.returns-in-Some-clause-deferred
+returns-in-Some-clause-deferred g c = sets_then c.settle_by_look-is_settled.ensures.deferred c.step.ensures.deferred

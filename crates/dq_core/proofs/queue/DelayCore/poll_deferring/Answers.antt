@@ -13,7 +13,7 @@ steps-preserved g c = (
   on_way_more g.W.Words.shared c.args.self.now c.steps.self c.step.new.self c.args.tick c.steps.invariant.0 c.in-Went.ensures.same c.in-Went.ensures.noted c.in-Went.ensures.progress.0,
   c.in-Went.ensures.origin ∙ c.steps.invariant.1,
   λ i s d b. c.in-Went.ensures.begun i s d (c.steps.invariant.2 i s d b),
-  sets_then c.steps.invariant.3 c.in-Went.ensures.aside,
+  sets_then c.steps.invariant.3 c.in-Went.ensures.deferred,
 )
 
 pub returns-in-Some-clause-polls : goal.returns-in-Some-clause-polls
@@ -27,11 +27,11 @@ returns-in-None-clause-polls g c =
 pub returns-in-Gave-clause-out : goal.returns-in-Gave-clause-out
 returns-in-Gave-clause-out g c = polled_due g.W.Words.shared c.steps.self c.step.new.self c.in-Gave.expired c.in-Gave.ensures.progress
 
-pub returns-in-Gave-clause-aside : goal.returns-in-Gave-clause-aside
-returns-in-Gave-clause-aside g c = sets_then c.steps.invariant.3 c.in-Gave.ensures.aside
+pub returns-in-Gave-clause-deferred : goal.returns-in-Gave-clause-deferred
+returns-in-Gave-clause-deferred g c = sets_then c.steps.invariant.3 c.in-Gave.ensures.deferred
 
-pub returns-in-Some-clause-aside : goal.returns-in-Some-clause-aside
-returns-in-Some-clause-aside g c = sets_then c.steps.invariant.3 c.in-Rests.ensures.aside
+pub returns-in-Some-clause-deferred : goal.returns-in-Some-clause-deferred
+returns-in-Some-clause-deferred g c = sets_then c.steps.invariant.3 c.in-Rests.ensures.deferred
 
-pub returns-in-None-clause-aside : goal.returns-in-None-clause-aside
-returns-in-None-clause-aside g c = sets_then c.steps.invariant.3 c.in-Rests.ensures.aside
+pub returns-in-None-clause-deferred : goal.returns-in-None-clause-deferred
+returns-in-None-clause-deferred g c = sets_then c.steps.invariant.3 c.in-Rests.ensures.deferred

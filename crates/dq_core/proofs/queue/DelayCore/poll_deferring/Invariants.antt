@@ -1,5 +1,5 @@
 use Rattle.std.proofs.Common.{◌≡◌, None}
-use Rattle.dq_core.specs.Asides.{SetsAside}
+use Rattle.dq_core.specs.Deferring.{DefersValues}
 use Rattle.dq_core.specs.Calls.{work}
 use Rattle.dq_core.specs.Words.{StillBegun}
 use Rattle.dq_core.proofs.Steps.{IsOnWay}
@@ -11,7 +11,7 @@ invariant-steps g l =
     IsOnWay g.W.Words.shared l.fn.self l.tick l.self
     × (g.W.Words.origin l.self.words ≡ g.W.Words.origin l.fn.self.words)
     × StillBegun g.W.Words.begun l.fn.self.words l.self.words
-    × SetsAside l.fn.self None l.self
+    × DefersValues l.fn.self None l.self
 
 abbrev pub decreases-steps : goal.decreases-steps
 decreases-steps g l = work l.self

@@ -4,5 +4,5 @@ use Rattle.dq_core.proofs.queue.DelayCore.poll_some.Goals as goal
 pub returns : goal.returns
 returns g c =
     let polled = c.in_ok-answer.ensures in
-    rw c.drop_aside.ensures.rest
-    (record { noted = polled.noted; refused = polled.refused; kept = polled.kept; out = polled.out; waiting = polled.waiting; ahead = polled.ahead; idle = polled.idle; none = λ o. c.drop_aside.ensures.none; few_steps = polled.few_steps; same = polled.same; origin = polled.origin; polls = polled_some_dropped g.W.Words.shared _ _ _ _ _ _ polled.polls; begun = polled.begun })
+    rw c.drop_deferred.ensures.rest
+    (record { noted = polled.noted; refused = polled.refused; kept = polled.kept; out = polled.out; waiting = polled.waiting; ahead = polled.ahead; idle = polled.idle; none = λ o. c.drop_deferred.ensures.none; few_steps = polled.few_steps; same = polled.same; origin = polled.origin; polls = polled_some_dropped g.W.Words.shared _ _ _ _ _ _ polled.polls; begun = polled.begun })

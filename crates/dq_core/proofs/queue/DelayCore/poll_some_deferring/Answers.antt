@@ -1,5 +1,5 @@
 use Rattle.std.proofs.Common.{ap, ◌∙◌, arith, subst}
-use Rattle.dq_core.specs.Asides.{given_at, SetsAside}
+use Rattle.dq_core.specs.Deferring.{given_at, DefersValues}
 use Rattle.dq_core.specs.Pieces.{IsPieceBy}
 use Rattle.dq_core.proofs.PieceSteps.{piece_init, piece_more, out_due, piece_out, piece_waiting, piece_idle}
 use Rattle.dq_core.proofs.Settings.{stays_as, sets_then}
@@ -12,7 +12,7 @@ loop-made-init g c = (
   ap (λ q. g.W.Words.origin q.words) c.note.ensures,
   λ i s d b. rw (ap (λ q. q.words) c.note.ensures) b,
   rw (ap (λ q. q.words) c.note.ensures) (omega arith),
-  stays_as _ _ _ _ (ap (λ q. q.slots.rows) c.note.ensures) (ap (λ q. q.aside) c.note.ensures),
+  stays_as _ _ _ _ (ap (λ q. q.slots.rows) c.note.ensures) (ap (λ q. q.deferred) c.note.ensures),
 )
 
 pub loop-made-preserved : goal.loop-made-preserved
@@ -25,7 +25,7 @@ loop-made-preserved g c =
       step.origin ∙ c.loop-made.invariant.2,
       λ i s d b. step.begun i s d (c.loop-made.invariant.3 i s d b),
       omega (arith, step.few_steps, c.loop-made.invariant.4),
-      sets_then c.loop-made.invariant.5 (subst (λ p. SetsAside c.loop-made.self (given_at p) c.look_then_step-progress.new.self) c.in-Went.is step.aside),
+      sets_then c.loop-made.invariant.5 (subst (λ p. DefersValues c.loop-made.self (given_at p) c.look_then_step-progress.new.self) c.in-Went.is step.deferred),
     )
 
 pub returns-in-Gave-clause-polls : goal.returns-in-Gave-clause-polls
@@ -53,17 +53,17 @@ returns-in-None-clause-polls g c =
     let piece = subst (λ m. IsPieceBy g.W.Words.shared c.loop-made.self c.look_then_step-progress.result.1 m c.look_then_step-progress.new.self) c.in-Rests.is step.piece in
     piece_idle g.W.Words.shared c.args.self.now c.loop-made.self c.look_then_step-progress.new.self c.args.tick c.loop-made.made c.args.most c.loop-made.invariant.1 c.loop-made.invariant.0 piece c.in-None.ensures.wake
 
-pub returns-in-Gave-clause-aside : goal.returns-in-Gave-clause-aside
-returns-in-Gave-clause-aside g c =
+pub returns-in-Gave-clause-deferred : goal.returns-in-Gave-clause-deferred
+returns-in-Gave-clause-deferred g c =
     sets_then c.loop-made.invariant.5
-    (subst (λ p. SetsAside c.loop-made.self (given_at p) c.look_then_step-progress.new.self) c.in-Gave.is c.look_then_step-progress.ensures.aside)
+    (subst (λ p. DefersValues c.loop-made.self (given_at p) c.look_then_step-progress.new.self) c.in-Gave.is c.look_then_step-progress.ensures.deferred)
 
-pub returns-in-Some-clause-aside : goal.returns-in-Some-clause-aside
-returns-in-Some-clause-aside g c =
+pub returns-in-Some-clause-deferred : goal.returns-in-Some-clause-deferred
+returns-in-Some-clause-deferred g c =
     sets_then c.loop-made.invariant.5
-    (subst (λ p. SetsAside c.loop-made.self (given_at p) c.look_then_step-progress.new.self) c.in-Rests.is c.look_then_step-progress.ensures.aside)
+    (subst (λ p. DefersValues c.loop-made.self (given_at p) c.look_then_step-progress.new.self) c.in-Rests.is c.look_then_step-progress.ensures.deferred)
 
-pub returns-in-None-clause-aside : goal.returns-in-None-clause-aside
-returns-in-None-clause-aside g c =
+pub returns-in-None-clause-deferred : goal.returns-in-None-clause-deferred
+returns-in-None-clause-deferred g c =
     sets_then c.loop-made.invariant.5
-    (subst (λ p. SetsAside c.loop-made.self (given_at p) c.look_then_step-progress.new.self) c.in-Rests.is c.look_then_step-progress.ensures.aside)
+    (subst (λ p. DefersValues c.loop-made.self (given_at p) c.look_then_step-progress.new.self) c.in-Rests.is c.look_then_step-progress.ensures.deferred)

@@ -1,5 +1,5 @@
 use Rattle.std.proofs.Common.{◌≡◌, ◌+◌, ◌-◌, ◌≤◌, None}
-use Rattle.dq_core.specs.Asides.{SetsAside}
+use Rattle.dq_core.specs.Deferring.{DefersValues}
 use Rattle.dq_core.specs.Words.{StillBegun}
 use Rattle.dq_core.proofs.PieceSteps.{IsOnPiece}
 use Rattle.dq_core.proofs.queue.DelayCore.poll_some_deferring.Given as goal
@@ -11,7 +11,7 @@ invariant-loop-made g l =
     × (g.W.Words.origin l.self.words ≡ g.W.Words.origin l.fn.self.words)
     × StillBegun g.W.Words.begun l.fn.self.words l.self.words
     × (g.W.Words.steps l.self.words ≤ g.W.Words.steps l.fn.self.words + l.made)
-    × SetsAside l.fn.self None l.self
+    × DefersValues l.fn.self None l.self
 
 -- each turn makes a step at least
 abbrev pub decreases-loop-made : goal.decreases-loop-made

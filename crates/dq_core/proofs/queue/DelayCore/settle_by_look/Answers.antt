@@ -12,20 +12,20 @@ invariant_of-self g c =
     let due = rw (← c.self.view_is) at c.requires.due in
     let s = c.self.inside in
     let b = core_of s.shard s.noted s.wheel s.slots (g.W.Words.known s.words) (g.W.Words.counts s.words) s.words in
-    let n = core_of s.shard s.noted c.unlink.new.self c.let_go.new.self (g.W.Words.known c.look-word.new.self) (g.W.Words.counts c.look-word.new.self) c.look-word.new.self in
-    ((look_cancelled g.W.Words.shared b n c.self.invariant.0 c.args.index due refl _ look.learned c.in_default.not-LiveMark look.known c.unlink.ensures.exact c.let_go.ensures.vacated look.counts).0, look.counts ∙ c.self.invariant.1)
+    let n = core_of s.shard s.noted c.unlink.new.self c.defer.new.self (g.W.Words.known c.look-word.new.self) (g.W.Words.counts c.look-word.new.self) c.look-word.new.self in
+    ((look_cancelled g.W.Words.shared b n c.self.invariant.0 c.args.index due refl _ look.learned c.in_default.not-LiveMark look.known c.unlink.ensures.exact c.defer.ensures.vacated look.counts).0, look.counts ∙ c.self.invariant.1)
 
 pub returns-in_default : goal.returns-in_default
 returns-in_default g c =
     let look = c.look-word.ensures in
     let due = rw (← c.self.view_is) at c.requires.due in
-    let size = ap (λ s. length s.rows) c.let_go.ensures.vacated ∙ length-set _ _ _ in
+    let size = ap (λ s. length s.rows) c.defer.ensures.vacated ∙ length-set _ _ _ in
     let after = c.next_due-next.ensures in
     let filed = ap (λ f. length f.filed) c.unlink.ensures.exact ∙ length-set _ _ _ in
     let next = due_beside c.self.inside.wheel.filing c.unlink.new.self.filing c.args.index c.next_due-next.result c.unlink.ensures.others c.unlink.ensures.tick filed after.due after.in_range after.other in
-    let way = look_cancelled g.W.Words.shared _ _ c.self.invariant.0 c.args.index due refl _ look.learned c.in_default.not-LiveMark look.known c.unlink.ensures.exact c.let_go.ensures.vacated look.counts in
+    let way = look_cancelled g.W.Words.shared _ _ c.self.invariant.0 c.args.index due refl _ look.learned c.in_default.not-LiveMark look.known c.unlink.ensures.exact c.defer.ensures.vacated look.counts in
     rw (← c.self.view_is)
-    (record { same = (refl, ap (λ s. s.last_stamp) c.let_go.ensures.vacated, size); origin = look.origin; begun = look.begun; one_step = look.one_step; noted = refl; settles = (way.1, way.2); next = next; aside = c.let_go.ensures.aside })
+    (record { same = (refl, ap (λ s. s.last_stamp) c.defer.ensures.vacated, size); origin = look.origin; begun = look.begun; one_step = look.one_step; noted = refl; settles = (way.1, way.2); next = next; deferred = c.defer.ensures.deferred })
 
 pub returns-then-word-tick-clause-settles : goal.returns-then-word-tick-clause-settles
 returns-then-word-tick-clause-settles g c =
@@ -58,8 +58,8 @@ returns-clause-next g c =
     let filed = ap (λ f. length f.filed) there.exact ∙ length-set _ _ _ ∙ (ap (λ f. length f.filed) gone.exact ∙ length-set _ _ _) in
     due_beside c.self.inside.wheel.filing c.link.new.self.filing c.args.index c.next_due-next.result (λ j d. there.others j d ∙ gone.others j d) (there.tick ∙ gone.tick) filed after.due after.in_range after.other
 
-pub returns-then-word-tick-clause-aside : goal.returns-then-word-tick-clause-aside
-returns-then-word-tick-clause-aside g c = rw (← c.self.view_is) (stays _ _)
+pub returns-then-word-tick-clause-deferred : goal.returns-then-word-tick-clause-deferred
+returns-then-word-tick-clause-deferred g c = rw (← c.self.view_is) (stays _ _)
 
-pub returns-clause-aside : goal.returns-clause-aside
-returns-clause-aside g c = rw (← c.self.view_is) (stays _ _)
+pub returns-clause-deferred : goal.returns-clause-deferred
+returns-clause-deferred g c = rw (← c.self.view_is) (stays _ _)

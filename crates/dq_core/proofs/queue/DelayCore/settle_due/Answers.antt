@@ -19,9 +19,9 @@ pub invariant_of-self-in-SettledCancelled : goal.invariant_of-self-in-SettledCan
 invariant_of-self-in-SettledCancelled g c =
     let s = c.self.inside in
     let b = core_of s.shard s.noted s.wheel s.slots (g.W.Words.known s.words) (g.W.Words.counts s.words) s.words in
-    let n = core_of s.shard s.noted c.pop_due.new.self c.let_go.new.self (g.W.Words.known c.settle.new.self) (g.W.Words.counts c.settle.new.self) c.settle.new.self in
+    let n = core_of s.shard s.noted c.pop_due.new.self c.defer.new.self (g.W.Words.known c.settle.new.self) (g.W.Words.counts c.settle.new.self) c.settle.new.self in
     let settled = rw c.stamp-stamp.ensures at c.in-SettledCancelled.ensures.settled in
-    (cancelled_lawful g.W.Words.shared b n c.self.invariant.0 c.in-Some.index c.in-Some.ensures.exact.1 refl settled c.in-Some.ensures.exact.2 c.let_go.ensures.vacated c.in-SettledCancelled.ensures.known c.in-SettledCancelled.ensures.counts, c.in-SettledCancelled.ensures.counts ∙ c.self.invariant.1)
+    (cancelled_lawful g.W.Words.shared b n c.self.invariant.0 c.in-Some.index c.in-Some.ensures.exact.1 refl settled c.in-Some.ensures.exact.2 c.defer.ensures.vacated c.in-SettledCancelled.ensures.known c.in-SettledCancelled.ensures.counts, c.in-SettledCancelled.ensures.counts ∙ c.self.invariant.1)
 
 pub returns-in-SettledExpired-clause-settles : goal.returns-in-SettledExpired-clause-settles
 returns-in-SettledExpired-clause-settles g c =
@@ -40,16 +40,16 @@ pub returns-in-SettledCancelled-clause-settles : goal.returns-in-SettledCancelle
 returns-in-SettledCancelled-clause-settles g c =
     let settled = rw c.stamp-stamp.ensures at c.in-SettledCancelled.ensures.settled in
     rw (← c.self.view_is)
-    (both_cancelled g.W.Words.shared _ _ c.self.invariant.0 c.in-Some.index c.in-Some.ensures.exact.1 refl settled c.in-Some.ensures.exact.2 c.let_go.ensures.vacated c.in-SettledCancelled.ensures.known c.in-SettledCancelled.ensures.counts)
+    (both_cancelled g.W.Words.shared _ _ c.self.invariant.0 c.in-Some.index c.in-Some.ensures.exact.1 refl settled c.in-Some.ensures.exact.2 c.defer.ensures.vacated c.in-SettledCancelled.ensures.known c.in-SettledCancelled.ensures.counts)
 
 -- the entry's key has the slot's index
-pub returns-in-SettledExpired-clause-aside : goal.returns-in-SettledExpired-clause-aside
-returns-in-SettledExpired-clause-aside g c =
-    let out = comes_out c.self.inside.slots.rows c.vacate-gone.new.self.rows c.self.inside.slots.aside c.vacate-gone.new.self.aside c.in-Some.index c.vacate-gone.result c.vacate-gone.ensures.held (ap (λ s. s.rows) c.vacate-gone.ensures.vacated) c.vacate-gone.ensures.aside in
+pub returns-in-SettledExpired-clause-deferred : goal.returns-in-SettledExpired-clause-deferred
+returns-in-SettledExpired-clause-deferred g c =
+    let out = comes_out c.self.inside.slots.rows c.vacate-gone.new.self.rows c.self.inside.slots.deferred c.vacate-gone.new.self.deferred c.in-Some.index c.vacate-gone.result c.vacate-gone.ensures.held (ap (λ s. s.rows) c.vacate-gone.ensures.vacated) c.vacate-gone.ensures.deferred in
     rw (← c.self.view_is, c.new.ensures, c.new-entry.ensures) out
 
-pub returns-in-SettledCancelled-clause-aside : goal.returns-in-SettledCancelled-clause-aside
-returns-in-SettledCancelled-clause-aside g c = rw (← c.self.view_is) c.let_go.ensures.aside
+pub returns-in-SettledCancelled-clause-deferred : goal.returns-in-SettledCancelled-clause-deferred
+returns-in-SettledCancelled-clause-deferred g c = rw (← c.self.view_is) c.defer.ensures.deferred
 
-pub returns-in-Later-clause-aside : goal.returns-in-Later-clause-aside
-returns-in-Later-clause-aside g c = rw (← c.self.view_is) (stays _ _)
+pub returns-in-Later-clause-deferred : goal.returns-in-Later-clause-deferred
+returns-in-Later-clause-deferred g c = rw (← c.self.view_is) (stays _ _)

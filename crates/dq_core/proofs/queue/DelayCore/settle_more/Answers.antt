@@ -17,7 +17,7 @@ loop-made-preserved g c =
       λ i s d b. look.begun i s d (c.loop-made.invariant.3 i s d b),
       omega (arith, look.one_step, c.loop-made.invariant.4),
       look.next,
-      sets_then c.loop-made.invariant.6 look.aside,
+      sets_then c.loop-made.invariant.6 look.deferred,
     )
 
 pub returns-then-not-is_settled-clause-looks : goal.returns-then-not-is_settled-clause-looks
@@ -26,5 +26,5 @@ returns-then-not-is_settled-clause-looks g c =
     let settles = subst (λ r. SettlesByLook g.W.Words.shared c.loop-made.self r c.settle_by_look-is_settled.new.self) c.if-not-is_settled.true look.settles in
     looks_stop g.W.Words.shared c.args.self.now c.loop-made.self c.settle_by_look-is_settled.new.self c.loop-made.made c.loop-made.invariant.1 settles
 
-pub returns-then-not-is_settled-clause-aside : goal.returns-then-not-is_settled-clause-aside
-returns-then-not-is_settled-clause-aside g c = sets_then c.loop-made.invariant.6 c.settle_by_look-is_settled.ensures.aside
+pub returns-then-not-is_settled-clause-deferred : goal.returns-then-not-is_settled-clause-deferred
+returns-then-not-is_settled-clause-deferred g c = sets_then c.loop-made.invariant.6 c.settle_by_look-is_settled.ensures.deferred

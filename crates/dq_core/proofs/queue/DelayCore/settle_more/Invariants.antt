@@ -1,5 +1,5 @@
 use Rattle.std.proofs.Common.{◌≡◌, ◌+◌, ◌-◌, ◌≤◌, None}
-use Rattle.dq_core.specs.Asides.{SetsAside}
+use Rattle.dq_core.specs.Deferring.{DefersValues}
 use Rattle.dq_core.specs.Words.{StillBegun}
 use Rattle.dq_core.specs.Pieces.{IfDue}
 use Rattle.dq_core.proofs.PieceSteps.{IsOnLooks}
@@ -13,7 +13,7 @@ invariant-loop-made g l =
     × StillBegun g.W.Words.begun l.fn.self.words l.self.words
     × (g.W.Words.steps l.self.words ≤ g.W.Words.steps l.fn.self.words + l.made)
     × IfDue l.self.wheel.filing l.next
-    × SetsAside l.fn.self None l.self
+    × DefersValues l.fn.self None l.self
 
 -- each turn makes a look
 abbrev pub decreases-loop-made : goal.decreases-loop-made

@@ -30,17 +30,17 @@ returns-clause-progress g c =
     let tick = c.tick-tick.ensures.value in
     rw (← c.self.view_is) (step_rests _ c.args.pace _ _ (rests_at _ _ same c.self.invariant.0 (omega (arith, tick, c.if-tick-self.false)) none))
 
-pub returns-in-Whole-clause-aside : goal.returns-in-Whole-clause-aside
-returns-in-Whole-clause-aside g c =
+pub returns-in-Whole-clause-deferred : goal.returns-in-Whole-clause-deferred
+returns-in-Whole-clause-deferred g c =
     let same = c.self.view_is ∙ c.in_default.ensures.settles.0 in
     rw (← same) (stays _ _)
 
-pub returns-in-InPieces-clause-aside : goal.returns-in-InPieces-clause-aside
-returns-in-InPieces-clause-aside g c =
+pub returns-in-InPieces-clause-deferred : goal.returns-in-InPieces-clause-deferred
+returns-in-InPieces-clause-deferred g c =
     let same = c.self.view_is ∙ c.in_default.ensures.settles.0 in
     rw (← same) (stays _ _)
 
-pub returns-clause-aside : goal.returns-clause-aside
-returns-clause-aside g c =
+pub returns-clause-deferred : goal.returns-clause-deferred
+returns-clause-deferred g c =
     let same = c.in_default.ensures.settles.0 in
-    stays_as _ _ _ _ (ap (λ q. q.slots.rows) same) (ap (λ q. q.aside) same)
+    stays_as _ _ _ _ (ap (λ q. q.slots.rows) same) (ap (λ q. q.deferred) same)

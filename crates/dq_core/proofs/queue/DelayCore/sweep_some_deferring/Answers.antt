@@ -15,10 +15,10 @@ loop-index-preserved g c =
     elim c.if-reap_at.branch [
       | then-reap_at w ↦
           let up = w.reaped-is in
-          (omega arith, sweeping_on g.W.Words.shared c.args.self.now c.loop-index.self c.reap_at.new.self _ c.loop-index.index c.loop-index.reaped c.if-reap_at.reaped c.reap_at.result to c.reap_at.ensures.same c.reap_at.ensures.swept (rw w.if-reap_at.true up) (omega (arith, up, few)), c.reap_at.ensures.origin ∙ c.loop-index.invariant.2, λ i s d b. c.reap_at.ensures.begun i s d (c.loop-index.invariant.3 i s d b), omega (arith, c.reap_at.ensures.one_step, c.loop-index.invariant.4), sets_then c.loop-index.invariant.5 c.reap_at.ensures.aside)
+          (omega arith, sweeping_on g.W.Words.shared c.args.self.now c.loop-index.self c.reap_at.new.self _ c.loop-index.index c.loop-index.reaped c.if-reap_at.reaped c.reap_at.result to c.reap_at.ensures.same c.reap_at.ensures.swept (rw w.if-reap_at.true up) (omega (arith, up, few)), c.reap_at.ensures.origin ∙ c.loop-index.invariant.2, λ i s d b. c.reap_at.ensures.begun i s d (c.loop-index.invariant.3 i s d b), omega (arith, c.reap_at.ensures.one_step, c.loop-index.invariant.4), sets_then c.loop-index.invariant.5 c.reap_at.ensures.deferred)
       | else-reap_at w ↦
           let up = w.reaped-is in
-          (omega arith, sweeping_on g.W.Words.shared c.args.self.now c.loop-index.self c.reap_at.new.self _ c.loop-index.index c.loop-index.reaped c.if-reap_at.reaped c.reap_at.result to c.reap_at.ensures.same c.reap_at.ensures.swept (rw w.if-reap_at.false (omega (arith, up))) (omega (arith, up, few)), c.reap_at.ensures.origin ∙ c.loop-index.invariant.2, λ i s d b. c.reap_at.ensures.begun i s d (c.loop-index.invariant.3 i s d b), omega (arith, c.reap_at.ensures.one_step, c.loop-index.invariant.4), sets_then c.loop-index.invariant.5 c.reap_at.ensures.aside)
+          (omega arith, sweeping_on g.W.Words.shared c.args.self.now c.loop-index.self c.reap_at.new.self _ c.loop-index.index c.loop-index.reaped c.if-reap_at.reaped c.reap_at.result to c.reap_at.ensures.same c.reap_at.ensures.swept (rw w.if-reap_at.false (omega (arith, up))) (omega (arith, up, few)), c.reap_at.ensures.origin ∙ c.loop-index.invariant.2, λ i s d b. c.reap_at.ensures.begun i s d (c.loop-index.invariant.3 i s d b), omega (arith, c.reap_at.ensures.one_step, c.loop-index.invariant.4), sets_then c.loop-index.invariant.5 c.reap_at.ensures.deferred)
     ]
 
 pub returns-clause-sweeps : goal.returns-clause-sweeps

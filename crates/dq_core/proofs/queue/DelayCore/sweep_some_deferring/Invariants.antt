@@ -1,5 +1,5 @@
 use Rattle.std.proofs.Common.{◌≡◌, ◌+◌, ◌≤◌, None}
-use Rattle.dq_core.specs.Asides.{SetsAside}
+use Rattle.dq_core.specs.Deferring.{DefersValues}
 use Rattle.dq_core.specs.Words.{StillBegun}
 use Rattle.dq_core.proofs.Leaving.{IsSweeping}
 use Rattle.dq_core.proofs.queue.DelayCore.sweep_some_deferring.Given as goal
@@ -10,4 +10,4 @@ invariant-loop-index g l =
     × (g.W.Words.origin l.self.words ≡ g.W.Words.origin l.fn.self.words)
     × StillBegun g.W.Words.begun l.fn.self.words l.self.words
     × (g.W.Words.steps l.self.words + l.first ≤ g.W.Words.steps l.fn.self.words + l.index)
-    × SetsAside l.fn.self None l.self
+    × DefersValues l.fn.self None l.self

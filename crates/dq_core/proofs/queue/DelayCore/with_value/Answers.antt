@@ -16,7 +16,7 @@ returns-clause-changes g c =
     let b = core_of s.shard s.noted s.wheel s.slots (g.W.Words.known s.words) (g.W.Words.counts s.words) s.words in
     let found = rw (← c.self.view_is) at c.in-Some.ensures in
     let a = c.with_value-answer in
-    rw (← c.self.view_is, a.ensures.aside)
+    rw (← c.self.view_is, a.ensures.deferred)
     (changed_value (FnOnceReturnsAtMut g.F.FnOnce c.args.call) b c.args.entry.now c.in-Some.index a.result (shown a.new.self) found a.ensures.changes)
 
 pub returns-clause-entry : goal.returns-clause-entry

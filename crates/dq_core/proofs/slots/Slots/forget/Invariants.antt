@@ -8,6 +8,6 @@ invariant-loop-index g l = record {
   size : length l.self.rows ≡ length l.fn.self.rows;
   last : l.self.last_stamp ≡ l.fn.self.last_stamp;
   before : (i : ℕ) → i < l.index → row_at l.self.rows i ≡ unused;
-  aside : l.self.aside ≡ l.fn.self.aside;
+  deferred : l.self.deferred ≡ l.fn.self.deferred;
   none : (i : ℕ) → is_held (row_at l.self.rows i) ≡ false;
 }

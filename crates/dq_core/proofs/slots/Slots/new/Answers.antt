@@ -2,9 +2,9 @@ use Rattle.std.proofs.Common.{◌≡◌, ◌∙◌, ap, arith, rules, replicate,
 use Rattle.std.proofs.lemmas.List.{length-replicate}
 use Rattle.dq_core.specs.Cells.{unused_cell, rows_of}
 use Rattle.dq_core.proofs.SlotRows.{new_is, first_none, first_next, first_more}
-use Rattle.dq_core.proofs.CellRows.{rows_replicate, none_aside, slots_of}
+use Rattle.dq_core.proofs.CellRows.{rows_replicate, none_deferred, slots_of}
 use Rattle.std.proofs.lemmas.Grind.{common_steps}
-use Rattle.dq_core.proofs.AsideCells.{none_in_unused, none_noted, values_at}
+use Rattle.dq_core.proofs.DeferredCells.{none_in_unused, none_noted, values_at}
 use Rattle.dq_core.proofs.slots.Slots.new.Goals as goal
 
 pub invariant_of-result : goal.invariant_of-result
@@ -13,7 +13,7 @@ invariant_of-result g c =
     let all : c.loop-index.index ≡ n = omega arith in
     let cells = c.loop-index.invariant.cells ∙ ap (λ m. replicate m unused_cell) all in
     let size : length c.loop-index.cells.items ≡ n = ap length cells ∙ length-replicate n unused_cell in
-    (new_is c.args.last n (rows_of c.loop-index.cells.items) _ _ c.requires.used c.requires.bound c.requires.size (ap rows_of cells ∙ rows_replicate n) (rw all at c.loop-index.invariant.freed) c.in_ok-deferred.ensures.2 c.loop-index.invariant.room, omega (arith, size, c.in_ok-deferred.ensures.0), omega (arith, size, c.in_ok-deferred_worn.ensures.0), none_aside c.args.last c.loop-index.cells.items _ _ c.in_ok-deferred.ensures.2 c.in_ok-deferred_worn.ensures.2, none_noted c.needs_drop.result c.loop-index.cells.items _ _ (rw cells (none_in_unused n)) c.in_ok-deferred.ensures.2 c.in_ok-deferred_worn.ensures.2)
+    (new_is c.args.last n (rows_of c.loop-index.cells.items) _ _ c.requires.used c.requires.bound c.requires.size (ap rows_of cells ∙ rows_replicate n) (rw all at c.loop-index.invariant.freed) c.in_ok-deferred.ensures.2 c.loop-index.invariant.room, omega (arith, size, c.in_ok-deferred.ensures.0), omega (arith, size, c.in_ok-deferred_worn.ensures.0), none_deferred c.args.last c.loop-index.cells.items _ _ c.in_ok-deferred.ensures.2 c.in_ok-deferred_worn.ensures.2, none_noted c.needs_drop.result c.loop-index.cells.items _ _ (rw cells (none_in_unused n)) c.in_ok-deferred.ensures.2 c.in_ok-deferred_worn.ensures.2)
 
 pub loop-index-init : goal.loop-index-init
 loop-index-init g c =

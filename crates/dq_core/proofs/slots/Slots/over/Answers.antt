@@ -2,8 +2,8 @@ use Rattle.std.proofs.Common.{◌≡◌, ◌<◌, ◌∙◌, ◌++◌, List, [],
 use Rattle.dq_core.specs.Cells.{rows_of}
 use Rattle.dq_core.specs.Slots.{Row}
 use Rattle.dq_core.proofs.Folds.{IsNewRow, new_none, new_next, new_free, new_worn, new_kept, rows_push, rows_size, row_for, looked}
-use Rattle.dq_core.proofs.CellRows.{none_aside}
-use Rattle.dq_core.proofs.AsideCells.{none_behind, none_noted, values_at}
+use Rattle.dq_core.proofs.CellRows.{none_deferred}
+use Rattle.dq_core.proofs.DeferredCells.{none_behind, none_noted, values_at}
 use Rattle.dq_core.proofs.slots.Slots.over.Goals.{then-stamp-last, else-stamp-last}
 use Rattle.dq_core.proofs.slots.Slots.over.Goals as goal
 
@@ -18,7 +18,7 @@ loop-index-init g c =
       rows = subst P (sym (ap rows_of c.in_ok-cells.ensures.items)) (new_none g.row.T.Denot c.args.last (g.W.Words.known c.args.words.now) c.in_ok-free.free c.in_ok-free.ensures.1);
       few = omega arith;
       end = c.rows-capacity.ensures;
-      aside = λ i. rw c.in_ok-cells.ensures.items refl;
+      deferred = λ i. rw c.in_ok-cells.ensures.items refl;
       cells_room = omega (arith, c.in_ok-cells.ensures.capacity);
       room = c.in_ok-free.ensures.0;
     }
@@ -54,7 +54,7 @@ loop-index-preserved g c =
         | else-stamp-last w ↦ omega (arith, few, w.free_count-is)
       ];
       end = end;
-      aside = rw (c.push_reserved.ensures.items, c.at.ensures) (none_behind c.loop-index.cells.items _ i.aside refl);
+      deferred = rw (c.push_reserved.ensures.items, c.at.ensures) (none_behind c.loop-index.cells.items _ i.deferred refl);
       cells_room = search rules;
       room = elim c.if-stamp-last.branch [
         | then-stamp-last w ↦ rw w.free-is (omega (arith, i.room, w.set.ensures.room))
@@ -70,7 +70,7 @@ invariant_of-result g c =
     let cells = rows_size c.loop-index.cells.items in
     let small = c.requires.size in
     let all : c.loop-index.index ≡ c.rows-capacity.result = omega arith in
-    (new_kept i.rows c.in_ok-deferred.deferred (all ∙ end) c.requires.used c.requires.bound (omega arith) c.requires.over c.in_ok-deferred.ensures.2 (omega (arith, all, i.room)), omega (arith, size, cells, all, c.in_ok-deferred.ensures.0), omega (arith, size, cells, all, c.in_ok-deferred_worn.ensures.0), none_aside c.args.last c.loop-index.cells.items _ _ c.in_ok-deferred.ensures.2 c.in_ok-deferred_worn.ensures.2, none_noted c.needs_drop.result c.loop-index.cells.items _ _ i.aside c.in_ok-deferred.ensures.2 c.in_ok-deferred_worn.ensures.2)
+    (new_kept i.rows c.in_ok-deferred.deferred (all ∙ end) c.requires.used c.requires.bound (omega arith) c.requires.over c.in_ok-deferred.ensures.2 (omega (arith, all, i.room)), omega (arith, size, cells, all, c.in_ok-deferred.ensures.0), omega (arith, size, cells, all, c.in_ok-deferred_worn.ensures.0), none_deferred c.args.last c.loop-index.cells.items _ _ c.in_ok-deferred.ensures.2 c.in_ok-deferred_worn.ensures.2, none_noted c.needs_drop.result c.loop-index.cells.items _ _ i.deferred c.in_ok-deferred.ensures.2 c.in_ok-deferred_worn.ensures.2)
 
 pub returns-clause-none : goal.returns-clause-none
-returns-clause-none g c = λ i. values_at c.loop-index.cells.items i ∙ c.loop-index.invariant.aside i
+returns-clause-none g c = λ i. values_at c.loop-index.cells.items i ∙ c.loop-index.invariant.deferred i

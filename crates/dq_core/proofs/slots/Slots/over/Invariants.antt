@@ -14,7 +14,7 @@ invariant-loop-index g l = record {
   rows : IsNewRow l.last (g.W.Words.known l.fn.words) l.index (rows_of l.cells.items) l.free l.free_count;
   few : l.free_count ≤ l.index;
   end : l.capacity ≡ length (g.W.Words.known l.fn.words);
-  aside : (i : ℕ) → (cell_at l.cells.items i).aside ≡ None;
+  deferred : (i : ℕ) → (cell_at l.cells.items i).deferred ≡ None;
   cells_room : l.capacity ≤ vec_capacity l.cells;
   room : l.capacity ≤ room_of l.free;
 }

@@ -1,8 +1,8 @@
 use Rattle.std.proofs.Common.{refl, ap, ◌∙◌, arith}
 use Rattle.dq_core.specs.Slots.{shown}
 use Rattle.dq_core.proofs.CellRows.{any_taken, waiting_taken, slots_of}
-use Rattle.dq_core.proofs.AsideCells.{any_noted}
-use Rattle.dq_core.proofs.AsideCounts.{crowded_count, takes_crowded}
+use Rattle.dq_core.proofs.DeferredCells.{any_noted}
+use Rattle.dq_core.proofs.DeferredCounts.{displaced_count, takes_displaced}
 use Rattle.dq_core.proofs.slots.Slots.take_from_next.Goals.{then-waiting-eq0-via-then-waiting-eq0, then-waiting-eq0-via-else-waiting-eq0+then-waiting-self}
 use Rattle.dq_core.proofs.slots.Slots.take_from_next.Goals as goal
 
@@ -11,8 +11,8 @@ returns-then-waiting-eq0-clause-takes g c =
     let i = c.self.invariant in
     let exact = c.count-waiting.ensures.exact in
     rw (← c.self.view_is) (
-      (λ crowded.
-          let q = crowded_count i.0 i.3 i.4 i.1 i.2 c.law.ensures crowded in
+      (λ displaced.
+          let q = displaced_count i.0 i.3 i.4 i.1 i.2 c.law.ensures displaced in
           elim c.then-waiting-eq0.branch [
             | then-waiting-eq0-via-then-waiting-eq0 w ↦ absurd (omega (arith, q.0, q.1, exact, w.if-waiting-eq0.true))
             | then-waiting-eq0-via-else-waiting-eq0+then-waiting-self w ↦ absurd (omega (arith, q.0, q.1, exact, w.if-waiting-self.true))
@@ -39,4 +39,4 @@ returns-clause-takes g c =
     let exact = c.count-waiting.ensures.exact in
     let some = c.if-waiting-eq0.false in
     let all = c.if-waiting-self.false in
-    rw (← c.self.view_is) (takes_crowded i.0 i.3 i.4 i.1 i.2 c.law.ensures (omega (arith, exact, some)) (omega (arith, exact, all)) _ _ _ _ _ c.take_any.ensures)
+    rw (← c.self.view_is) (takes_displaced i.0 i.3 i.4 i.1 i.2 c.law.ensures (omega (arith, exact, some)) (omega (arith, exact, all)) _ _ _ _ _ c.take_any.ensures)

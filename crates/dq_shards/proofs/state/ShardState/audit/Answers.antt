@@ -6,13 +6,13 @@ use Rattle.dq_shards.proofs.state.ShardState.audit.Goals.{in-Ok, in-Err}
 
 pub invariant_of-self : goal.invariant_of-self
 invariant_of-self g c =
-    parked_still c.self.inside.attended.core c.returned.new.self _ (ap (λ k. k.wheel) c.returned.ensures.same) c.self.invariant
+    parked_still c.self.inside.watched.core c.returned.new.self _ (ap (λ k. k.wheel) c.returned.ensures.same) c.self.invariant
 
 pub returns-clause-audits : goal.returns-clause-audits
 returns-clause-audits g c =
-    let b = c.self.inside.attended.core in
+    let b = c.self.inside.watched.core in
     let n = c.returned.new.self in
-    let p = c.self.inside.attended.parked in
+    let p = c.self.inside.watched.parked in
     let heard = c.returned.ensures in
     elim c.match-returned.branch [
       | in-Ok w ↦ rw (← c.self.view_is, w.result-is) (audited b n p c.tally-tally.result w.in-Ok.cancelled
@@ -24,5 +24,5 @@ returns-clause-audits g c =
 
 pub returns-clause-few : goal.returns-clause-few
 returns-clause-few g c =
-    few_told c.args.self.now (record { core = c.returned.new.self; parked = c.self.inside.attended.parked }) c.match-returned.result
+    few_told c.args.self.now (record { core = c.returned.new.self; parked = c.self.inside.watched.parked }) c.match-returned.result
     (returns-clause-audits g c)

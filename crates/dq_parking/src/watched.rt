@@ -6,7 +6,7 @@
 ghost use Rattle.std.specs.Prelude.{◌≡◌, ◌↔◌, ◌+◌, ◌<◌, ◌≤◌, ◌⊎◌, nat_lt, if◌then◌else◌, true, false, Some, None};
 ghost use Rattle.std.specs.Prelude.{length, vec_capacity, IfOk, IfErr, IfSome, IsErr, OnErr, IsErrOf};
 ghost use Rattle.dq_ticks.specs.declared.TheConstants.{LAST_TICK};
-ghost use Rattle.dq_core.specs.Asides.{answered_at, aside_at, out_at, with_aside, SetsAside};
+ghost use Rattle.dq_core.specs.Deferring.{answered_at, deferred_value_at, out_at, with_deferred, DefersValues};
 ghost use Rattle.dq_core.specs.AtTheCall.{IfOut, IfRests};
 ghost use Rattle.dq_core.specs.Core.{machine};
 ghost use Rattle.dq_core.specs.Calls.{Inserts, Resets, Removes, Polls, TellsDeadline, base_for, IsMissing};
@@ -36,8 +36,8 @@ pub struct WatchedCore<T, N = u64, A: Allocator = Global> {
     pub core: DelayCore<T, Keeper<A>, A>,
     /// Who waits for it; none where nobody does.
     pub parked: Option<Parked<N>>,
-    /// Whether a thread drops what the queue has set aside. A value's drop is a user's code: it may call the queue, and
-    /// set more aside there. So one thread at a time drops them, while the lock is free, and whoever finds it at work
+    /// Whether a thread drops what the queue has deferred. A value's drop is a user's code: it may call the queue, and
+    /// defer more there. So one thread at a time drops them, while the lock is free, and whoever finds it at work
     /// leaves its own to it. However many values call the queue where they are dropped, their drops don't nest.
     pub is_dropping: bool,
 }
@@ -87,19 +87,19 @@ impl<T, N: Until, A: Allocator> WatchedCore<T, N, A> {
         ensures begins { IfOk result.0 (λ k. HasBegun self.new.core.words k.entry.index k.stamp
             (base_for self.old.core when)) }
         ensures beside { IfOk result.0
-            (λ k. (result.2 ≡ aside_at self.old.core.aside k.entry.index)
-            × (self.new.core.aside ≡ with_aside self.old.core.aside k.entry.index None)) }
+            (λ k. (result.2 ≡ deferred_value_at self.old.core.deferred k.entry.index)
+            × (self.new.core.deferred ≡ with_deferred self.old.core.deferred k.entry.index None)) }
         ensures attends { Attends N.lasts self.old.core self.old.parked result.1.poller
             self.new.core self.new.parked }
     {
-        let (answer, crowded) = self.core.insert_deferring(value, when);
+        let (answer, displaced) = self.core.insert_deferring(value, when);
         match answer {
             Ok(key) => (
                 Ok(key),
                 keep_or_leave(&self.core, &mut self.parked),
-                crowded,
+                displaced,
             ),
-            Err(refused) => (Err(refused), PendingWake { poller: None }, crowded),
+            Err(refused) => (Err(refused), PendingWake { poller: None }, displaced),
         }
     }
 
@@ -107,7 +107,7 @@ impl<T, N: Until, A: Allocator> WatchedCore<T, N, A> {
     #[inline(always)]
     pub fn reset(&mut self, entry: &EntryId, when: u64) -> (Result<Key, CoreError>, PendingWake<N>)
         ensures resets { Resets true self.old.core entry.now when result.0 self.new.core }
-        ensures aside { self.new.core.aside ≡ self.old.core.aside }
+        ensures deferred { self.new.core.deferred ≡ self.old.core.deferred }
         ensures attends { Attends N.lasts self.old.core self.old.parked result.1.poller
             self.new.core self.new.parked }
     {
@@ -119,7 +119,7 @@ impl<T, N: Until, A: Allocator> WatchedCore<T, N, A> {
     #[inline(always)]
     pub fn remove(&mut self, entry: &EntryId) -> (Result<Removed<T>, CoreError>, PendingWake<N>)
         ensures removes { Removes true self.old.core entry.now result.0 self.new.core }
-        ensures aside { self.new.core.aside ≡ self.old.core.aside }
+        ensures deferred { self.new.core.deferred ≡ self.old.core.deferred }
         ensures attends { Attends N.lasts self.old.core self.old.parked result.1.poller
             self.new.core self.new.parked }
     {
@@ -131,7 +131,7 @@ impl<T, N: Until, A: Allocator> WatchedCore<T, N, A> {
     #[inline]
     pub fn deadline(&mut self, entry: &EntryId) -> (Result<u64, CoreError>, PendingWake<N>)
         ensures tells { TellsDeadline true self.old.core entry.now result.0 self.new.core }
-        ensures aside { self.new.core.aside ≡ self.old.core.aside }
+        ensures deferred { self.new.core.deferred ≡ self.old.core.deferred }
         ensures attends { Attends N.lasts self.old.core self.old.parked result.1.poller
             self.new.core self.new.parked }
     {
@@ -144,7 +144,8 @@ impl<T, N: Until, A: Allocator> WatchedCore<T, N, A> {
     #[inline(always)]
     pub fn poll(&mut self, tick: u64) -> (Result<Turn<T>, CoreError>, PendingWake<N>)
         ensures polls { Polls true self.old.core tick result.0 self.new.core }
-        ensures aside { IfOk result.0 (λ turn. SetsAside self.old.core (out_at turn) self.new.core) }
+        ensures deferred { IfOk result.0
+            (λ turn. DefersValues self.old.core (out_at turn) self.new.core) }
         ensures attends { Attends N.lasts self.old.core self.old.parked result.1.poller
             self.new.core self.new.parked }
     {
@@ -165,8 +166,8 @@ impl<T, N: Until, A: Allocator> WatchedCore<T, N, A> {
         ensures waiting { IfAnswer result.0 (λ turn. IfRests turn
             (λ next. NoneLiveBefore (machine self.new.core) (self.new.core.noted + 1))) }
         ensures polls { PollsSome true self.old.core tick most result.0 self.new.core }
-        ensures aside { IfOk result.0
-            (λ piece. SetsAside self.old.core (answered_at piece) self.new.core) }
+        ensures deferred { IfOk result.0
+            (λ piece. DefersValues self.old.core (answered_at piece) self.new.core) }
         ensures attends { Attends N.lasts self.old.core self.old.parked result.1.poller
             self.new.core self.new.parked }
     {
@@ -180,8 +181,8 @@ impl<T, N: Until, A: Allocator> WatchedCore<T, N, A> {
     pub fn poll_unparked(&mut self, tick: u64, most: Option<u32>) -> Result<Piece<T>, CoreError>
         requires { self.old.parked ≡ None }
         ensures polls { PollsBy most self.old.core tick result self.new.core }
-        ensures aside { IfOk result
-            (λ piece. SetsAside self.old.core (answered_at piece) self.new.core) }
+        ensures deferred { IfOk result
+            (λ piece. DefersValues self.old.core (answered_at piece) self.new.core) }
         ensures attends { Attends N.lasts self.old.core None None self.new.core None }
         ensures none { self.new.parked ≡ None }
     {
@@ -214,7 +215,7 @@ impl<T, N: Until, A: Allocator> WatchedCore<T, N, A> {
     /// Reaps all cancelled entries, and returns how many, with who has left by it. No value is dropped.
     pub fn sweep(&mut self) -> (usize, PendingWake<N>)
         ensures sweeps { Sweeps true self.old.core result.0 self.new.core }
-        ensures aside { SetsAside self.old.core None self.new.core }
+        ensures deferred { DefersValues self.old.core None self.new.core }
         ensures attends { Attends N.lasts self.old.core self.old.parked result.1.poller
             self.new.core self.new.parked }
     {
@@ -229,7 +230,7 @@ impl<T, N: Until, A: Allocator> WatchedCore<T, N, A> {
         ensures few_steps { StepsAtMost count self.old.core.words self.new.core.words }
         ensures sweeps { SweepsSome true self.old.core from (from + count) result.0.reaped
             self.new.core }
-        ensures aside { SetsAside self.old.core None self.new.core }
+        ensures deferred { DefersValues self.old.core None self.new.core }
         ensures attends { Attends N.lasts self.old.core self.old.parked result.1.poller
             self.new.core self.new.parked }
     {
@@ -240,7 +241,7 @@ impl<T, N: Until, A: Allocator> WatchedCore<T, N, A> {
     /// Reaps an entry if it was cancelled, with who has left by it. No value is dropped.
     pub fn reap(&mut self, entry: &EntryId) -> (Result<(), ReapError>, PendingWake<N>)
         ensures reaps { Reaps true self.old.core entry.now result.0 self.new.core }
-        ensures aside { SetsAside self.old.core None self.new.core }
+        ensures deferred { DefersValues self.old.core None self.new.core }
         ensures attends { Attends N.lasts self.old.core self.old.parked result.1.poller
             self.new.core self.new.parked }
         ensures missing { IsErrOf result.0 ReapError.Missing ↔ IsMissing self.old.core entry.now }
@@ -253,7 +254,7 @@ impl<T, N: Until, A: Allocator> WatchedCore<T, N, A> {
     /// dropped.
     pub fn clear(&mut self) -> (usize, PendingWake<N>)
         ensures clears { Clears true self.old.core result.0 self.new.core }
-        ensures aside { SetsAside self.old.core None self.new.core }
+        ensures deferred { DefersValues self.old.core None self.new.core }
         ensures attends { Attends N.lasts self.old.core self.old.parked result.1.poller
             self.new.core self.new.parked }
     {
@@ -264,10 +265,10 @@ impl<T, N: Until, A: Allocator> WatchedCore<T, N, A> {
 
 impl<T, N: Drop, A: Allocator> WatchedCore<T, N, A> {
     /// Takes out a value for a thread that drops it once the lock is free, and then calls again. `is_mine` is false at
-    /// its first call, and tells whether it is at it. None where no more are set aside, and it is over; or where
+    /// its first call, and tells whether it is at it. None where no more are deferred, and it is over; or where
     /// another thread is at it, or this one further up: it drops these too.
     pub fn take_one(&mut self, is_mine: &mut bool) -> Option<T>
-        ensures stays { (self.new.core ≡ record self.old.core { aside = self.new.core.aside })
+        ensures stays { (self.new.core ≡ record self.old.core { deferred = self.new.core.deferred })
             × (self.new.parked ≡ self.old.parked) }
         ensures alone { IfSome result (λ _. (self.new.is_dropping ≡ true) × (is_mine.new ≡ true)
             × ((self.old.is_dropping ≡ false) ⊎ (is_mine.old ≡ true))) }
@@ -277,7 +278,7 @@ impl<T, N: Drop, A: Allocator> WatchedCore<T, N, A> {
         if self.is_dropping && !*is_mine {
             return None;
         }
-        let value = self.core.take_aside();
+        let value = self.core.take_deferred();
         self.is_dropping = value.is_some();
         *is_mine = self.is_dropping;
         value

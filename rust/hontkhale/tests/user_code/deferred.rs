@@ -1,4 +1,4 @@
-//! Values that were let go under a lock and wait to be dropped: each is dropped once, behind the lock, and shows nowhere.
+//! Values that were freed under a lock and wait to be dropped: each is dropped once, behind the lock, and shows nowhere.
 
 use super::kit::{adds_up, insert, insert_cancelled, is_whole, panics, queue, within_the_limit, Drops, Queue, Value};
 use hontkhale::parts::owner::{CoreConfig, CoreError, DelayCore, Piece, Turn, VecWords, CAPACITY_LIMIT};
@@ -10,25 +10,25 @@ use std::sync::Arc;
 use std::task::{Context, Poll};
 use std::thread;
 
-// Three values of shard 0 are set aside: a poll reaped them, and dropped none, since it gave an entry.
-fn three_aside(queue: &Queue, drops: &Drops) {
+// Three values of shard 0 are deferred: a poll reaped them, and dropped none, since it gave an entry.
+fn three_deferred(queue: &Queue, drops: &Drops) {
     for _ in 0..3 {
         insert_cancelled(queue, drops.value(), 5);
     }
     insert(queue, drops.value(), 10);
     assert!(matches!(queue.poll(0, 10), Ok(Turn::Out(_))));
-    assert_eq!((drops.count(), aside(queue)), (1, 3));
+    assert_eq!((drops.count(), deferred(queue)), (1, 3));
 }
 
-fn aside(queue: &Queue) -> usize {
-    queue.enter(0).expect("a shard").aside()
+fn deferred(queue: &Queue) -> usize {
+    queue.enter(0).expect("a shard").deferred()
 }
 
 #[test]
-fn inserts_take_the_slots_of_values_that_are_set_aside() {
+fn inserts_take_the_slots_of_values_that_are_deferred() {
     within_the_limit(|| {
         let (queue, drops) = (queue(), Drops::default());
-        three_aside(&queue, &drops);
+        three_deferred(&queue, &drops);
         let live = Drops::default();
         let keys: Vec<_> = (0..8).map(|when| insert(&queue, live.value(), 100 + when)).collect();
         for (key, when) in keys.iter().zip(100..) {
@@ -36,16 +36,16 @@ fn inserts_take_the_slots_of_values_that_are_set_aside() {
         }
         assert_eq!(live.count(), 8, "what is removed is what was put in");
         assert_eq!(queue.sweep(0), Ok(0));
-        assert_eq!((drops.count(), aside(&queue)), (4, 0), "each is dropped once");
+        assert_eq!((drops.count(), deferred(&queue)), (4, 0), "each is dropped once");
         is_whole(&queue, &drops);
     });
 }
 
 #[test]
-fn what_is_set_aside_shows_nowhere() {
+fn what_is_deferred_shows_nowhere() {
     within_the_limit(|| {
         let (queue, drops) = (queue(), Drops::default());
-        three_aside(&queue, &drops);
+        three_deferred(&queue, &drops);
         let tally = queue.tally(0).expect("a shard");
         assert_eq!((tally.linked, tally.cancelled, tally.expired), (0, 3, 1));
         adds_up(&tally);
@@ -65,10 +65,10 @@ fn what_is_set_aside_shows_nowhere() {
 }
 
 #[test]
-fn what_is_set_aside_is_dropped_with_the_queue() {
+fn what_is_deferred_is_dropped_with_the_queue() {
     within_the_limit(|| {
         let (queue, drops) = (queue(), Drops::default());
-        three_aside(&queue, &drops);
+        three_deferred(&queue, &drops);
         drop(queue);
         assert_eq!(drops.count(), 4);
     });
@@ -108,7 +108,7 @@ fn clears_values_that_insert() {
     assert_eq!(queue.clear(0), Ok(CAPACITY_LIMIT));
     assert_eq!(depth.deepest.load(Ordering::SeqCst), 1);
     assert_eq!(
-        (drops.count(), late.count(), aside(&queue)),
+        (drops.count(), late.count(), deferred(&queue)),
         (CAPACITY_LIMIT as u64, 0, 0)
     );
     assert_eq!(queue.clear(0), Ok(CAPACITY_LIMIT));
@@ -139,7 +139,7 @@ fn lets_go_in_hand(call: impl FnOnce(&Queue, &Drops) + Send + 'static) {
             );
         }
         call(&queue, &drops);
-        assert_eq!((drops.count(), aside(&queue)), (3, 0));
+        assert_eq!((drops.count(), deferred(&queue)), (3, 0));
         is_whole(&queue, &drops);
     });
 }
@@ -158,10 +158,10 @@ fn who_holds_a_shard_drops_behind_its_lock() {
     lets_go_in_hand(|queue, drops| {
         let mut shard = queue.enter(0).expect("a shard");
         assert!(matches!(shard.poll_some(10, 100), Ok(Piece::Answer(Turn::Idle))));
-        let aside = shard.aside();
-        assert_eq!((aside, drops.count()), (3, 0));
+        let deferred = shard.deferred();
+        assert_eq!((deferred, drops.count()), (3, 0));
         drop(shard);
-        queue.drop_aside(0, aside);
+        queue.drop_deferred(0, deferred);
     });
 }
 
@@ -189,7 +189,7 @@ fn each_call_by_name_drops_what_it_reaps() {
     lets_go_in_hand(|queue, _| assert_eq!(queue.clear(0), Ok(0)));
 }
 
-// Seven values are set aside behind one whose drop panicked. An insert that finds no other slot drops one, and its drop
+// Seven values are deferred behind one whose drop panicked. An insert that finds no other slot drops one, and its drop
 // may call the queue: the lock is free.
 // promise: shards.name-drops
 #[test]
@@ -206,7 +206,7 @@ fn an_insert_drops_behind_its_lock() {
         for when in 0..8 {
             insert(&queue, live.value(), 100 + when);
         }
-        assert_eq!((drops.count(), live.count(), aside(&queue)), (8, 0, 0));
+        assert_eq!((drops.count(), live.count(), deferred(&queue)), (8, 0, 0));
         is_whole(&queue, &drops);
     });
 }
@@ -222,7 +222,7 @@ impl hontkhale::parts::streams::TickSource for Late {
 
 // In hand, more inserts than have a place for what was there before: no value is lost, and none is dropped twice.
 #[test]
-fn inserts_in_hand_over_what_is_set_aside() {
+fn inserts_in_hand_over_what_is_deferred() {
     within_the_limit(|| {
         let (queue, drops) = (queue(), Drops::default());
         for when in 0..8 {
@@ -233,7 +233,7 @@ fn inserts_in_hand_over_what_is_set_aside() {
             (0..8).for_each(|when| assert!(shard.insert(drops.value(), when).is_ok()));
             shard.len()
         });
-        assert_eq!((linked, drops.count(), aside(&queue)), (Ok(8), 8, 0));
+        assert_eq!((linked, drops.count(), deferred(&queue)), (Ok(8), 8, 0));
         assert_eq!(queue.clear(0), Ok(8));
         assert_eq!(drops.count(), 16);
     });
@@ -257,9 +257,9 @@ fn a_drop_that_panics_loses_no_entry_that_came_out() {
     });
 }
 
-// One owner's queue drops what it lets go before the call returns.
+// One owner's queue drops what it frees before the call returns.
 #[test]
-fn one_owner_sets_nothing_aside() {
+fn one_owner_defers_nothing() {
     let drops = Drops::default();
     let mut queue: DelayCore<Value, VecWords> = DelayCore::with_capacity(8).expect("a queue");
     for when in 0..4 {
@@ -273,30 +273,30 @@ fn one_owner_sets_nothing_aside() {
     assert_eq!((queue.sweep(), drops.count()), (2, 4));
 }
 
-// What a call lets go that drops nothing shows nowhere, and each value is dropped once: taken out, or with the queue.
+// What a call frees that drops nothing shows nowhere, and each value is dropped once: taken out, or with the queue.
 #[test]
-fn one_owner_may_set_aside() {
+fn one_owner_may_defer() {
     let drops = Drops::default();
     let mut queue: DelayCore<Value, VecWords> = DelayCore::with_capacity(8).expect("a queue");
     for when in 0..8 {
         assert!(queue.insert(drops.value(), when).is_ok());
     }
-    assert_eq!((queue.clear_deferring(), queue.aside(), drops.count()), (8, 8, 0));
+    assert_eq!((queue.clear_deferring(), queue.deferred(), drops.count()), (8, 8, 0));
     assert_eq!((queue.len(), queue.entries().count()), (0, 0));
-    drop(queue.take_crowded());
+    drop(queue.take_displaced());
     let key = queue.insert(drops.value(), 9).map_err(|refused| refused.0);
     assert_eq!(queue.entries().map(|entry| entry.deadline).collect::<Vec<_>>(), [9]);
     assert!(key.is_ok_and(|key| queue.get(&key.entry()).is_some()));
     for taken in 2..5 {
-        drop(queue.take_aside());
-        assert_eq!((drops.count(), queue.aside()), (taken, 8 - taken as usize));
+        drop(queue.take_deferred());
+        assert_eq!((drops.count(), queue.deferred()), (taken, 8 - taken as usize));
     }
     drop(queue);
     assert_eq!(drops.count(), 9);
 }
 
 // Eight slots, in five of which a value waits: an insert hands one over only where no slot is free.
-// promise: slots.value-let
+// promise: slots.value-deferred
 #[test]
 fn an_insert_takes_a_free_slot_before_one_whose_value_waits() {
     let drops = Drops::default();
@@ -304,31 +304,34 @@ fn an_insert_takes_a_free_slot_before_one_whose_value_waits() {
     for when in 0..5 {
         assert!(queue.insert(drops.value(), when).is_ok());
     }
-    assert_eq!((queue.clear_deferring(), queue.aside()), (5, 5));
+    assert_eq!((queue.clear_deferring(), queue.deferred()), (5, 5));
     for when in 0..3 {
-        assert!(queue.take_crowded().is_none());
+        assert!(queue.take_displaced().is_none());
         assert!(matches!(queue.insert_deferring(drops.value(), when), (Ok(_), None)));
-        assert_eq!((queue.aside(), drops.count()), (5, 0));
+        assert_eq!((queue.deferred(), drops.count()), (5, 0));
     }
     for left in (2..5).rev() {
         assert!(matches!(queue.insert_deferring(drops.value(), 9), (Ok(_), Some(_))));
-        assert_eq!((queue.aside(), drops.count()), (left, 5 - left as u64));
+        assert_eq!((queue.deferred(), drops.count()), (left, 5 - left as u64));
     }
-    assert!(queue.take_aside().is_some());
-    assert!(queue.take_crowded().is_none(), "the slot of what was taken out is free");
+    assert!(queue.take_deferred().is_some());
+    assert!(
+        queue.take_displaced().is_none(),
+        "the slot of what was taken out is free"
+    );
     assert!(matches!(queue.insert_deferring(drops.value(), 9), (Ok(_), None)));
-    assert!(queue.take_crowded().is_some());
+    assert!(queue.take_displaced().is_some());
     assert!(matches!(queue.insert_deferring(drops.value(), 9), (Ok(_), None)));
     assert!(matches!(
         queue.insert_deferring(drops.value(), 9),
         (Err((CoreError::Full { linked: 8, worn: 0 }, _)), None)
     ));
-    assert_eq!((queue.aside(), queue.clear(), drops.count()), (0, 8, 14));
+    assert_eq!((queue.deferred(), queue.clear(), drops.count()), (0, 8, 14));
 }
 
 // Two of four slots have had their only stamp, and a value waits in each: they are worn, and no insert takes them before
 // the queue is renewed. Then it does, and hands over what waits.
-// promise: slots.value-let
+// promise: slots.value-deferred
 #[test]
 fn a_value_waits_in_a_worn_slot() {
     let drops = Drops::default();
@@ -347,29 +350,29 @@ fn a_value_waits_in_a_worn_slot() {
             assert!(matches!(queue.insert_deferring(drops.value(), when), (Ok(_), None)));
         }
         assert_eq!(
-            (queue.clear_deferring(), queue.aside(), queue.worn()),
+            (queue.clear_deferring(), queue.deferred(), queue.worn()),
             (2, 2 * round, 2 * round)
         );
     }
-    assert!(queue.take_crowded().is_none());
-    let (refused, crowded) = queue.insert_deferring(drops.value(), 9);
-    assert!(crowded.is_none() && refused.is_err_and(|refused| refused.0 == full(0, 4)));
-    assert!(queue.take_aside().is_some());
-    assert_eq!((queue.aside(), queue.worn(), drops.count()), (3, 4, 2));
+    assert!(queue.take_displaced().is_none());
+    let (refused, displaced) = queue.insert_deferring(drops.value(), 9);
+    assert!(displaced.is_none() && refused.is_err_and(|refused| refused.0 == full(0, 4)));
+    assert!(queue.take_deferred().is_some());
+    assert_eq!((queue.deferred(), queue.worn(), drops.count()), (3, 4, 2));
 
     assert!(queue.renew(1, words()).is_ok());
-    assert_eq!((queue.aside(), queue.worn()), (3, 0));
+    assert_eq!((queue.deferred(), queue.worn()), (3, 0));
     assert!(matches!(queue.insert_deferring(drops.value(), 9), (Ok(_), None)));
     for left in (0..3).rev() {
         assert!(matches!(queue.insert_deferring(drops.value(), 9), (Ok(_), Some(_))));
-        assert_eq!(queue.aside(), left);
+        assert_eq!(queue.deferred(), left);
     }
-    let (refused, crowded) = queue.insert_deferring(drops.value(), 9);
-    assert!(crowded.is_none() && refused.is_err_and(|refused| refused.0 == full(4, 0)));
+    let (refused, displaced) = queue.insert_deferring(drops.value(), 9);
+    assert!(displaced.is_none() && refused.is_err_and(|refused| refused.0 == full(4, 0)));
     assert_eq!((queue.clear(), drops.count()), (4, 10));
 }
 
-// What is set aside in the last slots of the greatest queue is found.
+// What is deferred in the last slots of the greatest queue is found.
 #[test]
 fn values_in_the_last_slots_are_taken_out() {
     let drops = Drops::default();
@@ -379,10 +382,10 @@ fn values_in_the_last_slots_are_taken_out() {
     for key in keys.iter().rev().step_by(4_000) {
         assert!(queue.cancel(key).is_ok() && queue.reap_deferring(&key.entry()).is_ok());
     }
-    assert_eq!((queue.aside(), drops.count()), (17, 0));
+    assert_eq!((queue.deferred(), drops.count()), (17, 0));
     for taken in 1..=17 {
-        assert!(queue.take_aside().is_some(), "each is found");
-        assert_eq!((queue.aside(), drops.count()), (17 - taken, taken as u64));
+        assert!(queue.take_deferred().is_some(), "each is found");
+        assert_eq!((queue.deferred(), drops.count()), (17 - taken, taken as u64));
     }
 }
 
@@ -394,13 +397,13 @@ fn values_between_filled_slots_are_taken_out() {
     for when in 0..2_000 {
         assert!(queue.insert(drops.value(), when).is_ok());
     }
-    assert_eq!((queue.clear_deferring(), queue.aside()), (2_000, 2_000));
+    assert_eq!((queue.clear_deferring(), queue.deferred()), (2_000, 2_000));
     for when in 0..1_000 {
         assert!(queue.insert(live.value(), 3_000 + when).is_ok());
     }
-    assert_eq!((queue.aside(), drops.count()), (1_000, 1_000));
-    while queue.aside() > 0 {
-        assert!(queue.take_aside().is_some(), "each is found");
+    assert_eq!((queue.deferred(), drops.count()), (1_000, 1_000));
+    while queue.deferred() > 0 {
+        assert!(queue.take_deferred().is_some(), "each is found");
     }
     assert_eq!((drops.count(), live.count(), queue.len()), (2_000, 0, 1_000));
 }

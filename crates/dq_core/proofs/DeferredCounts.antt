@@ -9,12 +9,12 @@ use Rattle.dq_core.specs.Slots.{Row, unused, row_at, is_free}
 use Rattle.dq_core.specs.FreeSlots.{FreeIndexes}
 use Rattle.dq_core.specs.Deferred.{Deferred, deferred_at, defers_room, bits_below, sum_below}
 use Rattle.dq_core.specs.SlotRowsKept.{is_open, TakesSlot, IsSlotRowsKept}
-use Rattle.dq_core.specs.Cells.{CellRow, TakesAny, TakesWaiting, rows_of, values_of, cell_at, AreAside, AreNoted, emptied_cell}
-use Rattle.dq_core.specs.Asides.{aside_at, with_aside, waiting_in, IsCrowded, TakesAside, TakesCrowded}
+use Rattle.dq_core.specs.Cells.{CellRow, TakesAny, TakesWaiting, rows_of, values_of, cell_at, AreDeferred, AreNoted, emptied_cell}
+use Rattle.dq_core.specs.Deferring.{deferred_value_at, with_deferred, waiting_in, WillDisplace, TakesDeferredValue, TakesDisplaced}
 use Rattle.dq_core.proofs.DeferredBits.{bits_most}
 use Rattle.dq_core.proofs.SlotRows.{count_set, taken_is, takes_given, waiting_is}
-use Rattle.dq_core.proofs.CellRows.{slots_of, rows_length, rows_at, aside_inside, waits_free, waits_open, free_not_worn}
-use Rattle.dq_core.proofs.AsideCells.{asides, aside_of_values, values_length, values_at, values_set}
+use Rattle.dq_core.proofs.CellRows.{slots_of, rows_length, rows_at, deferred_inside, waits_free, waits_open, free_not_worn}
+use Rattle.dq_core.proofs.DeferredCells.{deferred_in, deferred_of_values, values_length, values_at, values_set}
 
 abbrev one : Bool → ℕ
 one b = cond b 1 0
@@ -84,7 +84,7 @@ free_sum {T} last rows =
     ∙ below_list (is_free last) rows unused
 
 module _ {T : Type 0} {last : ℕ} {drops : Bool} {cells : List (CellRow T)} {free : FreeIndexes} {d w : Deferred} {taken spared : ℕ}
-    (s : IsSlotRowsKept last (rows_of cells) free d taken spared) (a : AreAside last cells d w) (n : AreNoted drops cells d w) where
+    (s : IsSlotRowsKept last (rows_of cells) free d taken spared) (a : AreDeferred last cells d w) (n : AreNoted drops cells d w) where
   zero_by : (b : ℕ) → b ≤ 1 → (b ≡ 1 → ⊥) → b ≡ 0
   zero_by b most not = ⊎_elim (λ e. absurd (not e)) (λ ne. omega (arith, most, ne)) (cases_eq b 1)
 
@@ -94,8 +94,8 @@ module _ {T : Type 0} {last : ℕ} {drops : Bool} {cells : List (CellRow T)} {fr
   no_worn : (i : ℕ) → (deferred_at w i ≡ 1 → ⊥) → deferred_at w i ≡ 0
   no_worn i not = zero_by (deferred_at w i) (bits_most w.bits i) not
 
-  inside_not : (i : ℕ) → length cells ≤ i → is_some (cell_at cells i).aside ≡ true → ⊥
-  inside_not i past some = let inside = aside_inside cells i some in absurd (omega (arith, inside, past))
+  inside_not : (i : ℕ) → length cells ≤ i → is_some (cell_at cells i).deferred ≡ true → ⊥
+  inside_not i past some = let inside = deferred_inside cells i some in absurd (omega (arith, inside, past))
 
   waiting_past : (i : ℕ) → length cells ≤ i → deferred_at d i ≡ 0
   waiting_past i past = no_waiting i (λ e. inside_not i past (a.there i e))
@@ -104,7 +104,7 @@ module _ {T : Type 0} {last : ℕ} {drops : Bool} {cells : List (CellRow T)} {fr
   worn_past i past = no_worn i (λ e. inside_not i past (a.worn_there i e))
 
   module _ (on : drops ≡ true) (i : ℕ) where
-    bit_by : (b : Bool) → is_some (cell_at cells i).aside ≡ b → deferred_at d i + deferred_at w i ≡ one b
+    bit_by : (b : Bool) → is_some (cell_at cells i).deferred ≡ b → deferred_at d i + deferred_at w i ≡ one b
     bit_by true some =
         ⊎_elim
         (λ e. let z = no_worn i (λ both. waits_open s a i e both) in omega (arith, e, z))
@@ -116,7 +116,7 @@ module _ {T : Type 0} {last : ℕ} {drops : Bool} {cells : List (CellRow T)} {fr
         omega (arith, x, y)
 
     bit_sum : deferred_at d i + deferred_at w i ≡ one (is_some (get_or (values_of cells) i None))
-    bit_sum = bit_by (is_some (cell_at cells i).aside) refl ∙ ap (λ (o : Option T). one (is_some o)) (sym (values_at cells i))
+    bit_sum = bit_by (is_some (cell_at cells i).deferred) refl ∙ ap (λ (o : Option T). one (is_some o)) (sym (values_at cells i))
 
   module _ (room_d : length cells ≤ defers_room d) (room_w : length cells ≤ defers_room w) where
     total_by : (b : Bool) → drops ≡ b → bits_below d.bits (defers_room d) + bits_below w.bits (defers_room w) ≡ (if b then count_by is_some (values_of cells) else 0)
@@ -134,29 +134,29 @@ module _ {T : Type 0} {last : ℕ} {drops : Bool} {cells : List (CellRow T)} {fr
         omega (arith, x, y)
 
     -- as many values wait as are counted
-    pub all_wait : d.count ≡ bits_below d.bits (defers_room d) → w.count ≡ bits_below w.bits (defers_room w) → d.count + w.count ≡ waiting_in (asides drops cells)
+    pub all_wait : d.count ≡ bits_below d.bits (defers_room d) → w.count ≡ bits_below w.bits (defers_room w) → d.count + w.count ≡ waiting_in (deferred_in drops cells)
     all_wait cd cw = let t = total_by drops refl in omega (arith, cd, cw, t)
 
-    aside_is : (i : ℕ) (x : T) → (cell_at cells i).aside ≡ Some x → aside_at (asides drops cells) i ≡ Some x
-    aside_is i x is = values_at cells i ∙ is
+    deferred_is : (i : ℕ) (x : T) → (cell_at cells i).deferred ≡ Some x → deferred_value_at (deferred_in drops cells) i ≡ Some x
+    deferred_is i x is = values_at cells i ∙ is
 
-    -- what is taken out was set aside there
-    pub took_aside : (q : Deferred) (x : T) (i : ℕ) (left : List (CellRow T)) (e : Deferred) → TakesWaiting cells q (Some (i, x)) left e → (aside_at (asides drops cells) i ≡ Some x) × (asides drops left ≡ with_aside (asides drops cells) i None)
-    took_aside q x i left e t = (
-      aside_is i x t.0,
-      ap (λ cs. asides drops cs) t.1 ∙ ap (λ vs. aside_of_values drops vs) (values_set cells i (emptied_cell (cell_at cells i))),
+    -- what is taken out was deferred there
+    pub took_deferred : (q : Deferred) (x : T) (i : ℕ) (left : List (CellRow T)) (e : Deferred) → TakesWaiting cells q (Some (i, x)) left e → (deferred_value_at (deferred_in drops cells) i ≡ Some x) × (deferred_in drops left ≡ with_deferred (deferred_in drops cells) i None)
+    took_deferred q x i left e t = (
+      deferred_is i x t.0,
+      ap (λ cs. deferred_in drops cs) t.1 ∙ ap (λ vs. deferred_of_values drops vs) (values_set cells i (emptied_cell (cell_at cells i))),
     )
 
-    pub takes_one : d.count ≡ bits_below d.bits (defers_room d) → w.count ≡ bits_below w.bits (defers_room w) → (r : Option T) (left : List (CellRow T)) (g : FreeIndexes) (e v : Deferred) → TakesAny cells free d w r left g e v → TakesAside (asides drops cells) r (asides drops left)
+    pub takes_one : d.count ≡ bits_below d.bits (defers_room d) → w.count ≡ bits_below w.bits (defers_room w) → (r : Option T) (left : List (CellRow T)) (g : FreeIndexes) (e v : Deferred) → TakesAny cells free d w r left g e v → TakesDeferredValue (deferred_in drops cells) r (deferred_in drops left)
     takes_one cd cw None left g e v t =
-        let all = all_wait cd cw in (omega (arith, all, t.0, t.1), ap (λ cs. asides drops cs) t.2)
+        let all = all_wait cd cw in (omega (arith, all, t.0, t.1), ap (λ cs. deferred_in drops cs) t.2)
     takes_one cd cw (Some x) left g e v (i, inl t) = (
       n.dropping i (inl t.0.2.1),
-      (i, (took_aside d x i left e t.0).0, (took_aside d x i left e t.0).1),
+      (i, (took_deferred d x i left e t.0).0, (took_deferred d x i left e t.0).1),
     )
     takes_one cd cw (Some x) left g e v (i, inr t) = (
       n.dropping i (inr t.0.2.1),
-      (i, (took_aside w x i left v t.0).0, (took_aside w x i left v t.0).1),
+      (i, (took_deferred w x i left v t.0).0, (took_deferred w x i left v t.0).1),
     )
 
     waiting_sum : d.count ≡ bits_below d.bits (defers_room d) → d.count ≡ sum_below (bit_of d.bits) (length cells)
@@ -168,22 +168,22 @@ module _ {T : Type 0} {last : ℕ} {drops : Bool} {cells : List (CellRow T)} {fr
     bits_open : (i : ℕ) → bit_of d.bits i ≤ one (is_open last (rows_of cells) i)
     bits_open i = let f = s.freed i in omega (arith, f)
 
-    waits_by : (on : drops ≡ true) (i : ℕ) → is_free last (row_at (rows_of cells) i) ≡ true → is_some (aside_at (asides drops cells) i) ≡ true → deferred_at d i ≡ 1
+    waits_by : (on : drops ≡ true) (i : ℕ) → is_free last (row_at (rows_of cells) i) ≡ true → is_some (deferred_value_at (deferred_in drops cells) i) ≡ true → deferred_at d i ≡ 1
     waits_by on i left some =
         ⊎_elim (λ e. e)
         (λ e. absurd (free_not_worn last (cell_at cells i).row (subst (λ (r : Row T). is_free last r ≡ true) (rows_at cells i) left) (a.are_worn i e)))
         (n.noted on i (subst (λ (o : Option T). is_some o ≡ true) (values_at cells i) some))
 
-    open_by : IsCrowded (slots_of last (rows_of cells)) (asides drops cells) → (i : ℕ) (b : Bool) → is_open last (rows_of cells) i ≡ b → one b ≤ bit_of d.bits i
+    open_by : WillDisplace (slots_of last (rows_of cells)) (deferred_in drops cells) → (i : ℕ) (b : Bool) → is_open last (rows_of cells) i ≡ b → one b ≤ bit_of d.bits i
     open_by c i true is =
         let p = and_parts _ _ is in
         let e = waits_by c.0 i p.1 (c.2 i (ltb-true _ _ p.0) p.1) in
         omega (arith, e)
     open_by c i false is = omega arith
 
-    -- where each slot that is left is crowded, as many wait as are left
-    pub crowded_count : d.count ≡ bits_below d.bits (defers_room d) → IsCrowded (slots_of last (rows_of cells)) (asides drops cells) → (0 < spared) × (spared ≤ d.count)
-    crowded_count cd c =
+    -- where a value waits in each slot that is left, as many wait as are left
+    pub displaced_count : d.count ≡ bits_below d.bits (defers_room d) → WillDisplace (slots_of last (rows_of cells)) (deferred_in drops cells) → (0 < spared) × (spared ≤ d.count)
+    displaced_count cd c =
         let le = below_le (λ j. one (is_open last (rows_of cells) j)) (bit_of d.bits) (length cells) (λ j inside. open_by c j (is_open last (rows_of cells) j) refl) in
         let sum = waiting_sum cd in
         let left = open_sum in
@@ -191,9 +191,9 @@ module _ {T : Type 0} {last : ℕ} {drops : Bool} {cells : List (CellRow T)} {fr
         let some = c.1 in
         (omega (arith, spare, some), omega (arith, le, sum, left, spare))
 
-    -- where as many wait as are left, each slot that is left is crowded
-    pub count_crowded : d.count ≡ bits_below d.bits (defers_room d) → spared ≤ d.count → (i : ℕ) → deferred_at d i ≡ 1 → 0 < d.count → IsCrowded (slots_of last (rows_of cells)) (asides drops cells)
-    count_crowded cd all i waits some =
+    -- where as many wait as are left, a value waits in each slot that is left
+    pub count_displaced : d.count ≡ bits_below d.bits (defers_room d) → spared ≤ d.count → (i : ℕ) → deferred_at d i ≡ 1 → 0 < d.count → WillDisplace (slots_of last (rows_of cells)) (deferred_in drops cells)
+    count_displaced cd all i waits some =
         let sum = waiting_sum cd in
         let left = open_sum in
         let spare = s.spare in
@@ -210,17 +210,17 @@ module _ {T : Type 0} {last : ℕ} {drops : Bool} {cells : List (CellRow T)} {fr
         )
 
     -- what is taken out where as many wait as are left was in a slot that is left
-    pub takes_crowded : d.count ≡ bits_below d.bits (defers_room d) → 0 < d.count → spared ≤ d.count → (r : Option T) (left : List (CellRow T)) (g : FreeIndexes) (e v : Deferred) → TakesAny cells free d w r left g e v → TakesCrowded (slots_of last (rows_of cells)) (asides drops cells) r (asides drops left)
-    takes_crowded cd some all None left g e v t = absurd (omega (arith, t.0, some))
-    takes_crowded cd some all (Some x) left g e v (i, inl t) =
+    pub takes_displaced : d.count ≡ bits_below d.bits (defers_room d) → 0 < d.count → spared ≤ d.count → (r : Option T) (left : List (CellRow T)) (g : FreeIndexes) (e v : Deferred) → TakesAny cells free d w r left g e v → TakesDisplaced (slots_of last (rows_of cells)) (deferred_in drops cells) r (deferred_in drops left)
+    takes_displaced cd some all None left g e v t = absurd (omega (arith, t.0, some))
+    takes_displaced cd some all (Some x) left g e v (i, inl t) =
         let waits = t.0.2.1 in
-        let took = took_aside d x i left e t.0 in
-        (count_crowded cd all i waits some, (i, (waiting_is s i waits).0, waits_free s i waits, took.0, took.1))
-    takes_crowded cd some all (Some x) left g e v (i, inr t) = absurd (omega (arith, t.3, some))
+        let took = took_deferred d x i left e t.0 in
+        (count_displaced cd all i waits some, (i, (waiting_is s i waits).0, waits_free s i waits, took.0, took.1))
+    takes_displaced cd some all (Some x) left g e v (i, inr t) = absurd (omega (arith, t.3, some))
 
-    -- the value that a fill finds set aside is one that waits where each slot that is left is crowded
-    pub fill_crowded : (rest : FreeIndexes) (ready : Deferred) (i : ℕ) → TakesSlot free d (Some i) rest ready → drops ≡ true → is_some (aside_at (asides drops cells) i) ≡ true → IsCrowded (slots_of last (rows_of cells)) (asides drops cells)
-    fill_crowded rest ready i takes on some =
+    -- the value that a fill finds deferred is one that waits where each slot that is left has one
+    pub fill_displaced : (rest : FreeIndexes) (ready : Deferred) (i : ℕ) → TakesSlot free d (Some i) rest ready → drops ≡ true → is_some (deferred_value_at (deferred_in drops cells) i) ≡ true → WillDisplace (slots_of last (rows_of cells)) (deferred_in drops cells)
+    fill_displaced rest ready i takes on some =
         let t = taken_is s rest ready i (takes_given free rest d ready i takes) in
         let waits = waits_by on i t.1 some in
         let freed = s.freed i in

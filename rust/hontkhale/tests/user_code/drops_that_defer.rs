@@ -1,4 +1,4 @@
-//! Values whose drops set more values aside, and values that panic where a call takes them out: however many there are, no
+//! Values whose drops defer more values, and values that panic where a call takes them out: however many there are, no
 //! drop runs inside another, each value is dropped once, and no key is lost.
 
 use super::kit::{panics, within_the_limit};
@@ -57,8 +57,8 @@ impl Queue {
         self.0.clear(0).expect("a shard")
     }
 
-    fn aside(&self) -> usize {
-        self.0.enter(0).expect("a shard").aside()
+    fn deferred(&self) -> usize {
+        self.0.enter(0).expect("a shard").deferred()
     }
 
     fn linked(&self) -> u64 {
@@ -139,7 +139,7 @@ fn on_a_small_stack(test: impl FnOnce() + Send + 'static) {
         .unwrap_or_else(|panicked| std::panic::resume_unwind(panicked));
 }
 
-// Cancelled entries, of which each one's drop makes this call with its number, and one call that lets them go.
+// Cancelled entries, of which each one's drop makes this call with its number, and one call that frees them.
 fn each_drop_calls(inner: fn(&Queue, usize), outer: fn(&Queue, &[Key])) {
     within_the_limit(move || {
         on_a_small_stack(move || {
@@ -153,7 +153,7 @@ fn each_drop_calls(inner: fn(&Queue, usize), outer: fn(&Queue, &[Key])) {
             queue.cancel_all(&keys);
             outer(&queue, &keys);
             assert_eq!(depth.seen(), (MANY as u64, 1));
-            assert_eq!((queue.aside(), queue.linked()), (0, 0));
+            assert_eq!((queue.deferred(), queue.linked()), (0, 0));
         });
     });
 }
@@ -205,7 +205,7 @@ fn drops_that_sweep_twice_in_a_sweep() {
         let keys = [sweeps, Node::quiet(&depth), Node::quiet(&depth)].map(|value| queue.insert(value, 10));
         queue.cancel_all(&keys);
         queue.sweep_one(0);
-        assert_eq!((depth.seen(), queue.aside()), ((3, 1), 0));
+        assert_eq!((depth.seen(), queue.deferred()), ((3, 1), 0));
     });
 }
 
@@ -228,14 +228,14 @@ fn another_threads_values_are_left_to_the_thread_that_drops() {
         let runs = thread::spawn(move || other.reap(&first));
         waits.recv().expect("a drop");
         queue.reap(&keys[1]);
-        assert_eq!((depth.drops.load(SeqCst), queue.aside()), (1, 1), "it is left");
+        assert_eq!((depth.drops.load(SeqCst), queue.deferred()), (1, 1), "it is left");
         goes_on.send(()).expect("a thread");
         runs.join().expect("a thread");
-        assert_eq!((depth.drops.load(SeqCst), queue.aside()), (2, 0));
+        assert_eq!((depth.drops.load(SeqCst), queue.deferred()), (2, 0));
     });
 }
 
-/// Calls that let go of what was cancelled.
+/// Calls that free what was cancelled.
 const LETS_GO: [fn(&Queue); 3] = [
     |queue| assert_eq!(queue.sweep(), 40),
     |queue| assert_eq!(queue.clear(), 0),
@@ -257,11 +257,11 @@ fn a_drop_panics_among_many() {
                     .collect();
                 queue.cancel_all(&keys);
                 assert_eq!(panics(|| lets_go(&queue)), "a value's drop");
-                let (dropped, left) = (depth.drops.load(SeqCst), queue.aside() as u64);
+                let (dropped, left) = (depth.drops.load(SeqCst), queue.deferred() as u64);
                 assert_eq!(dropped + left, 40, "none is lost");
                 queue.sweep();
                 assert!(queue.poll(10).is_none());
-                assert_eq!((depth.drops.load(SeqCst), queue.aside()), (40, 0));
+                assert_eq!((depth.drops.load(SeqCst), queue.deferred()), (40, 0));
             });
         }
     }
@@ -283,19 +283,19 @@ fn a_later_call_drops_what_was_left_to_a_drop_that_panicked() {
         );
         queue.cancel_all(&[other, first]);
         assert_eq!(panics(|| queue.reap(&first)), "a value's drop");
-        assert_eq!((depth.drops.load(SeqCst), queue.aside()), (1, 1));
+        assert_eq!((depth.drops.load(SeqCst), queue.deferred()), (1, 1));
         assert!(queue.poll(10).is_none());
-        assert_eq!((depth.drops.load(SeqCst), queue.aside()), (2, 0));
+        assert_eq!((depth.drops.load(SeqCst), queue.deferred()), (2, 0));
     });
 }
 
-/// A value is set aside in a shard of two slots, and no place is known for it but its own: a poll left it that gave an entry.
-fn one_aside(queue: &Queue, value: Node, depth: &Arc<Depth>) {
+/// A value is deferred in a shard of two slots, and no place is known for it but its own: a poll left it that gave an entry.
+fn one_deferred(queue: &Queue, value: Node, depth: &Arc<Depth>) {
     let cancelled = queue.insert(value, 5);
     queue.cancel_all(&[cancelled]);
     queue.insert(Node::quiet(depth), 10);
     drop(queue.poll(10).expect("an entry is due"));
-    assert_eq!((queue.aside(), queue.linked()), (1, 0));
+    assert_eq!((queue.deferred(), queue.linked()), (1, 0));
 }
 
 // An insert may drop another value, whose slot it takes: a drop that panics loses no key and neither value.
@@ -303,7 +303,7 @@ fn one_aside(queue: &Queue, value: Node, depth: &Arc<Depth>) {
 fn a_drop_panics_in_an_insert() {
     within_the_limit(move || {
         let (queue, depth) = (Queue::of(2), Arc::<Depth>::default());
-        one_aside(&queue, Node::that_panics(&depth), &depth);
+        one_deferred(&queue, Node::that_panics(&depth), &depth);
         let mut panics = 0;
         for when in [30, 31] {
             let (linked, is_dropped) = (queue.linked(), Arc::new(AtomicBool::new(false)));
@@ -317,10 +317,10 @@ fn a_drop_panics_in_an_insert() {
             assert_eq!(queue.linked(), linked, "nothing is in without a key");
             assert!(is_dropped.load(SeqCst), "the new value is dropped as any argument is");
         }
-        assert_eq!((panics, queue.linked(), queue.aside()), (1, 1, 0));
+        assert_eq!((panics, queue.linked(), queue.deferred()), (1, 1, 0));
         let key = queue.insert(Node::quiet(&depth), 30);
         queue.cancel_all(&[key]);
-        assert_eq!((queue.sweep(), queue.linked(), queue.aside()), (1, 1, 0));
+        assert_eq!((queue.sweep(), queue.linked(), queue.deferred()), (1, 1, 0));
     });
 }
 
@@ -337,13 +337,13 @@ fn a_drop_leaves_another_value_where_an_insert_goes() {
             drop(by_drop.poll(30).expect("an entry is due"));
             by_drop.insert(Node::quiet(&nested), 100);
         });
-        one_aside(&queue, leaves_another, &depth);
+        one_deferred(&queue, leaves_another, &depth);
         queue.insert(Node::quiet(&depth), 30);
         assert_eq!(panics(|| queue.insert(Node::quiet(&depth), 101)), "a value's drop");
-        assert_eq!((queue.aside(), queue.linked()), (0, 1));
+        assert_eq!((queue.deferred(), queue.linked()), (0, 1));
         let key = queue.insert(Node::quiet(&depth), 101);
         queue.cancel_all(&[key]);
-        assert_eq!((queue.sweep(), queue.linked(), queue.aside()), (1, 1, 0));
+        assert_eq!((queue.sweep(), queue.linked(), queue.deferred()), (1, 1, 0));
     });
 }
 
@@ -357,9 +357,9 @@ fn a_poll_for_many_that_gives_drops_nothing() {
         queue.insert(Node::quiet(&depth), 10);
         let mut row = Vec::with_capacity(4);
         queue.poll_many(10, &mut row);
-        assert_eq!((row.len(), depth.drops.load(SeqCst), queue.aside()), (1, 0, 1));
+        assert_eq!((row.len(), depth.drops.load(SeqCst), queue.deferred()), (1, 0, 1));
         row.clear();
         assert_eq!(panics(|| queue.poll_many(10, &mut row)), "a value's drop");
-        assert_eq!((depth.drops.load(SeqCst), queue.aside()), (2, 0));
+        assert_eq!((depth.drops.load(SeqCst), queue.deferred()), (2, 0));
     });
 }

@@ -1,6 +1,6 @@
 use Rattle.std.proofs.Common.{arith}
-use Rattle.dq_core.proofs.AsideCounts.{all_wait}
-use Rattle.dq_core.proofs.slots.Slots.aside.Goals as goal
+use Rattle.dq_core.proofs.DeferredCounts.{all_wait}
+use Rattle.dq_core.proofs.slots.Slots.deferred.Goals as goal
 
 pub returns : goal.returns
 returns g c =

@@ -1,9 +1,9 @@
 use Rattle.std.proofs.Common.{arith, ap, ◌∙◌}
 use Rattle.dq_core.specs.Slots.{shown}
 use Rattle.dq_core.proofs.CellRows.{any_taken, waiting_taken, slots_of}
-use Rattle.dq_core.proofs.AsideCells.{any_noted}
-use Rattle.dq_core.proofs.AsideCounts.{takes_one}
-use Rattle.dq_core.proofs.slots.Slots.take_aside.Goals as goal
+use Rattle.dq_core.proofs.DeferredCells.{any_noted}
+use Rattle.dq_core.proofs.DeferredCounts.{takes_one}
+use Rattle.dq_core.proofs.slots.Slots.take_deferred.Goals as goal
 
 pub take_any-requires-clause-taken : goal.take_any-requires-clause-taken
 take_any-requires-clause-taken g c = waiting_taken c.self.invariant.0 c.self.invariant.3

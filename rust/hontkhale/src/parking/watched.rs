@@ -19,8 +19,8 @@ pub struct WatchedCore<T, N = u64> {
     pub core: DelayCore<T, Keeper>,
     /// Who waits for it; none where nobody does.
     pub parked: Option<Parked<N>>,
-    /// Whether a thread drops what the queue has set aside. A value's drop is a user's code: it may call the queue, and
-    /// set more aside there. So one thread at a time drops them, while the lock is free, and whoever finds it at work
+    /// Whether a thread drops what the queue has deferred. A value's drop is a user's code: it may call the queue, and
+    /// defer more there. So one thread at a time drops them, while the lock is free, and whoever finds it at work
     /// leaves its own to it. However many values call the queue where they are dropped, their drops don't nest.
     pub is_dropping: bool,
 }
@@ -54,10 +54,10 @@ impl<T, N: Until> WatchedCore<T, N> {
     #[inline(always)]
     pub fn insert(&mut self, value: T, when: u64) -> (Inserted<T>, PendingWake<N>, Option<T>) {
         // requires MayWait N.lasts self.old.core self.old.parked
-        let (answer, crowded) = self.core.insert_deferring(value, when);
+        let (answer, displaced) = self.core.insert_deferring(value, when);
         match answer {
-            Ok(key) => (Ok(key), keep_or_leave(&self.core, &mut self.parked), crowded),
-            Err(refused) => (Err(refused), PendingWake { poller: None }, crowded),
+            Ok(key) => (Ok(key), keep_or_leave(&self.core, &mut self.parked), displaced),
+            Err(refused) => (Err(refused), PendingWake { poller: None }, displaced),
         }
     }
 
@@ -137,13 +137,13 @@ impl<T, N: Until> WatchedCore<T, N> {
 
 impl<T, N> WatchedCore<T, N> {
     /// Takes out a value for a thread that drops it once the lock is free, and then calls again. `is_mine` is false at
-    /// its first call, and tells whether it is at it. None where no more are set aside, and it is over; or where
+    /// its first call, and tells whether it is at it. None where no more are deferred, and it is over; or where
     /// another thread is at it, or this one further up: it drops these too.
     pub fn take_one(&mut self, is_mine: &mut bool) -> Option<T> {
         if self.is_dropping && !*is_mine {
             return None;
         }
-        let value = self.core.take_aside();
+        let value = self.core.take_deferred();
         self.is_dropping = value.is_some();
         *is_mine = self.is_dropping;
         value

@@ -1,5 +1,5 @@
-//! What a queue of one owner does with a value that it lets go: it drops it before the call returns, or sets it aside. What is set
-//! aside is what it let go, less what was taken out: calls are drawn, and each value is followed until it comes out, once.
+//! What a queue of one owner does with a value that it frees: it drops it before the call returns, or defers it. What is
+//! deferred is what it freed, less what was taken out: calls are drawn, and each value is followed until it comes out, once.
 
 use super::same;
 use crate::core::{CoreConfig, DelayCore, Expired, Piece, Turn, VecWords};
@@ -24,30 +24,30 @@ fn drops_at_once<'heap>(queue: &mut Boxes<'heap>, heap: &'heap LocalHeap) -> Res
     Ok(())
 }
 
-// What is set aside is no entry any more, and has its memory until it is taken out.
-fn sets_aside<'heap>(queue: &mut Boxes<'heap>, heap: &'heap LocalHeap) -> Result<(), Fail> {
+// What is deferred is no entry any more, and has its memory until it is taken out.
+fn defers<'heap>(queue: &mut Boxes<'heap>, heap: &'heap LocalHeap) -> Result<(), Fail> {
     let one = put(queue, heap)?;
     let both = heap.used();
     same("sweep", (queue.sweep_deferring(), heap.used()), (1, both));
     same("clear", (queue.clear_deferring(), heap.used()), (1, both));
-    same("aside", (queue.aside(), queue.len()), (2, 0));
-    drop(queue.take_aside());
-    same("take one", (queue.aside(), heap.used()), (1, one));
-    drop(queue.take_aside());
-    same("take both", (queue.aside(), heap.used()), (0, 0));
-    same("none", queue.take_aside().is_none(), true);
+    same("deferred", (queue.deferred(), queue.len()), (2, 0));
+    drop(queue.take_deferred());
+    same("take one", (queue.deferred(), heap.used()), (1, one));
+    drop(queue.take_deferred());
+    same("take both", (queue.deferred(), heap.used()), (0, 0));
+    same("none", queue.take_deferred().is_none(), true);
     Ok(())
 }
 
 fn lets_go(heap: &LocalHeap) -> Result<(), Fail> {
     let mut queue: Boxes = DelayCore::with_capacity(4)?;
     drops_at_once(&mut queue, heap)?;
-    sets_aside(&mut queue, heap)
+    defers(&mut queue, heap)
 }
 
-// promise: core.aside slots.owner-drops
+// promise: core.deferred slots.owner-drops
 #[test]
-fn one_owner_drops_at_once_or_sets_aside() -> Result<(), Fail> {
+fn one_owner_drops_at_once_or_defers() -> Result<(), Fail> {
     let heap = LocalHeap::new();
     lets_go(&heap)
 }
@@ -58,7 +58,7 @@ type Value<'heap> = HeapBox<'heap, u64>;
 const QUEUES: u64 = 60;
 const CALLS: u64 = 600;
 
-/// A queue beside the values that it holds, and those that it let go and that weren't taken out.
+/// A queue beside the values that it holds, and those that it freed and that weren't taken out.
 struct Play<'heap> {
     queue: DelayCore<Value<'heap>, VecWords>,
     heap: &'heap LocalHeap,
@@ -108,7 +108,7 @@ impl<'heap> Play<'heap> {
                 self.queue.clear_deferring();
             }
             13 => self.reaps(draw),
-            14 => self.takes_crowded(),
+            14 => self.takes_displaced(),
             _ => self.takes(draw),
         }
         self.lets_go();
@@ -117,7 +117,7 @@ impl<'heap> Play<'heap> {
         Ok(())
     }
 
-    // What is held no more, and didn't come out, was let go.
+    // What is held no more, and didn't come out, was freed.
     fn lets_go(&mut self) {
         let (queue, waiting) = (&self.queue, &mut self.waiting);
         self.held.retain(|(key, number)| {
@@ -136,19 +136,19 @@ impl<'heap> Play<'heap> {
         assert_eq!(self.held.len() + 1, before, "value {} comes out of an entry", **value);
     }
 
-    // A value that is taken out was let go, and waits no more.
+    // A value that is taken out was freed, and waits no more.
     fn took(&mut self, value: &Value) {
         let at = self.waiting.iter().position(|number| *number == **value);
         self.waiting
-            .swap_remove(at.expect("a value that was let go, and wasn't taken out"));
+            .swap_remove(at.expect("a value that was freed, and wasn't taken out"));
     }
 
     fn inserts(&mut self, draw: &mut Draw) {
         let number = self.numbers;
         self.numbers += 1;
         let value = HeapBox::new(self.heap, number);
-        let (answer, crowded) = self.queue.insert_deferring(value, self.tick + draw.below(50));
-        if let Some(value) = crowded {
+        let (answer, displaced) = self.queue.insert_deferring(value, self.tick + draw.below(50));
+        if let Some(value) = displaced {
             self.took(&value);
         }
         if let Ok(key) = answer {
@@ -196,7 +196,7 @@ impl<'heap> Play<'heap> {
     fn takes(&mut self, draw: &mut Draw) {
         for _ in 0..=draw.below(6) {
             let waiting = self.waiting.len();
-            match self.queue.take_aside() {
+            match self.queue.take_deferred() {
                 Some(value) => self.took(&value),
                 None => assert_eq!(waiting, 0, "values that wait where none is taken out"),
             }
@@ -204,8 +204,8 @@ impl<'heap> Play<'heap> {
         }
     }
 
-    fn takes_crowded(&mut self) {
-        if let Some(value) = self.queue.take_crowded() {
+    fn takes_displaced(&mut self) {
+        if let Some(value) = self.queue.take_displaced() {
             self.took(&value);
         }
     }
@@ -221,14 +221,14 @@ impl<'heap> Play<'heap> {
     }
 
     fn compares(&self) {
-        assert_eq!(self.queue.aside(), self.waiting.len(), "values that wait");
+        assert_eq!(self.queue.deferred(), self.waiting.len(), "values that wait");
         let living = self.held.len() + self.waiting.len();
         assert_eq!(self.heap.used(), living * size_of::<u64>(), "values that live");
     }
 
     // All that waits comes out, and then nothing.
     fn ends(mut self) {
-        while let Some(value) = self.queue.take_aside() {
+        while let Some(value) = self.queue.take_deferred() {
             self.took(&value);
             drop(value);
             self.compares();
@@ -238,9 +238,9 @@ impl<'heap> Play<'heap> {
     }
 }
 
-// promise: core.aside slots.value-let
+// promise: core.deferred slots.value-deferred
 #[test]
-fn what_is_set_aside_is_what_was_let_go_less_what_was_taken_out() -> Result<(), Fail> {
+fn what_is_deferred_is_what_was_freed_less_what_was_taken_out() -> Result<(), Fail> {
     let mut draw = Draw::new(1);
     for _ in 0..QUEUES {
         let heap = LocalHeap::new();
@@ -254,27 +254,27 @@ fn what_is_set_aside_is_what_was_let_go_less_what_was_taken_out() -> Result<(), 
     Ok(())
 }
 
-// A value that needs no drop is forgotten where it is let go, and its slot is free at once.
-fn sets_none_aside(queue: &mut DelayCore<u64, VecWords>) -> Result<(), Fail> {
+// A value that needs no drop is forgotten where it is freed, and its slot is free at once.
+fn defers_none(queue: &mut DelayCore<u64, VecWords>) -> Result<(), Fail> {
     for round in 0..3 {
         queue.insert_or_drop(round, 5)?;
         queue.insert_or_drop(round, 9)?;
-        assert_eq!((queue.clear_deferring(), queue.aside()), (2, 0));
-        assert_eq!((queue.take_crowded(), queue.take_aside()), (None, None));
+        assert_eq!((queue.clear_deferring(), queue.deferred()), (2, 0));
+        assert_eq!((queue.take_displaced(), queue.take_deferred()), (None, None));
     }
     Ok(())
 }
 
-// promise: core.aside slots.value-let
+// promise: core.deferred slots.value-deferred
 #[test]
-fn values_that_need_no_drop_are_not_set_aside() -> Result<(), Fail> {
+fn values_that_need_no_drop_are_not_deferred() -> Result<(), Fail> {
     let mut queue = DelayCore::with_capacity(2)?;
-    sets_none_aside(&mut queue)?;
+    defers_none(&mut queue)?;
     let Ok(folded) = queue.fold() else {
         panic!("a fold of an empty queue is refused")
     };
     let Ok(mut queue) = folded.unfold() else {
         panic!("an unfold is refused")
     };
-    sets_none_aside(&mut queue)
+    defers_none(&mut queue)
 }

@@ -1,8 +1,0 @@
-use Rattle.std.proofs.Common.{◌≡◌, ◌+◌}
-use Rattle.dq_core.specs.Asides.{waiting_in}
-use Rattle.dq_core.proofs.queue.DelayCore.drop_aside.Given as goal
-
--- each turn took a value out, and nothing else changed
-abbrev pub invariant-loop-turn : goal.invariant-loop-turn
-invariant-loop-turn g l =
-    (waiting_in l.self.aside + l._turn ≡ waiting_in l.fn.self.aside) × (l.self ≡ record l.fn.self { aside = l.self.aside })

@@ -1,8 +1,0 @@
-use Rattle.dq_growing.proofs.Stored.{stored, law_takes_aside}
-use Rattle.dq_growing.proofs.store.Store.take_aside.Goals as goal
-
-pub invariant_of-self : goal.invariant_of-self
-invariant_of-self g c =
-    let i = c.self.inside in
-    let a = c.take_aside-value in
-    law_takes_aside (stored i.cores i.notes) a.new.self a.result c.self.invariant c.law.ensures a.ensures
