@@ -8,7 +8,6 @@ mod laws;
 mod makings;
 mod queues;
 mod step;
-mod wheel_memory;
 mod worked;
 
 use std::fmt::{Debug, Display};

@@ -1,11 +1,12 @@
-//! Each worked case, over a fresh queue.
+//! Each worked case, over a fresh queue; and those of a keeper with a caller.
 
 use super::cases::{Case, OVER_PLAIN_WORDS, over_both_words};
 use super::queues::{Calls, Queue, open, plain, shared};
 use super::same;
 use super::step::Step;
-use dq_core::{DelayCore, Words};
-use dq_words::{Caller, Keeper, OpenWords};
+use dq_core::{CallError, DelayCore, Look, Settled, Words};
+use dq_ticks::{EntryId, Key};
+use dq_words::{Caller, HANDLE_LIMIT, Keeper, OpenWords, WordsError};
 use std::process::Abort;
 use std::test::Fail;
 
@@ -109,4 +110,128 @@ fn all_over_open<R: Abort + AllocGlobal>(rt: &R, cases: &[Case]) -> Result<(), F
 #[test]
 fn cases_over_open_words(rt: HostRuntime) -> Result<(), Fail> {
     all_over_open(&rt, over_both_words())
+}
+
+// An extend to a tick with its answer, or a look with its own, by a key of this index and stamp.
+type ByKey = (u32, u32, Asked);
+
+#[derive(Clone, Copy)]
+enum Asked {
+    Extend(u64, Result<u64, CallError>),
+    Look(Result<Look, CallError>),
+}
+
+// What a caller answers by keys of entries of shard 0 that were born at stamp 1.
+fn answers(rt: &impl Abort, caller: &mut Caller, rows: &[ByKey]) {
+    for (number, (index, stamp, asked)) in rows.iter().enumerate() {
+        let key = Key::new(EntryId::new(0, *index, 1), *stamp);
+        match asked {
+            Asked::Extend(when, answer) => same(rt, number, caller.extend(&key, *when), *answer),
+            Asked::Look(answer) => same(rt, number, caller.look(&key), *answer),
+        }
+    }
+}
+
+const STALE: CallError = CallError::Stale { seen: 2 };
+
+const ENDED: CallError = CallError::Ended {
+    how: Look::LookExpired(50),
+};
+
+const TOO_FAR: CallError = CallError::TooFar {
+    limit: 4398046511103,
+};
+
+const WAITS: &[ByKey] = &[(0, 1, Asked::Extend(50, Ok(50)))];
+
+const EXPIRED: &[ByKey] = &[
+    (0, 1, Asked::Look(Ok(Look::LookExpired(50)))),
+    (0, 1, Asked::Extend(4, Err(ENDED))),
+];
+
+const GIVEN_AGAIN: &[ByKey] = &[
+    (0, 1, Asked::Look(Err(STALE))),
+    (0, 1, Asked::Extend(99, Err(STALE))),
+    (9, 1, Asked::Extend(50, Err(CallError::Unknown))),
+    (0, 0, Asked::Extend(50, Err(CallError::Unknown))),
+    (9, 1, Asked::Extend(4398046511104, Err(TOO_FAR))),
+];
+
+const RENEWED: &[ByKey] = &[(0, 1, Asked::Extend(50, Err(STALE)))];
+
+const CANCELLED: &[ByKey] = &[(0, 2, Asked::Look(Ok(Look::LookCancelled)))];
+
+// Of a keeper that issued one caller.
+fn issues_to_the_limit(rt: &impl Abort, keeper: &mut Keeper) -> Result<(), Fail> {
+    for _ in 1..HANDLE_LIMIT {
+        keeper.issue()?;
+    }
+    let refused = WordsError::TooManyHandles { limit: 1024 };
+    same(rt, "issue", keeper.issue().err(), Some(refused));
+    same(rt, "out", keeper.out(), 1024);
+    Ok(())
+}
+
+// promise: words.first-second
+#[test]
+fn words_first_pass(rt: HostRuntime) -> Result<(), Fail> {
+    let mut keeper = Keeper::new(rt.alloc(), 1)?;
+    let mut caller = keeper.issue()?;
+    keeper.begin(0, 1, 10);
+    answers(&rt, &mut caller, WAITS);
+    let Settled::Later(later) = keeper.settle(0, 1, 10) else {
+        panic!(rt; "the extend was lost")
+    };
+    same(&rt, "settle", later, 50);
+    let Settled::SettledExpired = keeper.settle(0, 1, later) else {
+        panic!(rt; "it was due")
+    };
+    answers(&rt, &mut caller, EXPIRED);
+    keeper.begin(0, 2, 60);
+    answers(&rt, &mut caller, GIVEN_AGAIN);
+    issues_to_the_limit(&rt, &mut keeper)
+}
+
+// How many callers are out, and what is returned.
+fn is_out(rt: &impl Abort, keeper: &mut Keeper, out: u64, returned: Result<u64, u64>) {
+    let stands = (keeper.out(), keeper.returned());
+    same(rt, "out", stands, (out, returned));
+}
+
+fn leaves(rt: &impl Abort, caller: Caller, cancels: u64) {
+    let told = caller.cancels();
+    same(
+        rt,
+        "give back",
+        (told, caller.give_back()),
+        (cancels, cancels),
+    );
+}
+
+// promise: words.first-second
+#[test]
+fn words_second_pass(rt: HostRuntime) -> Result<(), Fail> {
+    let mut keeper = Keeper::new(rt.alloc(), 1)?;
+    let mut caller = keeper.issue()?;
+    keeper.begin(0, 1, 10);
+    let Some(before) = keeper.renew(0, 1, 5) else {
+        panic!(rt; "it was live")
+    };
+    same(&rt, "renew", before, 10);
+    answers(&rt, &mut caller, RENEWED);
+    let key = Key::new(EntryId::new(0, 0, 1), 2);
+    same(&rt, "cancel", caller.cancel(&key), Ok(5));
+    let None = keeper.renew(0, 2, 9) else {
+        panic!(rt; "it was cancelled")
+    };
+    let None = keeper.finish(0, 2) else {
+        panic!(rt; "it was cancelled")
+    };
+    let settled = keeper.settle(0, 2, 5);
+    same(&rt, "settle", settled, Settled::SettledCancelled);
+    answers(&rt, &mut caller, CANCELLED);
+    is_out(&rt, &mut keeper, 1, Err(1));
+    leaves(&rt, caller, 1);
+    is_out(&rt, &mut keeper, 0, Ok(1));
+    Ok(())
 }
