@@ -1,10 +1,11 @@
-//! A queue of one owner that grows and shrinks, by hand over a row of cores. The tests drive it, and so does the bench.
+//! A queue of one owner that grows and shrinks: a store, and by hand when its cores come and go. The tests drive it, and so
+//! does the bench.
 //!
 //! Inserts go into the open core. Once that is full, a core that drains and is at most half full is opened again, and else
 //! the next one comes in, which has room for twice what lives. `maintain` does what may wait: it makes the next core ahead,
 //! exchanges one that is too large or worn, and folds those that have drained.
 
-use hontkhale::parts::growing::{Cores, Folds};
+use hontkhale::parts::growing::{Cores, Folds, Store};
 use hontkhale::parts::owner::{
     numbered_queue, CoreConfig, CoreError, DelayCore, EntryId, Keeper, Key, Piece, Removed, Turn,
 };
@@ -22,7 +23,7 @@ pub struct Sizes {
 #[derive(Debug)]
 pub struct Growing<T> {
     sizes: Sizes,
-    cores: Cores<T, Keeper>,
+    store: Store<T, Keeper>,
     folds: Folds<Keeper>,
     /// The core that comes in next, where it is made already.
     ahead: Option<Core<T>>,
@@ -38,7 +39,7 @@ impl<T> Growing<T> {
     pub fn new(sizes: Sizes) -> Growing<T> {
         Growing {
             sizes,
-            cores: Cores::new(),
+            store: Store::new(Cores::new()).unwrap_or_else(|_| panic!("a store of no cores")),
             folds: Folds::new(),
             ahead: None,
             numbers: 0,
@@ -46,11 +47,11 @@ impl<T> Growing<T> {
     }
 
     fn each_core(&self) -> impl Iterator<Item = &Core<T>> {
-        (0..self.cores.count()).filter_map(|place| self.cores.get(place))
+        (0..self.store.cores().count()).filter_map(|place| self.store.cores().get(place))
     }
 
     fn open_core(&self) -> Option<&Core<T>> {
-        self.cores.get(self.cores.opened())
+        self.store.cores().get(self.store.cores().opened())
     }
 
     /// How many entries there are, live or cancelled and not yet freed.
@@ -60,7 +61,7 @@ impl<T> Growing<T> {
 
     /// How many cores there are.
     pub fn count(&self) -> usize {
-        self.cores.count()
+        self.store.cores().count()
     }
 
     /// How many slots a core is to have for so many entries.
@@ -73,9 +74,10 @@ impl<T> Growing<T> {
     /// The place of the largest core that isn't open, is at most half full, and has room for half of what is wanted.
     fn roomy(&self, wanted: usize) -> Option<usize> {
         let is_roomy = |core: &Core<T>| 2 * taken(core) <= core.capacity() && 2 * core.capacity() >= wanted;
-        let places = (0..self.cores.count()).filter(|place| *place != self.cores.opened());
+        let places = (0..self.store.cores().count()).filter(|place| *place != self.store.cores().opened());
         let roomy = places.filter_map(|place| {
-            self.cores
+            self.store
+                .cores()
                 .get(place)
                 .filter(|core| is_roomy(core))
                 .map(|core| (core.capacity(), place))
@@ -86,7 +88,7 @@ impl<T> Growing<T> {
     /// A core of so many slots: a folded one, where there is one that isn't worn, or a new one.
     fn made(&mut self, capacity: usize) -> Result<Core<T>, CoreError> {
         if let Some(mut folded) = self.folds.take(capacity) {
-            folded.come_to(self.cores.noted())?;
+            folded.come_to(self.store.cores().noted())?;
             return folded.unfold().map_err(|folded| {
                 // it is lost where there is no memory for the list either
                 let _ = self.folds.keep(folded);
@@ -99,13 +101,13 @@ impl<T> Growing<T> {
             capacity,
             last_stamp: self.sizes.last_stamp,
         })?;
-        core.poll(self.cores.noted())?;
+        core.poll(self.store.cores().noted())?;
         self.numbers += 1;
         Ok(core)
     }
 
     fn take_in(&mut self, core: Core<T>) -> Result<(), CoreError> {
-        self.cores.take_in(core).map_err(|(_, core)| {
+        self.store.take_in(core).map_err(|(_, core)| {
             self.ahead = Some(core);
             CoreError::NoMemory
         })
@@ -114,7 +116,7 @@ impl<T> Growing<T> {
     /// Opens a core that has room.
     fn exchange(&mut self, wanted: usize) -> Result<(), CoreError> {
         if let Some(place) = self.roomy(wanted) {
-            self.cores.open(place);
+            self.store.open(place);
             return Ok(());
         }
         let core = match self.ahead.take() {
@@ -130,7 +132,7 @@ impl<T> Growing<T> {
     /// The value comes back, where the tick is beyond the last or memory is refused.
     #[inline(always)]
     pub fn insert(&mut self, value: T, when: u64) -> Result<Key, (CoreError, T)> {
-        match self.cores.insert(value, when) {
+        match self.store.insert(value, when) {
             (Ok(key), _) => Ok(key),
             (Err((error, value)), _) => self.insert_anew(error, value, when),
         }
@@ -145,24 +147,24 @@ impl<T> Growing<T> {
         if let Err(error) = self.exchange(self.room_for(self.len())) {
             return Err((error, value));
         }
-        self.cores.insert(value, when).0
+        self.store.insert(value, when).0
     }
 
     #[inline(always)]
     pub fn remove(&mut self, entry: &EntryId) -> Result<Removed<T>, CoreError> {
-        self.cores.remove(entry)
+        self.store.remove(entry)
     }
 
     #[inline(always)]
     pub fn reset(&mut self, entry: &EntryId, when: u64) -> Result<Key, CoreError> {
-        self.cores.reset(entry, when)
+        self.store.reset_in_place(entry, when)
     }
 
     /// A whole poll of each core that is due, until one gives an entry or nothing is due.
     #[inline(always)]
     pub fn poll(&mut self, tick: u64) -> Result<Turn<T>, CoreError> {
         loop {
-            if let Piece::Answer(turn) = self.cores.poll(tick)? {
+            if let Piece::Answer(turn) = self.store.poll(tick)? {
                 return Ok(turn);
             }
         }
@@ -172,7 +174,7 @@ impl<T> Growing<T> {
     #[inline(always)]
     pub fn poll_in_pieces(&mut self, tick: u64, most: u32) -> Result<Turn<T>, CoreError> {
         loop {
-            if let Piece::Answer(turn) = self.cores.poll_some(tick, most)? {
+            if let Piece::Answer(turn) = self.store.poll_some(tick, most)? {
                 return Ok(turn);
             }
         }
@@ -181,10 +183,10 @@ impl<T> Growing<T> {
     /// Does what may wait. It keeps what it can't do for want of memory.
     #[inline(never)]
     pub fn maintain(&mut self) {
-        while let Some(value) = self.cores.take_deferred() {
+        while let Some(value) = self.store.take_deferred() {
             drop(value);
         }
-        while let Some(core) = self.cores.take_drained() {
+        while let Some(core) = self.store.take_drained() {
             self.fold(core);
         }
         let Some(open) = self.open_core() else { return };
