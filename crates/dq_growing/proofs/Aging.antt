@@ -1,5 +1,5 @@
 -- No new entry gets an id that one has had.
-use Rattle.std.proofs.Common.{◌≡◌, ◌≢◌, ℕ, ◌<◌, Bool, true, List, [], length, get_or, Option, Result, Ok, Err, refl, sym, ap, ◌∙◌, subst, inl, inr, ⊎_elim, arith}
+use Rattle.std.proofs.Common.{◌≡◌, ◌≢◌, ◌⊎◌, ℕ, ◌<◌, Bool, true, List, [], length, get_or, Option, Result, Ok, Err, refl, sym, ap, ◌∙◌, subst, inl, inr, ⊎_elim, arith}
 use Rattle.dq_ticks.specs.declared.keys.Key.{Key}
 use Rattle.dq_ticks.specs.declared.keys.EntryId.{EntryId}
 use Rattle.dq_core.specs.declared.errors.CoreError.{CoreError}
@@ -14,19 +14,22 @@ use Rattle.dq_core.specs.declared.errors.ReapError.{ReapError}
 use Rattle.dq_core.specs.Core.{Core, machine}
 use Rattle.dq_core.specs.Machine.{Entry}
 use Rattle.dq_core.specs.RunsOfCalls.{GoesByRun, given, given_by_piece}
+use Rattle.dq_core.specs.Runs.{HasAlike, NoneBornAt, ends_of}
+use Rattle.dq_core.proofs.RunsEnding.{entries_leave_once}
 use Rattle.dq_core.proofs.RunsKept.{stamps_never_fall, values_stay}
 use Rattle.dq_core.proofs.RunsOfCalls.{calls_are_runs}
 use Rattle.dq_growing.specs.Cores.{CoreRow, AreCores, IsCoreAt, OnCoreOr, OnCoreAt, with_core}
 use Rattle.dq_growing.specs.Moving.{PutsIn}
-use Rattle.dq_growing.specs.Stands.{IsThere, IsPastAt, Ages}
+use Rattle.dq_growing.specs.Stands.{IsThere, IsPastAt, HasEntry, StandsAlike, Ages}
 use Rattle.dq_growing.proofs.Rows.{at_after}
-use Rattle.dq_growing.proofs.Standing.{back, Elsewhere, stood}
+use Rattle.dq_growing.proofs.Standing.{back, split, there, never, set_there, Elsewhere, stood}
 
 module _ {T W : Type 0} where
   -- so of one core
   abbrev pub AgesAt : Core T W → Core T W → Type 0
   AgesAt b c =
-      (id : EntryId) → IsPastAt b id → IsPastAt c id × ((e : Entry T) → IsThere c id e → (f : Entry T) × IsThere b id f × (f.value ≡ e.value))
+      (id : EntryId) → IsPastAt b id → IsPastAt c id × ((e : Entry T) → IsThere c id e → StandsAlike (IsThere b) id e)
+      × ((e : Entry T) → IsThere b id e → StandsAlike (IsThere c) id e ⊎ ((f : Entry T) → ¬ IsThere c id f))
 
   pub run_ages : (b c : Core T W) (ds : List ℕ) → c.shard ≡ b.shard → GoesByRun b ds c → AgesAt b c
   run_ages b c ds same run id past =
@@ -36,6 +39,12 @@ module _ {T W : Type 0} where
         (λ e x. let born = x.born in
             let alike = values_stay T last (machine b) (machine c) run.0 run.1 id.index e x.linked (omega (arith, born, past)) in
             (alike.0, record { shard = x.shard ∙ same; linked = alike.1; born = alike.2 ∙ x.born }, alike.3)),
+        (λ e x. let born = x.born in
+            ⊎_elim
+            (λ (y : (ends_of id.index e.born run.0 ≡ 0) × HasAlike (machine c) id.index e). let f = y.1 in
+            inl (f.0, record { shard = x.shard ∙ sym same; linked = f.1; born = f.2 ∙ x.born }, f.3))
+            (λ (y : (ends_of id.index e.born run.0 ≡ 1) × NoneBornAt (machine c) id.index e.born). inr (λ f z. y.1 f z.linked (z.born ∙ sym x.born)))
+            (entries_leave_once T last (machine b) (machine c) run.0 run.1 id.index e x.linked (omega (arith, born, past)))),
       )
 
   pub ages_in : (s : CoreRow T W) (i : ℕ) (b c : Core T W) → AreCores s → IsCoreAt s.cores i b → c.shard ≡ b.shard → AgesAt b c → Ages s (with_core s i c)
@@ -51,16 +60,37 @@ module _ {T W : Type 0} where
         (was.0, (i, b, at, was.1), was.2))
         (λ (x : Elsewhere s i b c law at same id e). (e, stood s i b c law at same id e x, refl))
         (back s i b c law at same id e z)),
+    (λ e z. ⊎_elim
+        (λ (x : IsThere b id e). ⊎_elim
+        (λ (f : StandsAlike (IsThere c) id e). inl (f.0, (i, c, (set_there s.cores i b c at), f.1), f.2))
+        (λ (none : (f : Entry T) → ¬ IsThere c id f). inr (λ f y. ⊎_elim
+        (λ (there : IsThere c id f). none f there)
+        (λ (far : Elsewhere s i b c law at same id f). never s i b c law at same id f x.shard far)
+        (back s i b c law at same id f y)))
+        ((ages id (past i b at (sym x.shard))).2 e x))
+        (λ (x : Elsewhere s i b c law at same id e). inl (e, there s i b c law at same id e x, refl))
+        (split s i b c law at same id e z)),
+    (λ n. n),
   )
 
   pub all_age : (s : CoreRow T W) → Ages s s
-  all_age s id past = (past, λ e z. (e, z, refl))
+  all_age s id past = (past, (λ e z. (e, z, refl)), (λ e z. inl (e, z, refl)), (λ n. n))
 
   pub then_age : (s m t : CoreRow T W) → Ages s m → Ages m t → Ages s t
   then_age s m t one two id past =
       let a = one id past in
-      let b = two id a.0 in
-      (b.0, λ e z. let f = b.1 e z in let g = a.1 f.0 f.1 in (g.0, g.1, g.2 ∙ f.2))
+      let b = two id a.0 in (
+        b.0,
+        (λ e z. let f = b.1 e z in let g = a.1 f.0 f.1 in (g.0, g.1, g.2 ∙ f.2)),
+        (λ e z. ⊎_elim
+            (λ (f : StandsAlike (HasEntry m) id e). ⊎_elim
+            (λ (g : StandsAlike (HasEntry t) id f.0). inl (g.0, g.1, g.2 ∙ f.2))
+            (λ (none : (g : Entry T) → ¬ HasEntry t id g). inr none)
+            (b.2 f.0 f.1))
+            (λ (none : (f : Entry T) → ¬ HasEntry m id f). inr (λ g y. let f = b.1 g y in none f.0 f.1))
+            (a.2 e z)),
+        (λ n. b.3 (a.3 n)),
+      )
 
   -- a call on one core ages the store, if it keeps the core's number and is a run of its machine
   pub ages_on : (s t : CoreRow T W) (i : ℕ) (P : Core T W → Core T W → Type 0) → AreCores s → OnCoreAt i P s t

@@ -1,5 +1,6 @@
 pub mod Aging
 pub mod Among
+pub mod Keeping
 pub mod Leasts
 pub mod Moves
 pub mod Pairing

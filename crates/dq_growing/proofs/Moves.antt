@@ -1,5 +1,5 @@
 -- An entry goes on in the open core.
-use Rattle.std.proofs.Common.{◌≡◌, ◌≢◌, ℕ, ◌+◌, ◌<◌, ◌≤◌, Bool, true, false, cond, max, List, length, set, Option, Some, None, Result, Ok, Err, OnErr, MatchOption, refl, sym, ap, ◌∙◌, subst, inl, inr, arith}
+use Rattle.std.proofs.Common.{◌≡◌, ◌≢◌, ℕ, ◌+◌, ◌<◌, ◌≤◌, Bool, true, false, cond, max, List, length, set, Option, Some, None, Result, Ok, Err, IfOk, OnErr, MatchOption, refl, sym, ap, ◌∙◌, subst, inl, inr, arith}
 use mathlib.Core.Logic.{dite}
 use native.Mathlib.Decide.{ℕ_discrete}
 use Rattle.std.proofs.lemmas.Bool.{cases_lt}
@@ -18,7 +18,7 @@ use Rattle.dq_core.specs.Machine.{Entry, table_at}
 use Rattle.dq_core.specs.Slots.{Row, SlotRows, is_free, is_held, is_worn, row_at, vacated_row}
 use Rattle.dq_core.proofs.SlotRows.{parted}
 use Rattle.dq_core.proofs.Slotwise.{count_set, free_is}
-use Rattle.dq_growing.specs.Cores.{CoreRow, AreCores, IsCoreAt, OnCoreOr, with_core}
+use Rattle.dq_growing.specs.Cores.{CoreRow, AreCores, IsCoreAt, OnCoreOr, InsertsBeside, with_core}
 use Rattle.dq_growing.specs.Stands.{IsThere, IsPastAt, IsPastIn, IsAheadIn, Ages, HasEntry, OneLeaves, OneComes, KeepsWords}
 use Rattle.dq_growing.specs.Moving.{is_beyond, HasFreeSlot, HasOpenRoom, IsFull, worn_in, PutsIn, IsTakenOut, Relocates, IsBaseIn, ComesInOpen, GoesOnIn, HasBegunIn}
 use Rattle.dq_growing.specs.declared.moving.NextDeadline.{NextDeadline}
@@ -195,3 +195,10 @@ module _ {T W : Type 0} where
 
     pub open_past : IsPastAt c k.entry → IsPastIn (with_core s s.opened c) k.entry
     open_past past = past_in s s.opened b c law at same k.entry puts.0.shard past
+
+  -- so by the answer of an insert
+  pub inserted_begun : (s : CoreRow T W) (b c : Core T W) (v : T) (d : ℕ) (r : Result Key (CoreError × T) × Option T) → AreCores s → IsCoreAt s.cores s.opened b → c.shard ≡ b.shard
+      → InsertsBeside v d r b c → (begun : W → ℕ → ℕ → ℕ → Type 0) → IfOk r.0 (λ k. begun c.words k.entry.index k.stamp (base_for b d))
+      → IfOk r.0 (λ k. HasBegunIn begun s k d (with_core s s.opened c))
+  inserted_begun s b c v d (Ok k, beside) law at same did begun has = open_begun s b c v d k beside law at same (did.0, did.1.0, did.1.1) begun has
+  inserted_begun s b c v d (Err e, beside) law at same did begun has = tt {0}

@@ -1,5 +1,5 @@
 -- One core of a list changes.
-use Rattle.std.proofs.Common.{◌≡◌, ◌≢◌, ◌⊎◌, ℕ, zero, suc, ◌<◌, ◌≤◌, List, [], ◌∷◌, ◌++◌, ◌+◌, max, length, get_or, set, remove, refl, sym, ap, ◌∙◌, subst, inl, inr, ⊎_elim, arith}
+use Rattle.std.proofs.Common.{◌≡◌, ◌≢◌, ◌⊎◌, ℕ, zero, suc, ◌<◌, ◌≤◌, List, [], ◌∷◌, ◌++◌, ◌+◌, ◌-◌, max, length, get_or, set, remove, refl, sym, ap, ◌∙◌, subst, inl, inr, ⊎_elim, arith}
 use mathlib.Core.Logic.{dite}
 use native.Mathlib.Decide.{ℕ_discrete}
 use Rattle.std.proofs.lemmas.List.{length-set, get_or-set_same, get_or-set_other, get_or_default}
@@ -141,6 +141,22 @@ module _ {T W : Type 0} where
         | inl y ↦ inr (y, (omega arith, sym (get_or-remove_above cores i d j y h) ∙ at.1))
         | inr y ↦ inl (y, (omega arith, sym (get_or-remove_below cores i d j y h) ∙ at.1))
       ]
+
+  -- every other core is still there
+  pub removed_from : (cores : List (Core T W)) (i k : ℕ) (d : Core T W) → i < length cores → k ≢ i → IsCoreAt cores k d → (j : ℕ) × IsCoreAt (remove cores i) j d
+  removed_from cores i k d h ne at =
+      let fewer = length-remove cores i h in
+      let inside = at.0 in
+      ⊎_elim
+      (λ (y : suc k ≤ i). (k, (omega (arith, y, fewer, h), get_or-remove_below cores i d k (omega (arith, y)) h ∙ at.1)))
+      (λ (y : i < suc k). ⊎_elim
+      (λ (z : k ≤ i). absurd (ne (omega (arith, y, z))))
+      (λ (z : i < k). let e : k ≡ (k - 1) + 1 = omega (arith, z) in
+      let A : ℕ → Type 0 = λ m. IsCoreAt cores m d in
+      let there = subst A e at in
+      (k - 1, (omega (arith, inside, fewer, z), get_or-remove_above cores i d (k - 1) (omega (arith, z)) h ∙ there.1)))
+      (nat_le_or_lt k i))
+      (nat_le_or_lt (suc k) i)
 
   pub removed_law : (s t : CoreRow T W) (i : ℕ) → AreCores s → i < length s.cores → t.cores ≡ remove s.cores i → t.next ≡ s.next → t.noted ≡ s.noted → AreCores t
   removed_law s t i law h cores next noted =

@@ -262,7 +262,7 @@ module _ {T W : Type 0} where
     pub stood : (o : EntryId) (e : Entry T) → Elsewhere o e → HasEntry s o e
     stood o e z = (z.0, z.1, z.3, z.4)
 
-    never : (o : EntryId) (e : Entry T) → o.shard ≡ b.shard → Elsewhere o e → ⊥
+    pub never : (o : EntryId) (e : Entry T) → o.shard ≡ b.shard → Elsewhere o e → ⊥
     never o e number z = z.2 (law.apart z.0 i z.1 b z.3 at (sym z.4.shard ∙ number))
 
     others_in : (left came : EntryId) → OthersStand (IsThere b) (IsThere c) left came → OthersStand (HasEntry s) (HasEntry (with_core s i c)) left came

@@ -1,5 +1,7 @@
 -- A store under its users' ids.
-use Rattle.std.proofs.Common.{◌≡◌, ◌≢◌, ◌⊎◌, ℕ, ◌<◌, ◌≤◌, ◌+◌, Bool, true, false, List, length, remove, IfSome, IfNone, IfErr, OnOk, is_some, Option, MatchOption, Some, None, Result, Ok, Err, IfOk, OnErr, refl, sym, ap, ◌∙◌, subst, inl, inr, ⊎_elim}
+use Rattle.std.proofs.Common.{◌≡◌, ◌≢◌, ◌⊎◌, ℕ, ◌<◌, ◌≤◌, ◌+◌, Bool, true, false, List, length, remove, IfSome, IfNone, IfErr, OnOk, is_some, Option, MatchOption, Some, None, Result, Ok, Err, IfOk, OnErr, refl, sym, ap, ◌∙◌, subst, inl, inr, ⊎_elim, arith}
+use mathlib.Core.Logic.{dite}
+use native.Mathlib.Decide.{ℕ_discrete}
 use Rattle.dq_ticks.specs.declared.keys.Key.{Key}
 use Rattle.dq_ticks.specs.declared.keys.EntryId.{EntryId}
 use Rattle.dq_core.specs.declared.errors.CoreError.{CoreError}
@@ -17,12 +19,12 @@ use Rattle.dq_core.proofs.Ways.{table_row_is}
 use Rattle.dq_core.specs.Machine.{Entry, table_at}
 use Rattle.dq_growing.specs.Cores.{CoreRow, AreCores, IsCoreAt, HasAt, HasNo, OnCoreOr, OnCoreAt, IsMissingIn, InsertsIn, InsertsBeside, closed_error, missing_error}
 use Rattle.dq_growing.specs.Stands.{IsThere, IsPastAt, IsPastIn, IsAheadIn, Ages, HasEntry, SameStand, OneChanges, OneLeaves, OneComes}
-use Rattle.dq_growing.specs.Moving.{IfTo, IfCameOut, GoesOnIn}
+use Rattle.dq_growing.specs.Moving.{IfTo, IfCameOut, GoesOnIn, HasBegunIn}
 use Rattle.dq_growing.specs.declared.moving.Moved.{Moved}
 use Rattle.dq_growing.specs.declared.moving.Moved.TheVariants.{To, Out}
 use Rattle.dq_growing.specs.Polls.{TakesDeferredIn}
 use Rattle.dq_growing.specs.Notes.{Book, AreNotes, SameNotes, Forgets, IsNoted, with_id, or_own, user_at, place_by, meant_place}
-use Rattle.dq_growing.specs.Store.{entry_told, TellsPlaceFor, TakeRefusedFor, TellsFirstIn, TellsFrom, HasFor, NoneStandsFor, ChangesFor, NotesAfter, answer_as, NotesAnswered, AfterReset, ResetsFor, GoesOnFor, StoreState, IsStore, StandsFor, KeysAreApart, RemovesFor, ComesFor, removed_as, ResetsThere, reset_as}
+use Rattle.dq_growing.specs.Store.{entry_told, TellsPlaceFor, TakeRefusedFor, TellsFirstIn, TellsFrom, HasFor, NoneStandsFor, ChangesFor, NotesAfter, answer_as, NotesAnswered, AfterReset, ResetsFor, GoesOnFor, HasBegunFor, StoreState, IsStore, StandsFor, KeysAreApart, RemovesFor, ComesFor, removed_as, ResetsThere, reset_as}
 use Rattle.dq_growing.specs.declared.cores.TakeError.{TakeError}
 use Rattle.dq_growing.specs.Notes.{ArePastIn, AllArePast}
 use Rattle.dq_core.specs.AtTheCall.{linked_in}
@@ -30,8 +32,8 @@ use Rattle.dq_core.specs.Slots.{row_at}
 use Rattle.dq_core.specs.declared.slots.Held.{Held}
 use Rattle.dq_ticks.specs.declared.words.Parts.{Parts}
 use Rattle.dq_core.proofs.Renewing.{none_held_at}
-use Rattle.dq_growing.specs.Cores.{GivesDrained, NoneDrained, TakesIn, TakeRefused, opened_without}
-use Rattle.dq_growing.proofs.Rows.{one_at, removed_at, at_snoc}
+use Rattle.dq_growing.specs.Cores.{GivesDrained, NoneDrained, TakesIn, TakeRefused}
+use Rattle.dq_growing.proofs.Rows.{one_at, removed_at, removed_from, at_snoc}
 use Rattle.dq_growing.proofs.Leasts.{some_not_none}
 use Rattle.dq_growing.proofs.Pairing.{one_or_two}
 use Rattle.dq_growing.proofs.Standing.{some_is, comes_there, comes_in, inserted_ahead}
@@ -39,7 +41,7 @@ use Rattle.dq_growing.proofs.Moves.{other_key, ok_not_err, found_refused, taken_
 use Rattle.dq_growing.proofs.Aging.{AgesAt, ages_in, all_age, resets_age, ages_on, inserts_number, inserts_run}
 
 -- what is noted of a place, and its user's id
-by_note : (p : EntryId) (o : Option EntryId) → ((o ≡ None) × (or_own p o ≡ p)) ⊎ ((w : EntryId) × (o ≡ Some w) × (or_own p o ≡ w))
+pub by_note : (p : EntryId) (o : Option EntryId) → ((o ≡ None) × (or_own p o ≡ p)) ⊎ ((w : EntryId) × (o ≡ Some w) × (or_own p o ≡ w))
 by_note p None = inl (refl, refl)
 by_note p (Some w) = inr (w, refl, refl)
 
@@ -71,7 +73,7 @@ forgets_fewer n m p (Some w) f u q at =
     (λ (ne : u ≢ w). sym (f.places.else u ne) ∙ at)
     (one_or_two u w)
 
-forgets_user : (n m : Book) (p : EntryId) (o : Option EntryId) → Forgets n p o m → (q : EntryId) → q ≢ p → user_at m q ≡ user_at n q
+pub forgets_user : (n m : Book) (p : EntryId) (o : Option EntryId) → Forgets n p o m → (q : EntryId) → q ≢ p → user_at m q ≡ user_at n q
 forgets_user n m p None f q ne = ap (or_own q) (f.1.1 q)
 forgets_user n m p (Some w) f q ne = ap (or_own q) (f.users.else q ne)
 
@@ -192,9 +194,9 @@ module _ {T W : Type 0} where
       }
 
   -- an insert
-  ages_insert : (s t : CoreRow T W) (v : T) (when : ℕ) (r : Result Key (CoreError × T) × Option T) → AreCores s → InsertsIn s v when r t → Ages s t
+  pub ages_insert : (s t : CoreRow T W) (v : T) (when : ℕ) (r : Result Key (CoreError × T) × Option T) → AreCores s → InsertsIn s v when r t → Ages s t
   ages_insert s t v when r law (inl on) = ages_on s t s.opened (InsertsBeside v when r) law on (λ b c did. (inserts_number v when r.0 b c did.0, inserts_run v when r.0 b c did.0))
-  ages_insert s t v when r law (inr y) = let A : CoreRow T W → Type 0 = λ k. Ages s k in subst A (sym y.2) (λ id past. (past, λ e z. (e, z, refl)))
+  ages_insert s t v when r law (inr y) = let A : CoreRow T W → Type 0 = λ k. Ages s k in subst A (sym y.2) (all_age s)
 
   pub law_inserts : (s : StoreState T W) (cores : CoreRow T W) (v : T) (when : ℕ) (r : Result Key (CoreError × T) × Option T) → IsStore s → AreCores s.cores
       → InsertsIn s.cores v when r cores → IsStore (stored cores s.notes)
@@ -230,7 +232,7 @@ module _ {T W : Type 0} where
   removal_refused shared s cores u p e at did = inl (p, at, (found_refused shared s.cores cores p e did, refl))
 
 -- notes for which memory was taken are the same notes
-reserved_forgets : (n k m : Book) (p : EntryId) (o : Option EntryId) → SameNotes n k → Forgets k p o m → Forgets n p o m
+pub reserved_forgets : (n k m : Book) (p : EntryId) (o : Option EntryId) → SameNotes n k → Forgets k p o m → Forgets n p o m
 reserved_forgets n k m p None same f = (sym (same.1 p) ∙ f.0, ((λ u. f.1.0 u ∙ same.0 u), (λ u. f.1.1 u ∙ same.1 u)))
 reserved_forgets n k m p (Some w) same f = record {
   was = sym (same.1 p) ∙ f.was;
@@ -246,7 +248,7 @@ reserved_noted n k m u p same f = record {
   else = λ q ne of. f.else q ne (λ e. of (sym (same.1 q) ∙ e)) ∙ same.1 q;
 }
 
-then_same : (n k m : Book) → SameNotes n k → SameNotes k m → SameNotes n m
+pub then_same : (n k m : Book) → SameNotes n k → SameNotes k m → SameNotes n m
 then_same n k m one two = ((λ u. two.0 u ∙ one.0 u), (λ u. two.1 u ∙ one.1 u))
 
 -- where a user's id means a place: the place is noted, or it is the id itself and nothing is noted
@@ -387,6 +389,12 @@ module _ {T W : Type 0} where
     moved_goes (Ok (Out x)) noted goes = tt {0}
     moved_goes (Err e) noted goes = tt {0}
 
+    pub moved_begun : (begun : W → ℕ → ℕ → ℕ → Type 0) (made : Result (Moved T) CoreError) → NotesAnswered n u p made m
+        → IfOk made (λ x. IfTo x (λ k d. HasBegunIn begun s.cores k d cores)) → IfOk (answer_as u made) (λ x. IfTo x (λ k d. HasBegunFor begun s k d (stored cores m)))
+    moved_begun begun (Ok (To k d)) noted has = (k.entry, ap (or_own k.entry) noted.here, has)
+    moved_begun begun (Ok (Out x)) noted has = tt {0}
+    moved_begun begun (Err e) noted has = tt {0}
+
     pub moved_out : (made : Result (Moved T) CoreError) → NotesAnswered n u p made m → IfOk made (λ x. IfCameOut x (λ y. OneLeaves (HasEntry s.cores) (HasEntry cores) p y.value))
         → IfOk (answer_as u made) (λ x. IfCameOut x (λ y. OneLeaves (StandsFor s) (StandsFor (stored cores m)) u y.value))
     moved_out (Ok (To k d)) noted leaves = tt {0}
@@ -419,25 +427,33 @@ module _ {T W : Type 0} where
       → AfterReset shared (stored m s.notes) u when made r t → ResetsFor shared s u when r t
   resets_for shared s u p when made m r t at did after = inl (p, at, (made, m, did, after))
 
-  -- fewer cores
-  same_or_fewer : (s t : CoreRow T W) → ((j : ℕ) (d : Core T W) → IsCoreAt t.cores j d → (i : ℕ) × IsCoreAt s.cores i d) → Ages s t
-  same_or_fewer s t from id past = (
-    (λ j d x number. let i = from j d x in past i.0 d i.1 number),
-    (λ e z. let i = from z.0 z.1 z.2 in (e, (i.0, z.1, i.1, z.3), refl)),
-  )
-
-  pub law_gives : (s : StoreState T W) (cores : CoreRow T W) (c : Core T W) → IsStore s → GivesDrained s.cores c cores → IsStore (stored cores s.notes)
-  law_gives s cores c law gives =
-      let i = gives.place in
-      let inside = gives.drained.0.0 in
-      let from : (j : ℕ) (d : Core T W) → IsCoreAt (remove s.cores.cores i) j d → (k : ℕ) × IsCoreAt s.cores.cores k d = λ j d x.
+  -- a core fewer
+  fewer_cores : (s t : CoreRow T W) (i : ℕ) → AreCores s → i < length s.cores → t.cores ≡ remove s.cores i → t.next ≡ s.next → Ages s t
+  fewer_cores s t i law inside is next =
+      let L : List (Core T W) → Type 0 = λ l. (j : ℕ) (d : Core T W) → IsCoreAt l j d → (k : ℕ) × (k ≢ i) × IsCoreAt s.cores k d in
+      let from : L t.cores = subst L (sym is) (λ j d x.
       ⊎_elim
-      (λ (y : (j < i) × IsCoreAt s.cores.cores j d). (j, y.1))
-      (λ (y : (i ≤ j) × IsCoreAt s.cores.cores (j + 1) d). (j + 1, y.1))
-      (removed_at s.cores.cores i j d inside x)
-      in
-      let P : CoreRow T W → Type 0 = λ t. Ages s.cores t in
-      law_same_notes s cores law (subst P (sym gives.rest) (same_or_fewer s.cores (record s.cores { cores = remove s.cores.cores i; opened = opened_without s.cores.opened i }) from))
+      (λ (y : (j < i) × IsCoreAt s.cores j d). let below = y.0 in (j, (λ same. absurd (omega (arith, below, same))), y.1))
+      (λ (y : (i ≤ j) × IsCoreAt s.cores (j + 1) d). let above = y.0 in (j + 1, (λ same. absurd (omega (arith, above, same))), y.1))
+      (removed_at s.cores i j d inside x)) in
+      let R : List (Core T W) → Type 0 = λ l. (k : ℕ) (d : Core T W) → k ≢ i → IsCoreAt s.cores k d → (j : ℕ) × IsCoreAt l j d in
+      let to : R t.cores = subst R (sym is) (λ k d ne x. removed_from s.cores i k d inside ne x) in
+      λ id past. (
+        (λ j d x number. let k = from j d x in past k.0 d k.2 number),
+        (λ e z. let k = from z.0 z.1 z.2 in (e, (k.0, z.1, k.2, z.3), refl)),
+        (λ e z. dite (ℕ_discrete z.0 i)
+            (λ here. inr (λ f y. let k = from y.0 y.1 y.2 in k.1 (law.apart k.0 z.0 y.1 z.1 k.2 z.2 (sym y.3.shard ∙ z.3.shard) ∙ here)))
+            (λ far. let j = to z.0 z.1 far z.2 in inl (e, (j.0, z.1, j.1, z.3), refl))),
+        (λ n. rw next n),
+      )
+
+  gives_ages : (s t : CoreRow T W) (c : Core T W) → AreCores s → GivesDrained s c t → Ages s t
+  gives_ages s t c has gives =
+      fewer_cores s t gives.place has gives.drained.0.0 (ap (λ k. k.cores) gives.rest) (ap (λ k. k.next) gives.rest)
+
+  pub given_ages : (s t : CoreRow T W) (o : Option (Core T W)) → AreCores s → IfSome o (λ c. GivesDrained s c t) → IfNone o (NoneDrained s × (t ≡ s)) → Ages s t
+  given_ages s t (Some c) has gives none = gives_ages s t c has gives
+  given_ages s t None has gives none = let P : CoreRow T W → Type 0 = λ k. Ages s k in subst P (sym none.1) (all_age s)
 
   -- nothing stands in a core in which nothing is linked
   pub unlinked : (c : Core T W) → IsLawfulCore c → linked_in c ≡ 0 → (u : EntryId) (e : Entry T) → IsThere c u e → ⊥
@@ -476,10 +492,9 @@ module _ {T W : Type 0} where
   law_answers s cores c (Ok x) law lawful takes refused users_past places_past = law_takes s cores c law lawful takes users_past places_past
   law_answers s cores c (Err e) law lawful takes refused users_past places_past = let P : CoreRow T W → Type 0 = λ t. IsStore (stored t s.notes) in subst P (sym refused.2) law
 
-  pub law_given : (s : StoreState T W) (cores : CoreRow T W) (o : Option (Core T W)) → IsStore s → IfSome o (λ c. GivesDrained s.cores c cores)
+  pub law_given : (s : StoreState T W) (cores : CoreRow T W) (o : Option (Core T W)) → IsStore s → AreCores s.cores → IfSome o (λ c. GivesDrained s.cores c cores)
       → IfNone o (NoneDrained s.cores × (cores ≡ s.cores)) → IsStore (stored cores s.notes)
-  law_given s cores (Some c) law gives none = law_gives s cores c law gives
-  law_given s cores None law gives none = let P : CoreRow T W → Type 0 = λ t. IsStore (stored t s.notes) in subst P (sym none.1) law
+  law_given s cores o law has gives none = law_same_notes s cores law (given_ages s.cores cores o has gives none)
 
 pub on_ok : {X E P : Type 0} (r : Result X E) → P → OnOk r P
 on_ok {X} {E} {P} (Ok x) p = p
@@ -496,14 +511,18 @@ module _ {T W : Type 0} where
   pub law_closes : (s : StoreState T W) (cores : CoreRow T W) (place : ℕ) → IsStore s → cores ≡ record s.cores { opened = place } → IsStore (stored cores s.notes)
   law_closes s cores place law closes = law_same_notes s cores law (opened_ages s.cores cores place closes)
 
+  pub opens_age : (s t : CoreRow T W) (o : Bool) (place : ℕ) → (o ≡ true → (place < length s.cores) × (t ≡ record s { opened = place }))
+      → (o ≡ false → (length s.cores ≤ place) × (t ≡ s)) → Ages s t
+  opens_age s t true place opens refused = opened_ages s t place (opens refl).1
+  opens_age s t false place opens refused = let P : CoreRow T W → Type 0 = λ k. Ages s k in subst P (sym (refused refl).1) (all_age s)
+
   pub law_opens : (s : StoreState T W) (cores : CoreRow T W) (o : Bool) (place : ℕ) → IsStore s
       → (o ≡ true → (place < length s.cores.cores) × (cores ≡ record s.cores { opened = place }))
       → (o ≡ false → (length s.cores.cores ≤ place) × (cores ≡ s.cores)) → IsStore (stored cores s.notes)
-  law_opens s cores true place law opens refused = law_same_notes s cores law (opened_ages s.cores cores place (opens refl).1)
-  law_opens s cores false place law opens refused = law_same_cores s cores law (refused refl).1
+  law_opens s cores o place law opens refused = law_same_notes s cores law (opens_age s.cores cores o place opens refused)
 
   -- a value that was deferred is taken out
-  deferred_ages : (s t : CoreRow T W) (o : Option T) → AreCores s → TakesDeferredIn s o t → Ages s t
+  pub deferred_ages : (s t : CoreRow T W) (o : Option T) → AreCores s → TakesDeferredIn s o t → Ages s t
   deferred_ages s t None has did = let P : CoreRow T W → Type 0 = λ k. Ages s k in subst P (sym did.1) (all_age s)
   deferred_ages s t (Some v) has did =
       let on = did.1 in
@@ -512,7 +531,8 @@ module _ {T W : Type 0} where
       let same : c ≡ record b { deferred = c.deferred } = on.did.1 in
       let number : c.shard ≡ b.shard = ap (λ k. k.shard) same in
       let P : Core T W → Type 0 = λ k. AgesAt b k in
-      let ages : AgesAt b c = subst P (sym same) (λ id past. (past, λ e x. (e, record { shard = x.shard; linked = x.linked; born = x.born }, refl))) in
+      let ages : AgesAt b c = subst P (sym same) (λ id past.
+      (past, (λ e x. (e, record { shard = x.shard; linked = x.linked; born = x.born }, refl)), (λ e x. inl (e, record { shard = x.shard; linked = x.linked; born = x.born }, refl)))) in
       let Q : CoreRow T W → Type 0 = λ k. Ages s k in
       subst Q (sym on.rest) (ages_in s did.0 b c has on.at number ages)
 

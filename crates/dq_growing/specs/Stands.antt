@@ -1,5 +1,5 @@
 -- Which entries stand in a store, and how one comes, leaves or goes on.
-use Rattle.std.specs.Prelude.{◌≡◌, ◌≢◌, ℕ, ◌<◌, ◌≤◌, Some}
+use Rattle.std.specs.Prelude.{◌≡◌, ◌≢◌, ◌⊎◌, ℕ, ◌<◌, ◌≤◌, Some}
 use Rattle.dq_ticks.specs.declared.keys.EntryId.{EntryId}
 use Rattle.dq_core.specs.Core.{Core, machine}
 use Rattle.dq_core.specs.Machine.{Entry, table_at}
@@ -31,13 +31,27 @@ IsAheadIn {T} {W} s id =
     (c : Core T W) × HasAt s.cores id.shard s.opened c
     × ((table_at (machine c) id.index).stamp < id.born)
 
--- an id that is past stays past, and what stands under it stood under it before, with the same value:
--- so no new entry gets an id that one has had
-abbrev pub Ages : {T W : Type 0} → CoreRow T W → CoreRow T W → Type 0
-Ages {T} s t =
-    (id : EntryId) → IsPastIn s id →
+-- no entry stands in a store under an id
+abbrev pub HasNoEntry : {T W : Type 0} → CoreRow T W → EntryId → Type 0
+HasNoEntry {T} s id = (e : Entry T) → ¬ HasEntry s id e
+
+-- under an id an entry stands with that one's value
+abbrev pub StandsAlike : {T : Type 0} → (EntryId → Entry T → Type 0) → EntryId → Entry T → Type 0
+StandsAlike {T} A id e = (f : Entry T) × A id f × (f.value ≡ e.value)
+
+-- an id that is past stays past, and its number stays a used one; what stands under it stood under it
+-- before, with the same value; and what stood stands still, or nothing stands there
+abbrev pub AgesAs : {T W : Type 0} → CoreRow T W → CoreRow T W → EntryId → Type 0
+AgesAs {T} s t id =
+    IsPastIn s id →
     IsPastIn t id
-    × ((e : Entry T) → HasEntry t id e → (f : Entry T) × HasEntry s id f × (f.value ≡ e.value))
+    × ((e : Entry T) → HasEntry t id e → StandsAlike (HasEntry s) id e)
+    × ((e : Entry T) → HasEntry s id e → StandsAlike (HasEntry t) id e ⊎ HasNoEntry t id)
+    × (id.shard < s.next → id.shard < t.next)
+
+-- so of each id: no new entry gets an id that one has had
+abbrev pub Ages : {T W : Type 0} → CoreRow T W → CoreRow T W → Type 0
+Ages s t = (id : EntryId) → AgesAs s t id
 
 -- what follows is said of what stands before and after, be it in a core or in a store
 module _ {T : Type 0} (A B : EntryId → Entry T → Type 0) where
@@ -50,8 +64,8 @@ module _ {T : Type 0} (A B : EntryId → Entry T → Type 0) where
   -- each entry stands with its value as before, and there is no other
   abbrev pub SameStand : Type 0
   SameStand =
-      ((o : EntryId) (e : Entry T) → A o e → (f : Entry T) × B o f × (f.value ≡ e.value))
-      × ((o : EntryId) (e : Entry T) → B o e → (f : Entry T) × A o f × (f.value ≡ e.value))
+      ((o : EntryId) (e : Entry T) → A o e → StandsAlike B o e)
+      × ((o : EntryId) (e : Entry T) → B o e → StandsAlike A o e)
 
   -- one entry left, with its value; every other stays
   pub record OneLeaves (id : EntryId) (v : T) : Type 0 where

@@ -24,7 +24,7 @@ use Rattle.dq_core.specs.Readers.{TellsLeast, TellsFirst}
 use Rattle.dq_growing.specs.Cores.{CoreRow, IsCoreAt, OnCoreOr, TakeRefused, missing_error}
 use Rattle.dq_growing.specs.Polls.{PollsRow, PeeksIn}
 use Rattle.dq_growing.specs.Stands.{HasEntry, IsPastIn, OneChanges, OneComes, OthersStand}
-use Rattle.dq_growing.specs.Moving.{IsTakenOut, IsBaseIn, Relocates}
+use Rattle.dq_growing.specs.Moving.{IsTakenOut, IsBaseIn, Relocates, HasBegunIn}
 use Rattle.dq_growing.specs.Notes.{Book, AreNotes, AllArePast, SameNotes, LosesNote, IsNoted}
 use Rattle.dq_growing.specs.Notes.{with_id, user_at, meant_place}
 use Rattle.dq_growing.specs.declared.cores.TakeError.{TakeError}
@@ -125,6 +125,14 @@ module _ {T W : Type 0} where
   abbrev pub HasFor : StoreState T W → EntryId → T → Type 0
   HasFor s u v = (e : Entry T) × StandsFor s u e × (e.value ≡ v)
 
+  -- what stands under a user's id has one value
+  abbrev pub HasOneValue : StoreState T W → EntryId → Type 0
+  HasOneValue s u = (v w : T) → HasFor s u v → HasFor s u w → v ≡ w
+
+  -- an entry stood under a user's id with that value, and none stands under it any more
+  abbrev pub GoesOut : StoreState T W → EntryId → T → StoreState T W → Type 0
+  GoesOut s u v t = HasFor s u v × NoneStandsFor t u
+
   -- of the value of the entry that stands under a user's id a change made another, with that
   -- answer; where none stands, no answer comes, and nothing changes
   abbrev pub ChangesFor : {R : Type 0} → (T → R → T → Type 0) → StoreState T W → EntryId →
@@ -196,6 +204,13 @@ module _ {T W : Type 0} where
     pub was : (e : Entry T) × StandsFor s u e × (e.value ≡ value)
     pub here : InForce t u base value
     pub others : OthersStand (StandsFor s) (StandsFor t) u u
+
+  -- where a user's entry is, the words' keeper has begun its key's stamp with that deadline, raised to
+  -- the tick of the core
+  abbrev pub HasBegunFor : (W → ℕ → ℕ → ℕ → Type 0) → StoreState T W → Key → ℕ → StoreState T W →
+      Type 0
+  HasBegunFor begun s k d t =
+      (p : EntryId) × (user_at t.notes p ≡ k.entry) × HasBegunIn begun s.cores (key_as p k) d t.cores
 
   -- a move from a place, and its note
   abbrev pub RelocatesAt : Bool → StoreState T W → EntryId → NextDeadline →

@@ -13,6 +13,7 @@ ghost use Rattle.dq_growing.specs.Stands.{IsThere, IsPastAt, IsPastIn, HasEntry,
 ghost use Rattle.dq_ticks.specs.declared.TheConstants.{LAST_TICK};
 ghost use Rattle.dq_growing.specs.declared.cores.TakeError.TheVariants.{NoMemory};
 ghost use Rattle.dq_core.specs.Folds.{IsFoldable};
+ghost use Rattle.dq_growing.specs.Moving.{HasBegunIn};
 ghost use Rattle.dq_growing.specs.Cores.{MayComeIn, CoreRow, AreCores, IsCoreAt, HasAt, HasNo, OnCoreOr, HoldsIn, IsMissingIn, InsertsIn, TellsNextIn, TakesIn, TakeRefused, HasDrained, GivesDrained, NoneDrained, closed_error, missing_error, opened_without};
 
 use crate::least::Turns;
@@ -363,6 +364,7 @@ impl<T, W: Words, A: Allocator> Cores<T, W, A> {
 
         // Exactly: an insert into the open core, and nothing else changes.
         ensures inserts { InsertsIn self.old value when result self.new }
+        ensures begins { IfOk result.0 (λ k. HasBegunIn W.begun self.old k when self.new) }
         ensures words { KeepsWords W.origin W.begun self.old self.new }
     {
         if self.opened >= self.cores.len() {

@@ -3,11 +3,12 @@
 ghost use Rattle.dq_core.specs.declared.errors.CoreError.TheVariants.{Worn};
 ghost use Rattle.std.specs.Prelude.{◌≡◌, ◌↔◌, IsTrue, IfSome, IfNone, IfErr, IfOk, OnOk, OnErr, Ok, Err, None, Some};
 ghost use Rattle.dq_growing.specs.Cores.{InsertsIn, TakesIn, GivesDrained, NoneDrained};
+ghost use Rattle.dq_growing.specs.Runs.{GivesId, KeepsIds, KeepsIdsBeside};
 ghost use Rattle.dq_ticks.specs.Keys.{EntryName};
 ghost use Rattle.dq_growing.specs.Stands.{OneLeaves, SameStand, KeepsWords};
-ghost use Rattle.dq_growing.specs.Store.{key_as, key_told, removed_as, expired_as, moved_as, answer_as, NotesMoved, NotesAnswered, IsStore, KeysAreApart, StandsFor, ComesFor, GoesOnFor, RemovesFor, TellsFor, RelocatesFor, PollsFor, PeeksFor, piece_as, NotesAfter, ReapsFor, ResetsFor, TakeRefusedFor, TellsPlaceFor, ResetsThere};
-ghost use Rattle.dq_growing.specs.Moving.{IfTo, IfCameOut};
-ghost use Rattle.dq_growing.specs.Polls.{DoesPoll, DoesPiece};
+ghost use Rattle.dq_growing.specs.Store.{key_as, key_told, removed_as, expired_as, moved_as, answer_as, NotesMoved, NotesAnswered, IsStore, KeysAreApart, StandsFor, ComesFor, GoesOnFor, RemovesFor, TellsFor, RelocatesFor, PollsFor, PeeksFor, piece_as, NotesAfter, ReapsFor, ResetsFor, TakeRefusedFor, TellsPlaceFor, ResetsThere, HasBegunFor, HasOneValue, GoesOut};
+ghost use Rattle.dq_growing.specs.Moving.{IfTo, IfCameOut, HasBegunIn};
+ghost use Rattle.dq_growing.specs.Polls.{DoesPoll, DoesPiece, IfPieceOut};
 ghost use Rattle.dq_growing.specs.Notes.{HasNoteRoom, AllArePast, user_at, with_id};
 
 use crate::cores::{Cores, TakeError, missing_at};
@@ -186,8 +187,9 @@ impl<T, W: Words, A: Allocator + Clone> Store<T, W, A> {
     pub fn law(&self)
         ensures law { IsStore self.now }
         ensures apart { KeysAreApart self.now }
+        ensures one { (id : EntryName) → HasOneValue self.now id }
     {
-        let _ = &self.cores;
+        self.cores.law();
     }
 
     /// Puts `value` in, to come out at the tick `when` of one millisecond, and returns its key. No value is dropped: one
@@ -205,8 +207,14 @@ impl<T, W: Words, A: Allocator + Clone> Store<T, W, A> {
 
         // Exactly: an insert into the open core, and the same notes.
         ensures inserts { InsertsIn self.old.cores value when result self.new.cores }
+        ensures begins { IfOk result.0
+            (λ k. HasBegunIn W.begun self.old.cores k when self.new.cores) }
         ensures notes { self.new.notes ≡ self.old.notes }
         ensures words { KeepsWords W.origin W.begun self.old.cores self.new.cores }
+
+        // No entry had had its id. No call gives an id anew, and the entry of each stands or has left.
+        ensures gives { IfOk result.0 (λ k. GivesId self.old k.entry self.new) }
+        ensures keeps { KeepsIds self.old self.new }
     {
         self.cores.law();
         let answer = self.cores.insert(value, when);
@@ -231,6 +239,7 @@ impl<T, W: Words, A: Allocator + Clone> Store<T, W, A> {
         // Exactly: a removal at the place that the notes tell, of which no note is left.
         ensures removes { RemovesFor W.shared self.old entry.now result self.new }
         ensures words { KeepsWords W.origin W.begun self.old.cores self.new.cores }
+        ensures keeps { KeepsIds self.old self.new }
     {
         let Some(place) = self.notes.place(entry) else {
             return Err(CoreError::Missing);
@@ -254,6 +263,7 @@ impl<T, W: Words, A: Allocator + Clone> Store<T, W, A> {
     pub fn deadline(&mut self, entry: &EntryId) -> Result<u64, CoreError>
         ensures tells { TellsFor W.shared self.old entry.now result self.new }
         ensures words { KeepsWords W.origin W.begun self.old.cores self.new.cores }
+        ensures keeps { KeepsIds self.old self.new }
     {
         let Some(place) = self.notes.place(entry) else {
             return Err(CoreError::Missing);
@@ -283,6 +293,8 @@ impl<T, W: Words, A: Allocator + Clone> Store<T, W, A> {
         // It goes on under its id, with its value and the deadline told. No other entry changes.
         ensures goes_on { IfOk result.0 (λ moved. IfTo moved (λ key deadline.
             (key.entry ≡ entry.now) × GoesOnFor self.old entry.now deadline self.new)) }
+        ensures begins { IfOk result.0 (λ moved. IfTo moved (λ key deadline.
+            HasBegunFor W.begun self.old key deadline self.new)) }
 
         // Or it comes out, with its value.
         ensures came_out { IfOk result.0 (λ moved. IfCameOut moved (λ x.
@@ -294,6 +306,7 @@ impl<T, W: Words, A: Allocator + Clone> Store<T, W, A> {
         // Exactly: a move from the place that the notes tell, and its note; or which refusal comes.
         ensures relocates { RelocatesFor W.shared self.old entry.now next result self.new }
         ensures words { KeepsWords W.origin W.begun self.old.cores self.new.cores }
+        ensures keeps { KeepsIds self.old self.new }
     {
         let Some(place) = self.notes.place(entry) else {
             return (Err(CoreError::Missing), None);
@@ -302,7 +315,9 @@ impl<T, W: Words, A: Allocator + Clone> Store<T, W, A> {
             self.notes.law();
             return (Err(CoreError::NoMemory), None);
         }
+        self.cores.law();
         let (answer, beside) = self.cores.relocate(&place, next);
+        self.cores.law();
         let answer = note_answer(&mut self.notes, entry, &place, answer);
         self.notes.law();
         (answer, beside)
@@ -317,8 +332,12 @@ impl<T, W: Words, A: Allocator + Clone> Store<T, W, A> {
     pub fn poll(&mut self, tick: u64) -> Result<Piece<T>, CoreError>
         // Exactly: a poll of the cores. What comes out has its user's key, and leaves no note.
         ensures polls { PollsFor (DoesPoll W.shared) self.old tick result self.new }
+        ensures goes_out { IfPieceOut result
+            (λ x. GoesOut self.old x.key.entry x.value self.new) }
         ensures words { KeepsWords W.origin W.begun self.old.cores self.new.cores }
+        ensures keeps { KeepsIds self.old self.new }
     {
+        self.cores.law();
         let made = self.cores.poll(tick);
         let answer = note_out(&mut self.notes, made);
         self.notes.law();
@@ -334,8 +353,12 @@ impl<T, W: Words, A: Allocator + Clone> Store<T, W, A> {
     pub fn poll_some(&mut self, tick: u64, most: u32) -> Result<Piece<T>, CoreError>
         // Exactly: a piece of a poll of the cores. What comes out has its user's key, and leaves no note.
         ensures polls { PollsFor (DoesPiece W.shared most) self.old tick result self.new }
+        ensures goes_out { IfPieceOut result
+            (λ x. GoesOut self.old x.key.entry x.value self.new) }
         ensures words { KeepsWords W.origin W.begun self.old.cores self.new.cores }
+        ensures keeps { KeepsIds self.old self.new }
     {
+        self.cores.law();
         let made = self.cores.poll_some(tick, most);
         let answer = note_out(&mut self.notes, made);
         self.notes.law();
@@ -371,6 +394,7 @@ impl<T, W: Words, A: Allocator + Clone> Store<T, W, A> {
         // Exactly: a reset at the place that the notes tell, or a move from there.
         ensures resets { ResetsFor W.shared self.old entry.now when result self.new }
         ensures words { KeepsWords W.origin W.begun self.old.cores self.new.cores }
+        ensures keeps { KeepsIds self.old self.new }
     {
         let Some(place) = self.notes.place(entry) else {
             return (Err(missing_at(when)), None);
@@ -400,6 +424,7 @@ impl<T, W: Words, A: Allocator + Clone> Store<T, W, A> {
     pub fn reset_in_place(&mut self, entry: &EntryId, when: u64) -> Result<Key, CoreError>
         // Exactly: a reset at the place that the notes tell.
         ensures resets { ResetsThere W.shared self.old entry.now when result self.new }
+        ensures keeps { KeepsIds self.old self.new }
     {
         let Some(place) = self.notes.place(entry) else {
             return Err(missing_at(when));
@@ -420,6 +445,7 @@ impl<T, W: Words, A: Allocator + Clone> Store<T, W, A> {
         // Exactly: a reap at the place that the notes tell, of which no note is left.
         ensures reaps { ReapsFor W.shared self.old entry.now result self.new }
         ensures words { KeepsWords W.origin W.begun self.old.cores self.new.cores }
+        ensures keeps { KeepsIds self.old self.new }
     {
         let Some(place) = self.notes.place(entry) else {
             return Err(ReapError::Missing);
@@ -451,6 +477,7 @@ impl<T, W: Words, A: Allocator + Clone> Store<T, W, A> {
         ensures refused { IfErr result (λ e. TakeRefusedFor self.old core e.0) }
         ensures back { IfErr result (λ e. (e.1 ≡ core) × (self.new.cores ≡ self.old.cores)) }
         ensures notes { self.new.notes ≡ self.old.notes }
+        ensures keeps { KeepsIdsBeside core self.old self.new }
     {
         core.law();
         if !self.notes.are_past_in(&core) {
@@ -467,7 +494,9 @@ impl<T, W: Words, A: Allocator + Clone> Store<T, W, A> {
         ensures none { IfNone result (NoneDrained self.old.cores
             × (self.new.cores ≡ self.old.cores)) }
         ensures notes { self.new.notes ≡ self.old.notes }
+        ensures keeps { KeepsIds self.old self.new }
     {
+        self.cores.law();
         let core = self.cores.take_drained();
         core
     }

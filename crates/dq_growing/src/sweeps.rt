@@ -1,15 +1,35 @@
 //! Calls that free cancelled entries, and a clear.
 
-ghost use Rattle.std.specs.Prelude.{◌≡◌, ◌<◌, ◌≤◌, ◌+◌, MatchOption, Some, None, Err, length};
+ghost use Rattle.std.specs.Prelude.{◌≡◌, ◌<◌, ◌≤◌, ◌+◌, MatchOption, OnOk, Some, None, Err, length};
 ghost use Rattle.dq_core.specs.declared.errors.ReapError.TheVariants.{Missing};
+ghost use Rattle.dq_core.specs.Calls.{SameCore};
+ghost use Rattle.dq_core.specs.Core.{IsLawfulCore};
 ghost use Rattle.dq_core.specs.Sweeps.{Clears, Reaps};
-ghost use Rattle.dq_growing.specs.Stands.{Ages, KeepsWords};
+ghost use Rattle.dq_core.specs.Words.{StillBegun};
+ghost use Rattle.dq_growing.specs.Stands.{Ages, HasNoEntry, KeepsWords};
 ghost use Rattle.dq_growing.specs.Cores.{OnCoreAt, OnCoreOr, SweepsFrom};
 
 use crate::cores::Cores;
-use dq_core::{ReapError, Swept, Words};
+use dq_core::{DelayCore, ReapError, Swept, Words};
 use dq_ticks::EntryId;
 use std::alloc::Allocator;
+
+// Reaps the entry of that name in a core.
+fn reap_from<T, W: Words, A: Allocator>(
+    core: &mut DelayCore<T, W, A>,
+    entry: &EntryId,
+) -> Result<(), ReapError>
+    ensures lawful { IsLawfulCore core.new }
+    ensures reaps { Reaps W.shared core.old entry.now result core.new }
+    ensures noted { core.new.noted ≡ core.old.noted }
+    ensures same { SameCore core.old core.new }
+    ensures origin { W.origin core.new.words ≡ W.origin core.old.words }
+    ensures begun { StillBegun W.begun core.old.words core.new.words }
+{
+    let answer = core.reap_deferring(entry);
+    core.law();
+    answer
+}
 
 impl<T, W: Words, A: Allocator> Cores<T, W, A> {
     /// Reaps the entry of that name where it is found cancelled. Its value isn't dropped: it waits until it is taken
@@ -22,12 +42,13 @@ impl<T, W: Words, A: Allocator> Cores<T, W, A> {
         ensures ages { Ages self.old self.new }
         ensures reaps { OnCoreOr entry.now.shard (λ b c. Reaps W.shared b entry.now result c)
             (result ≡ Err Missing) self.old self.new }
+        ensures gone { OnOk result (HasNoEntry self.new entry.now) }
         ensures words { KeepsWords W.origin W.begun self.old self.new }
     {
         let Some(at) = self.place_of(entry.shard()) else {
             return Err(ReapError::Missing);
         };
-        let answer = self.cores[at].reap_deferring(entry);
+        let answer = reap_from(&mut self.cores[at], entry);
         answer
     }
 

@@ -5,6 +5,7 @@ ghost use Rattle.std.specs.Fn.{FnOnceReturnsAtMut};
 ghost use Rattle.dq_growing.specs.Cores.{OnCoreAt, SweepsFrom, TellsNextIn};
 ghost use Rattle.dq_growing.specs.Notes.{HasNoteRoom, SameNotes, meant_place};
 ghost use Rattle.dq_growing.specs.Polls.{TakesDeferredIn};
+ghost use Rattle.dq_growing.specs.Runs.{KeepsIds};
 ghost use Rattle.dq_growing.specs.Stands.{KeepsWords};
 ghost use Rattle.dq_growing.specs.Store.{ChangesFor, ChangesThere, HasFor, NoneStandsFor, TellsFirstIn, TellsFrom, TellsPlaceFor};
 
@@ -119,6 +120,7 @@ impl<T, W: Words, A: Allocator + Clone> Store<T, W, A> {
         ensures refused { result ≡ false → (length self.old.cores.cores ≤ place)
             × (self.new.cores ≡ self.old.cores) }
         ensures notes { self.new.notes ≡ self.old.notes }
+        ensures keeps { KeepsIds self.old self.new }
     {
         let opens = self.cores.open(place);
         opens
@@ -129,6 +131,7 @@ impl<T, W: Words, A: Allocator + Clone> Store<T, W, A> {
         ensures closes { self.new.cores
             ≡ record self.old.cores { opened = length self.old.cores.cores } }
         ensures notes { self.new.notes ≡ self.old.notes }
+        ensures keeps { KeepsIds self.old self.new }
     {
         self.cores.close();
     }
@@ -141,6 +144,7 @@ impl<T, W: Words, A: Allocator + Clone> Store<T, W, A> {
         ensures cores { self.new.cores ≡ self.old.cores }
         ensures notes { SameNotes self.old.notes self.new.notes }
         ensures room { OnOk result (HasNoteRoom self.new.notes) }
+        ensures keeps { KeepsIds self.old self.new }
     {
         self.cores.reserve(cores)?;
         let reserved = self.notes.reserve();
@@ -158,6 +162,7 @@ impl<T, W: Words, A: Allocator + Clone> Store<T, W, A> {
             (SweepsFrom W.shared from (from + count) swept) self.old.cores self.new.cores) }
         ensures notes { self.new.notes ≡ self.old.notes }
         ensures words { KeepsWords W.origin W.begun self.old.cores self.new.cores }
+        ensures keeps { KeepsIds self.old self.new }
     {
         let swept = self.cores.sweep_some(place, from, count);
         swept
@@ -168,6 +173,7 @@ impl<T, W: Words, A: Allocator + Clone> Store<T, W, A> {
         // One comes exactly while one waits, and nothing else changes.
         ensures takes { TakesDeferredIn self.old.cores result self.new.cores }
         ensures notes { self.new.notes ≡ self.old.notes }
+        ensures keeps { KeepsIds self.old self.new }
     {
         self.cores.law();
         let value = self.cores.take_deferred();

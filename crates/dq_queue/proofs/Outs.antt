@@ -1,10 +1,6 @@
 -- What a store's answers say of the true words.
-use Rattle.std.proofs.Common.{true, false, ◌≡◌, ◌⊎◌, ℕ, zero, suc, ◌+◌, ◌<◌, ◌≤◌, Bool, List, [], ◌∷◌, length, get_or, set, min, sym, refl, ap, ◌∙◌, subst, inl, inr, ⊎_elim, length-set, get_or-set_same, arith, nat_lt, nat_eq, if◌then◌else◌, Option, Some, None, Result, Ok, Err, IfOk}
-use Rattle.std.specs.List.{AllByRecursion}
-use Rattle.std.proofs.lemmas.List.{get_or-set_other}
+use Rattle.std.proofs.Common.{true, ◌≡◌, ◌⊎◌, ℕ, zero, suc, ◌+◌, ◌<◌, ◌≤◌, List, [], ◌∷◌, length, get_or, set, min, sym, refl, ap, ◌∙◌, subst, ⊎_elim, length-set, get_or-set_same, arith, Option, Some, None, Result, Ok, Err, IfOk}
 use Rattle.atomic_table.specs.Table.{State}
-use mathlib.Core.Logic.{dite}
-use native.Mathlib.Decide.{ℕ_discrete}
 use mathlib.Core.Option.{some, some-injective, some-ne-none}
 use lib.ListN.{get_elem?}
 use Rattle.dq_ticks.specs.declared.keys.EntryId.{EntryId}
@@ -20,13 +16,13 @@ use Rattle.dq_core.specs.declared.outcomes.Piece.{Piece}
 use Rattle.dq_core.specs.declared.outcomes.Piece.TheVariants.{Answer, Working}
 use Rattle.dq_core.specs.Core.{Core, IsLawfulCore, table_of, machine}
 use Rattle.dq_core.specs.Calls.{IsTurn, TurnRow, noting, Inserts}
-use Rattle.dq_core.specs.Machine.{Machine, Entry, TableRow, Event, Note, Pass, Insert, Reset, Extend, Cancel, Remove, Reap, Expire, Has, Step, Run, RunOf, IsOnTheWay, table_at, put, with_due}
+use Rattle.dq_core.specs.Machine.{Machine, Entry, RunOf, IsOnTheWay, table_at}
 use Rattle.dq_growing.specs.Cores.{CoreRow, IsCoreAt, HasAt, EachOf, OnCoreAt, InsertsBeside, IsClosed, closed_error}
-use Rattle.dq_growing.specs.Notes.{Book, with_id, or_own, user_at, place_by, meant_place}
+use Rattle.dq_growing.specs.Notes.{with_id, or_own, user_at, place_by, meant_place}
 use Rattle.dq_growing.specs.Stands.{HasEntry, KeepsWords}
-use Rattle.dq_growing.specs.Polls.{PollsRow, PollsCore, DoesPiece, IfPieceOut, noting_in, told}
+use Rattle.dq_growing.specs.Polls.{PollsRow, PollsCore, DoesPiece, IfPieceOut, noting_in}
 use Rattle.dq_growing.specs.Store.{StoreState, IsStore, expired_as, piece_as}
-use Rattle.dq_growing.proofs.Leasts.{some_not_none}
+use Rattle.dq_growing.proofs.Keeping.{told_out, way_stood}
 use Rattle.dq_growing.proofs.Rows.{one_at}
 use Rattle.dq_growing.proofs.Standing.{some_is}
 use Rattle.dq_words.specs.declared.views.View.{View}
@@ -161,82 +157,7 @@ module _ {T : Type 0} where
       let P : List Write → Type 0 = λ ws. IsIn (ends_at x.key.entry.index x.key.stamp ws) (2, x.deadline) in
       beside.0 x.key.entry.index x.key.stamp (2, x.deadline) (subst P (writes_first stood.0.views c.words.view stood.2) ended)
 
-  -- a slot of a machine that was changed at one
-  at_put : (m : Machine T) (j s : ℕ) (x : Option (Entry T)) (i : ℕ) (g : Entry T) → j < length m.table → (table_at (put m j s x) i).entry ≡ Some g
-      → ((i ≡ j) × (x ≡ Some g)) ⊎ ((table_at m i).entry ≡ Some g)
-  at_put m j s x i g inside at =
-      let E : TableRow T → Option (Entry T) = λ r. r.entry in
-      let P : ℕ → Type 0 = λ k. (table_at (put m j s x) k).entry ≡ Some g in
-      dite (ℕ_discrete i j)
-      (λ e. inl (e, sym (ap E (get_or-set_same m.table j _ _ inside)) ∙ subst P e at))
-      (λ ne. inr (sym (ap E (get_or-set_other m.table j i _ _ ne)) ∙ at))
-
-  abbrev StoodAt : Machine T → ℕ → Entry T → Type 0
-  StoodAt m i e = (f : Entry T) × ((table_at m i).entry ≡ Some f) × (f.born ≡ e.born)
-
-  -- an entry whose deadline was raised, or that was cancelled, stood there
-  raised_stood : (m : Machine T) (j s : ℕ) (d : Option ℕ) (x : Entry T) (i : ℕ) (g : Entry T) → Has m j x
-      → (table_at (put m j s (with_due x d)) i).entry ≡ Some g → StoodAt m i g
-  raised_stood m j s d x i g has at = ⊎_elim
-      (λ (y : (i ≡ j) × (with_due x d ≡ Some g)). let P : ℕ → Type 0 = λ k. (table_at m k).entry ≡ Some x in
-      (x, subst P (sym y.0) has.1, ap (λ (e : Entry T). e.born) (some_is _ g y.1)))
-      (λ (y : (table_at m i).entry ≡ Some g). (g, y, refl))
-      (at_put m j s (with_due x d) i g has.0 at)
-
-  -- what stands at a slot on a poll's way stood there before
-  step_stood : (last : ℕ) (m n : Machine T) (e : Event T) → IsOnTheWay true e → Step last m e n → (i : ℕ) (g : Entry T) → (table_at n i).entry ≡ Some g → StoodAt m i g
-  step_stood last m n (Note t) is step i g at = absurd is
-  step_stood last m n (Pass t) is step i g at = let P : Machine T → Type 0 = λ k. (table_at k i).entry ≡ Some g in (g, subst P step.3 at, refl)
-  step_stood last m n (Insert j v when) is step i g at = absurd is
-  step_stood last m n (Reset j b when) is step i g at = absurd is
-  step_stood last m n (Extend j s when) is step i g at =
-      let P : Machine T → Type 0 = λ k. (table_at k i).entry ≡ Some g in
-      raised_stood m j s _ step.0 i g step.2 (subst P step.5 at)
-  step_stood last m n (Cancel j s) is step i g at =
-      let P : Machine T → Type 0 = λ k. (table_at k i).entry ≡ Some g in
-      raised_stood m j s _ step.0 i g step.2 (subst P step.5 at)
-  step_stood last m n (Remove j b) is step i g at = absurd is
-  step_stood last m n (Reap j b) is step i g at =
-      let P : Machine T → Type 0 = λ k. (table_at k i).entry ≡ Some g in
-      ⊎_elim
-      (λ (y : (i ≡ j) × (None ≡ Some g)). absurd (some_not_none g (sym y.1)))
-      (λ (y : (table_at m i).entry ≡ Some g). (g, y, refl))
-      (at_put m j _ None i g step.1.0 (subst P step.4 at))
-  step_stood last m n (Expire j b t) is step i g at = absurd is
-
-  way_stood : (last : ℕ) (m n : Machine T) (es : List (Event T)) → AllByRecursion (IsOnTheWay true) es → Run last m es n → (i : ℕ) (g : Entry T)
-      → (table_at n i).entry ≡ Some g → StoodAt m i g
-  way_stood last m n [] all r i g at = let P : Machine T → Type 0 = λ k. (table_at k i).entry ≡ Some g in (g, subst P r at, refl)
-  way_stood last m n (e ∷ es) all r i g at =
-      let h = way_stood last r.0 n es all.1 r.2 i g at in
-      let f = step_stood last m r.0 e all.0 r.1 i h.0 h.1 in
-      (f.0, f.1, f.2 ∙ h.2)
-
   -- the piece of a core that took an entry out
-
-  abbrev gives_out : Piece T → Type 0
-  gives_out (Answer (Out x)) = Unit {0}
-  gives_out (Answer (Waiting next)) = ⊥
-  gives_out (Answer Idle) = ⊥
-  gives_out Working = ⊥
-
-  is_out : (y : Expired T) (p : Piece T) → Answer (Out y) ≡ p → gives_out p
-  is_out y p e = subst gives_out e (tt {0})
-
-  not_waiting : (b : Bool) (m : ℕ) (y : Expired T) → Answer (Out y) ≡ (if b then Answer (Waiting m) else Working) → ⊥
-  not_waiting true m y h = is_out y (Answer (Waiting m)) h
-  not_waiting false m y h = is_out y Working h
-
-  not_idle : (b e : Bool) (m : ℕ) (y : Expired T) → Answer (Out y) ≡ (if b then (if e then Answer Idle else Answer (Waiting m)) else Working) → ⊥
-  not_idle true true m y h = is_out y (Answer Idle) h
-  not_idle true false m y h = is_out y (Answer (Waiting m)) h
-  not_idle false e m y h = is_out y Working h
-
-  told_out : (noted others : ℕ) (made : Piece T) (y : Expired T) → Answer (Out y) ≡ told noted others made → made ≡ Answer (Out y)
-  told_out noted others Working y h = absurd (is_out y Working h)
-  told_out noted others (Answer (Out z)) y h = sym h
-  told_out noted others (Answer (Waiting next)) y h = absurd (not_waiting (nat_lt noted others) (min next others) y h)
-  told_out noted others (Answer Idle) y h = absurd (not_idle (nat_lt noted others) _ others y h)
 
   piece_of : (s t : CoreRow T Sat) (tick most : ℕ) (y : Expired T) → PollsRow (DoesPiece true most) s tick (Ok (Answer (Out y))) t
       → PollsCore (DoesPiece true most) (noting_in s tick) (Answer (Out y)) t
@@ -270,7 +191,7 @@ module _ {T : Type 0} where
         told = refl;
         stood =
             let m = answered.run.0 in
-            let f = way_stood on.before.slots.last_stamp _ m answered.run.1.0 answered.run.1.1 answered.run.1.2 y.key.entry.index _ answered.run.2.0.1.1 in
+            let f = way_stood true on.before.slots.last_stamp _ m answered.run.1.0 answered.run.1.1 answered.run.1.2 y.key.entry.index _ answered.run.2.0.1.1 in
             (f.0, (core.place, on.before, on.at, record { shard = answered.run.2.1; linked = f.1; born = f.2 }));
         in_force = out;
         kept = λ law. keeps on.after y (out law);

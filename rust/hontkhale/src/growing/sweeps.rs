@@ -1,9 +1,14 @@
 //! Calls that free cancelled entries, and a clear.
 
-use crate::core::{ReapError, Swept, Words};
+use crate::core::{DelayCore, ReapError, Swept, Words};
 use crate::growing::cores::Cores;
 use crate::index::nth_mut;
 use crate::ticks::EntryId;
+
+// Reaps the entry of that name in a core.
+fn reap_from<T, W: Words>(core: &mut DelayCore<T, W>, entry: &EntryId) -> Result<(), ReapError> {
+    core.reap_deferring(entry)
+}
 
 impl<T, W: Words> Cores<T, W> {
     /// Reaps the entry of that name where it is found cancelled. Its value isn't dropped: it waits until it is taken
@@ -15,7 +20,7 @@ impl<T, W: Words> Cores<T, W> {
         let Some(at) = self.place_of(entry.shard()) else {
             return Err(ReapError::Missing);
         };
-        nth_mut(&mut self.cores, at).reap_deferring(entry)
+        reap_from(nth_mut(&mut self.cores, at), entry)
     }
 
     /// Reaps each linked entry that is found cancelled at `count` slots from `from` on of the core at a place, and tells

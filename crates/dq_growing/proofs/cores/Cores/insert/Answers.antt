@@ -2,6 +2,7 @@ use Rattle.std.proofs.Common.{sym, arith, length, ◌<◌, rules, inl}
 use Rattle.dq_growing.proofs.Rows.{keeps_law, on_place}
 use Rattle.dq_growing.specs.Cores.{CoreRow, IsCoreAt}
 use Rattle.dq_growing.proofs.Quiet.{turns_later, inserts_late, inserts_noted}
+use Rattle.dq_growing.proofs.Moves.{inserted_begun}
 use Rattle.dq_growing.proofs.Standing.{words_in}
 use Rattle.dq_growing.proofs.cores.Cores.insert.Goals as goal
 
@@ -31,3 +32,11 @@ returns-clause-words g c =
     let inside : c.self.inside.opened < length c.self.inside.cores.items = search rules in
     rw (← c.self.view_is)
     (words_in _ _ c.index_mut.result.now r.new.self c.self.invariant.0 (inside, sym c.index_mut.ensures.value) r.ensures.same.0 g.W.Words.origin g.W.Words.begun r.ensures.origin r.ensures.begun)
+
+pub returns-clause-begins : goal.returns-clause-begins
+returns-clause-begins g c =
+    let a = c.insert_deferring-answer in
+    let inside : c.self.inside.opened < length c.self.inside.cores.items = search rules in
+    rw (← c.self.view_is)
+    (inserted_begun _ c.index_mut.result.now a.new.self c.args.value c.args.when a.result c.self.invariant.0 (inside, sym c.index_mut.ensures.value) a.ensures.same.0
+    (a.ensures.inserts, a.ensures.beside, a.ensures.alone) g.W.Words.begun a.ensures.begins)

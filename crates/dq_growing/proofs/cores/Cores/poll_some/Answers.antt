@@ -33,3 +33,6 @@ pub returns-in-Rests-None-clause-words : goal.returns-in-Rests-None-clause-words
 returns-in-Rests-None-clause-words g c =
     let i = c.self.inside in
     rw (c.due.ensures.same, ← c.self.view_is) (all_words g.W.Words.origin g.W.Words.begun (record { cores = i.cores.items; opened = i.opened; next = i.next; noted = i.noted }))
+
+pub returns-then-tick-gt-LAST_TICK-clause-ages : goal.returns-then-tick-gt-LAST_TICK-clause-ages
+returns-then-tick-gt-LAST_TICK-clause-ages g c = all_age c.args.self.now

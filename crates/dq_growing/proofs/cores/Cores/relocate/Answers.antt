@@ -1,6 +1,6 @@
 use Rattle.std.proofs.Common.{Ok, Err, sym, ◌∙◌, refl}
 use Rattle.dq_growing.proofs.Moves.{taken_out, refuses, room_left, base_left, goes, then_words, other_key}
-use Rattle.dq_growing.proofs.Aging.{removes_age, then_age}
+use Rattle.dq_growing.proofs.Aging.{all_age, removes_age, then_age}
 use Rattle.dq_growing.proofs.cores.Cores.relocate.Goals as goal
 
 pub returns-in-Err-clause-relocates : goal.returns-in-Err-clause-relocates
@@ -78,3 +78,9 @@ pub returns-clause-past : goal.returns-clause-past
 returns-clause-past g c =
     let p = c.put_in_open-key.ensures in
     ((p.ages c.args.entry.now c.in-Ok.ensures.past).0, p.past)
+
+pub returns-then-is_beyond-clause-ages : goal.returns-then-is_beyond-clause-ages
+returns-then-is_beyond-clause-ages g c = all_age c.args.self.now
+
+pub returns-in-Some-clause-ages : goal.returns-in-Some-clause-ages
+returns-in-Some-clause-ages g c = all_age c.args.self.now

@@ -2,7 +2,7 @@ use Rattle.std.proofs.Common.{sym, arith, length, ◌<◌, rules}
 use Rattle.dq_growing.specs.Cores.{CoreRow, IsCoreAt}
 use Rattle.dq_growing.proofs.Quiet.{turns_after, sweeps_late}
 use Rattle.dq_growing.proofs.Rows.{keeps_law, on_place}
-use Rattle.dq_growing.proofs.Aging.{ages_at, sweep_run}
+use Rattle.dq_growing.proofs.Aging.{ages_at, all_age, sweep_run}
 use Rattle.dq_growing.proofs.Standing.{words_in}
 use Rattle.dq_growing.proofs.cores.Cores.sweep_some.Goals as goal
 
@@ -38,3 +38,6 @@ returns-clause-words g c =
     let inside : c.args.place < length c.self.inside.cores.items = search rules in
     rw (← c.self.view_is)
     (words_in _ c.args.place c.index_mut.result.now r.new.self c.self.invariant.0 (inside, sym c.index_mut.ensures.value) r.ensures.same.0 g.W.Words.origin g.W.Words.begun r.ensures.origin r.ensures.begun)
+
+pub returns-then-place-len-clause-ages : goal.returns-then-place-len-clause-ages
+returns-then-place-len-clause-ages g c = all_age c.args.self.now

@@ -1,11 +1,29 @@
 use Rattle.dq_growing.proofs.Stored.{stored, law_after}
+use Rattle.dq_growing.specs.Polls.{DoesPiece}
+use Rattle.dq_growing.proofs.Keeping.{goes_after, keeps_after, polled_none, piece_gone}
 use Rattle.dq_growing.proofs.store.Store.poll_some.Goals as goal
 
 pub invariant_of-self : goal.invariant_of-self
 invariant_of-self g c =
     let i = c.self.inside in
     let p = c.poll_some-made in
-    law_after (stored i.cores i.notes) (stored p.new.self c.note_out-answer.new.notes) p.result c.self.invariant p.ensures.ages c.law.ensures c.note_out-answer.ensures.notes
+    law_after (stored i.cores i.notes) (stored p.new.self c.note_out-answer.new.notes) p.result c.self.invariant p.ensures.ages c.law-2.ensures c.note_out-answer.ensures.notes
 
 pub returns-clause-words : goal.returns-clause-words
 returns-clause-words g c = rw (← c.self.view_is) c.poll_some-made.ensures.words
+
+pub returns-clause-keeps : goal.returns-clause-keeps
+returns-clause-keeps g c =
+    let i = c.self.inside in
+    let p = c.poll_some-made in
+    rw (← c.self.view_is)
+    (keeps_after (stored i.cores i.notes) (stored p.new.self c.note_out-answer.new.notes) p.result c.self.invariant p.ensures.ages c.note_out-answer.ensures.notes
+    (polled_none (DoesPiece g.W.Words.shared c.args.most) i.cores p.new.self c.args.tick p.result (piece_gone g.W.Words.shared c.args.most) c.law.ensures p.ensures.polls))
+
+pub returns-clause-goes_out : goal.returns-clause-goes_out
+returns-clause-goes_out g c =
+    let i = c.self.inside in
+    let p = c.poll_some-made in
+    rw (c.note_out-answer.ensures.answer, ← c.self.view_is)
+    (goes_after (stored i.cores i.notes) (stored p.new.self c.note_out-answer.new.notes) p.result c.self.invariant p.ensures.ages c.note_out-answer.ensures.notes
+    (polled_none (DoesPiece g.W.Words.shared c.args.most) i.cores p.new.self c.args.tick p.result (piece_gone g.W.Words.shared c.args.most) c.law.ensures p.ensures.polls))

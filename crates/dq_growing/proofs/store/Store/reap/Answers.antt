@@ -1,5 +1,6 @@
 use Rattle.std.proofs.Common.{inl, refl, sym, ◌∙◌}
 use Rattle.dq_growing.proofs.Stored.{stored, law_same_notes, law_forgets}
+use Rattle.dq_growing.proofs.Keeping.{keeps_noted, keeps_forgotten}
 use Rattle.dq_growing.proofs.store.Store.reap.Goals as goal
 
 pub invariant_of-self : goal.invariant_of-self
@@ -9,7 +10,8 @@ invariant_of-self g c =
 
 pub returns-in-Err : goal.returns-in-Err
 returns-in-Err g c =
-    rw (← c.self.view_is) (record { reaps = inl (c.in-Some.place, sym c.place.ensures ∙ c.in-Some.is, (c.in-Err.ensures.reaps, refl)); words = c.reap.ensures.words })
+    let i = c.self.inside in
+    rw (← c.self.view_is) (record { reaps = inl (c.in-Some.place, sym c.place.ensures ∙ c.in-Some.is, (c.in-Err.ensures.reaps, refl)); words = c.reap.ensures.words; keeps = keeps_noted (stored i.cores i.notes) c.reap.new.self c.self.invariant c.reap.ensures.ages })
 
 pub invariant_of-self-2 : goal.invariant_of-self-2
 invariant_of-self-2 g c =
@@ -19,4 +21,5 @@ invariant_of-self-2 g c =
 
 pub returns : goal.returns
 returns g c =
-    rw (← c.self.view_is) (record { reaps = inl (c.in-Some.place, sym c.place.ensures ∙ c.in-Some.is, (c.in_default-reap.ensures.reaps, (c.forget.result, c.forget.ensures))); words = c.reap.ensures.words })
+    let i = c.self.inside in
+    rw (← c.self.view_is) (record { reaps = inl (c.in-Some.place, sym c.place.ensures ∙ c.in-Some.is, (c.in_default-reap.ensures.reaps, (c.forget.result, c.forget.ensures))); words = c.reap.ensures.words; keeps = keeps_forgotten (stored i.cores i.notes) (stored c.reap.new.self c.forget.new.self) c.in-Some.place c.forget.result c.self.invariant c.reap.ensures.ages c.forget.ensures c.in_default-reap.ensures.gone })

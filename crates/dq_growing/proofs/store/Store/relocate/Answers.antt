@@ -1,8 +1,9 @@
 use Rattle.std.proofs.Common.{inl, inr, sym, ◌∙◌}
 use Rattle.dq_growing.proofs.Aging.{all_age}
 use Rattle.dq_growing.proofs.Standing.{all_same}
-use Rattle.dq_growing.proofs.Stored.{stored, law_reserved, same_reserved, moved_free, moved_law, moved_goes, moved_out, moved_refused, moved_notes}
+use Rattle.dq_growing.proofs.Stored.{stored, law_reserved, same_reserved, moved_free, moved_law, moved_goes, moved_begun, moved_out, moved_refused, moved_notes}
 use Rattle.dq_growing.proofs.Standing.{all_words}
+use Rattle.dq_growing.proofs.Keeping.{keeps_reserved, keeps_moved}
 use Rattle.dq_growing.proofs.store.Store.relocate.Goals as goal
 
 pub invariant_of-self : goal.invariant_of-self
@@ -28,7 +29,7 @@ invariant_of-self-2 g c =
     let r = c.relocate-answer in
     let a = c.note_answer-answer in
     moved_law (stored i.cores i.notes) r.new.self c.reserve.new.self a.new.notes c.args.entry.now c.in-Some.place c.self.invariant
-    (sym c.place.ensures ∙ c.in-Some.is) c.reserve.ensures.same r.result.0 r.ensures.ages c.law-2.ensures a.ensures.notes r.ensures.goes_on r.ensures.past
+    (sym c.place.ensures ∙ c.in-Some.is) c.reserve.ensures.same r.result.0 r.ensures.ages c.law-4.ensures a.ensures.notes r.ensures.goes_on r.ensures.past
 
 pub returns-clause-goes_on : goal.returns-clause-goes_on
 returns-clause-goes_on g c =
@@ -38,6 +39,15 @@ returns-clause-goes_on g c =
     rw (a.ensures.answer, ← c.self.view_is)
     (moved_goes (stored i.cores i.notes) r.new.self c.reserve.new.self a.new.notes c.args.entry.now c.in-Some.place c.self.invariant
     (sym c.place.ensures ∙ c.in-Some.is) c.reserve.ensures.same r.result.0 a.ensures.notes r.ensures.goes_on)
+
+pub returns-clause-begins : goal.returns-clause-begins
+returns-clause-begins g c =
+    let i = c.self.inside in
+    let r = c.relocate-answer in
+    let a = c.note_answer-answer in
+    rw (a.ensures.answer, ← c.self.view_is)
+    (moved_begun (stored i.cores i.notes) r.new.self c.reserve.new.self a.new.notes c.args.entry.now c.in-Some.place c.self.invariant
+    (sym c.place.ensures ∙ c.in-Some.is) c.reserve.ensures.same g.W.Words.begun r.result.0 a.ensures.notes r.ensures.begins)
 
 pub returns-clause-came_out : goal.returns-clause-came_out
 returns-clause-came_out g c =
@@ -71,3 +81,18 @@ returns-clause-words g c = rw (← c.self.view_is) c.relocate-answer.ensures.wor
 
 pub returns-then-is_err-clause-words : goal.returns-then-is_err-clause-words
 returns-then-is_err-clause-words g c = rw (← c.self.view_is) (all_words g.W.Words.origin g.W.Words.begun c.self.inside.cores)
+
+pub returns-then-is_err-clause-keeps : goal.returns-then-is_err-clause-keeps
+returns-then-is_err-clause-keeps g c =
+    let i = c.self.inside in
+    rw (← c.self.view_is) (keeps_reserved (stored i.cores i.notes) i.cores c.reserve.new.self c.self.invariant (all_age i.cores) c.reserve.ensures.same)
+
+pub returns-clause-keeps : goal.returns-clause-keeps
+returns-clause-keeps g c =
+    let i = c.self.inside in
+    let r = c.relocate-answer in
+    let a = c.note_answer-answer in
+    rw (← c.self.view_is)
+    (keeps_moved (stored i.cores i.notes) r.new.self c.reserve.new.self a.new.notes c.args.entry.now c.in-Some.place c.self.invariant
+    (sym c.place.ensures ∙ c.in-Some.is) c.reserve.ensures.same r.result.0 r.ensures.ages c.law-4.ensures a.ensures.notes r.ensures.goes_on r.ensures.past r.ensures.came_out
+    c.law-2.ensures c.law-3.ensures)

@@ -1,6 +1,7 @@
 use Rattle.std.proofs.Common.{Ok, Err, sym, ◌∙◌}
 use Rattle.dq_growing.proofs.Aging.{removes_age}
 use Rattle.dq_growing.proofs.Stored.{stored, law_same_notes, law_forgets, leaves_for, same_for, removes_for, removal_refused}
+use Rattle.dq_growing.proofs.Keeping.{keeps_noted, keeps_forgotten}
 use Rattle.dq_growing.proofs.store.Store.remove.Goals as goal
 
 pub invariant_of-self : goal.invariant_of-self
@@ -45,3 +46,17 @@ returns-clause-words g c = rw (← c.self.view_is) c.remove.ensures.words
 
 pub returns-in-Err-clause-words : goal.returns-in-Err-clause-words
 returns-in-Err-clause-words g c = rw (← c.self.view_is) c.remove.ensures.words
+
+pub returns-in-Err-clause-keeps : goal.returns-in-Err-clause-keeps
+returns-in-Err-clause-keeps g c =
+    let i = c.self.inside in
+    rw (← c.self.view_is)
+    (keeps_noted (stored i.cores i.notes) c.remove.new.self c.self.invariant
+    (removes_age g.W.Words.shared i.cores c.remove.new.self c.in-Some.place (Err c.in-Err.error) _ c.law.ensures c.in-Err.ensures.removes))
+
+pub returns-clause-keeps : goal.returns-clause-keeps
+returns-clause-keeps g c =
+    let i = c.self.inside in
+    rw (← c.self.view_is)
+    (keeps_forgotten (stored i.cores i.notes) (stored c.remove.new.self c.forget.new.self) c.in-Some.place c.forget.result c.self.invariant
+    (removes_age g.W.Words.shared i.cores c.remove.new.self c.in-Some.place (Ok c.in-Ok.removed) _ c.law.ensures c.in-Ok.ensures.removes) c.forget.ensures c.in-Ok.ensures.leaves.gone)

@@ -1,5 +1,6 @@
 use Rattle.dq_growing.proofs.Aging.{all_age}
 use Rattle.dq_growing.proofs.Stored.{stored, law_reserved, law_same_cores}
+use Rattle.dq_growing.proofs.Keeping.{keeps_noted, keeps_reserved, same_age}
 use Rattle.dq_growing.proofs.store.Store.reserve.Goals as goal
 
 pub invariant_of-self-2 : goal.invariant_of-self-2
@@ -9,3 +10,14 @@ invariant_of-self-2 g c =
     let same = c.reserve.ensures in
     let kept = law_same_cores (stored i.cores i.notes) cores c.self.invariant same in
     law_reserved (stored cores i.notes) cores c.reserve-reserved.new.self kept (all_age cores) c.law.ensures c.reserve-reserved.ensures.same
+
+pub returns-clause-keeps : goal.returns-clause-keeps
+returns-clause-keeps g c =
+    let i = c.self.inside in
+    let cores = c.reserve.new.self in
+    rw (← c.self.view_is) (keeps_reserved (stored i.cores i.notes) cores c.reserve-reserved.new.self c.self.invariant (same_age i.cores cores c.reserve.ensures) c.reserve-reserved.ensures.same)
+
+pub returns-in_err-reserve-clause-keeps : goal.returns-in_err-reserve-clause-keeps
+returns-in_err-reserve-clause-keeps g c =
+    let i = c.self.inside in
+    rw (← c.self.view_is) (keeps_noted (stored i.cores i.notes) c.reserve.new.self c.self.invariant (same_age i.cores c.reserve.new.self c.reserve.ensures))

@@ -1,4 +1,5 @@
-use Rattle.dq_growing.proofs.Stored.{stored, law_takes_deferred}
+use Rattle.dq_growing.proofs.Stored.{stored, deferred_ages, law_takes_deferred}
+use Rattle.dq_growing.proofs.Keeping.{keeps_noted}
 use Rattle.dq_growing.proofs.store.Store.take_deferred.Goals as goal
 
 pub invariant_of-self : goal.invariant_of-self
@@ -6,3 +7,9 @@ invariant_of-self g c =
     let i = c.self.inside in
     let a = c.take_deferred-value in
     law_takes_deferred (stored i.cores i.notes) a.new.self a.result c.self.invariant c.law.ensures a.ensures
+
+pub returns-clause-keeps : goal.returns-clause-keeps
+returns-clause-keeps g c =
+    let i = c.self.inside in
+    let a = c.take_deferred-value in
+    rw (← c.self.view_is) (keeps_noted (stored i.cores i.notes) a.new.self c.self.invariant (deferred_ages i.cores a.new.self a.result c.law.ensures a.ensures))

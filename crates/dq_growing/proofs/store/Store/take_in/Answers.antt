@@ -1,5 +1,6 @@
 use Rattle.std.proofs.Common.{inl, refl}
 use Rattle.dq_growing.proofs.Stored.{stored, law_answers, on_ok, refused_for}
+use Rattle.dq_growing.proofs.Keeping.{takes_keep}
 use Rattle.dq_growing.proofs.store.Store.take_in.Goals as goal
 
 pub invariant_of-self : goal.invariant_of-self
@@ -23,3 +24,10 @@ pub returns-then-not-are_past_in-clause-refused : goal.returns-then-not-are_past
 returns-then-not-are_past_in-clause-refused g c =
     let no = c.are_past_in.ensures.no c.if-not-are_past_in.true in
     rw (← c.self.view_is) (inl (refl, no))
+
+pub returns-clause-keeps : goal.returns-clause-keeps
+returns-clause-keeps g c =
+    let i = c.self.inside in
+    let a = c.take_in-answer in
+    let past = c.are_past_in.ensures.yes c.if-not-are_past_in.false in
+    rw (← c.self.view_is) (takes_keep (stored i.cores i.notes) a.new.self c.args.core a.result c.self.invariant c.law.ensures.shard past a.ensures.takes a.ensures.refused)

@@ -1,0 +1,89 @@
+-- What holds over any list of a store's calls.
+use Rattle.std.specs.Prelude.{◌≡◌, ◌≢◌, ◌⊎◌, ◌<◌, ◌≤◌, List, [], ◌∷◌, Option, Some, None}
+use Rattle.dq_ticks.specs.declared.keys.EntryId.{EntryId}
+use Rattle.dq_core.specs.Core.{Core}
+use Rattle.dq_growing.specs.Cores.{CoreRow, GivesDrained}
+use Rattle.dq_growing.specs.Notes.{ArePastBy, numbers_of}
+use Rattle.dq_growing.specs.Stands.{IsPastIn}
+use Rattle.dq_growing.specs.Store.{StoreState, HasFor, HasOneValue, NoneStandsFor, GoesOut}
+
+-- a call: what it gave out, under its user's id and with its value, and the store that it left
+pub record StoreCall (T W : Type 0) : Type 0 where
+  pub gave : Option (EntryId × T)
+  pub left : StoreState T W
+
+module _ {T W : Type 0} where
+  -- an entry has had an id: its number is a used one, and no new entry gets the id
+  abbrev pub WasGiven : StoreState T W → EntryId → Type 0
+  WasGiven s u = (u.shard < s.cores.next) × IsPastIn s.cores u
+
+  -- what a call leaves of an id that an entry has had: no new entry gets it; the entry stands with its
+  -- value as before, or has left; and what stands under the id stood under it before
+  pub record KeepsId (s t : StoreState T W) (u : EntryId) : Type 0 where
+    pub given : WasGiven t u
+    pub stays : (v : T) → HasFor s u v → HasFor t u v ⊎ NoneStandsFor t u
+    pub stood : (v : T) → HasFor t u v → HasFor s u v
+
+  -- so of each id that an entry has had
+  abbrev pub KeepsIds : StoreState T W → StoreState T W → Type 0
+  KeepsIds s t = (u : EntryId) → WasGiven s u → KeepsId s t u
+
+  -- so of each such id that a core which comes in doesn't give anew
+  abbrev pub KeepsIdsBeside : Core T W → StoreState T W → StoreState T W → Type 0
+  KeepsIdsBeside c s t =
+      (u : EntryId) → ArePastBy (numbers_of u) c → WasGiven s u → KeepsId s t u
+
+  -- no entry had had an id, and one has it now
+  abbrev pub GivesId : StoreState T W → EntryId → StoreState T W → Type 0
+  GivesId s u t = (¬ WasGiven s u) × WasGiven t u
+
+  -- what a call gave out, if it did: that stood under its user's id, and none stands there any more
+  abbrev pub GaveOut : StoreState T W → Option (EntryId × T) → StoreState T W → Type 0
+  GaveOut s None t = Unit {0}
+  GaveOut s (Some (u, v)) t = GoesOut s u v t
+
+  -- calls, one after the other, from that store on: each kept an id
+  abbrev pub GoesByCalls : EntryId → StoreState T W → List (StoreCall T W) → Type 0
+  GoesByCalls u s [] = Unit {0}
+  GoesByCalls u s (call ∷ calls) =
+      (WasGiven s u → KeepsId s call.left u) × GaveOut s call.gave call.left
+      × GoesByCalls u call.left calls
+
+  -- a call gave nothing out under an id
+  abbrev pub GaveNone : EntryId → StoreCall T W → Type 0
+  GaveNone u call = (v : T) → call.gave ≢ Some (u, v)
+
+  -- none of those calls gave anything out under an id, and none stands there after one of them
+  abbrev pub NoneFrom : EntryId → List (StoreCall T W) → Type 0
+  NoneFrom u [] = Unit {0}
+  NoneFrom u (call ∷ calls) = NoneStandsFor call.left u × GaveNone u call × NoneFrom u calls
+
+  -- an entry stands with its value until one of those calls. If that gave it out, then with its value;
+  -- no other call gave anything out under its id, and none stands there from then on
+  abbrev pub StandsUntil : EntryId → T → List (StoreCall T W) → Type 0
+  StandsUntil u v [] = Unit {0}
+  StandsUntil u v (call ∷ calls) =
+      (HasFor call.left u v × GaveNone u call × StandsUntil u v calls)
+      ⊎ (NoneStandsFor call.left u × ((w : T) → call.gave ≡ Some (u, w) → w ≡ v)
+      × NoneFrom u calls)
+
+-- an entry leaves at most once, and has its value until then
+abbrev pub EntriesLeaveOnce : Type 0 → Type 0 → Type 0
+EntriesLeaveOnce T W =
+    (u : EntryId) (v : T) (s : StoreState T W) (calls : List (StoreCall T W)) → WasGiven s u →
+    HasOneValue s u → GoesByCalls u s calls → HasFor s u v → StandsUntil u v calls
+
+-- under an id whose entry has left none stands ever again, and nothing is given out
+abbrev pub EndedStaysEnded : Type 0 → Type 0 → Type 0
+EndedStaysEnded T W =
+    (u : EntryId) (s : StoreState T W) (calls : List (StoreCall T W)) → WasGiven s u →
+    GoesByCalls u s calls → NoneStandsFor s u → NoneFrom u calls
+
+-- a core of an unused number, or one that has drained, gives no id anew that an entry has had
+pub record CoresGiveNoneAnew (T W : Type 0) : Type 0 where
+  pub unused :
+      (u : EntryId) (s : StoreState T W) (c : Core T W) → WasGiven s u → s.cores.next ≤ c.shard →
+      ArePastBy (numbers_of u) c
+  pub drained :
+      (u : EntryId) (s : StoreState T W) (c : Core T W) (t : CoreRow T W) → WasGiven s u →
+      GivesDrained s.cores c t → ArePastBy (numbers_of u) c
