@@ -1,5 +1,6 @@
 -- What stands in a store whose cores come and go.
-use Rattle.std.proofs.Common.{◌≡◌, ◌≢◌, ℕ, ◌<◌, ◌≤◌, ◌+◌, ◌-◌, List, [], ◌∷◌, ◌++◌, length, get_or, remove, Bool, true, false, refl, sym, ap, ◌∙◌, subst, inl, inr, ⊎_elim, arith}
+use Rattle.std.proofs.Common.{◌≡◌, ◌≢◌, ℕ, suc, ◌<◌, ◌≤◌, ◌+◌, ◌-◌, ◌/◌, List, [], ◌∷◌, ◌++◌, length, get_or, remove, Bool, true, false, if◌then◌else◌, Option, Some, None, MatchOption, Result, Ok, Err, OnOk, refl, sym, ap, ◌∙◌, subst, inl, inr, ⊎_elim, arith}
+use Rattle.std.proofs.lemmas.Bool.{both_ways, cases_eq, lt-ltb, le-ltb}
 use mathlib.Core.Logic.{dite}
 use native.Mathlib.Decide.{ℕ_discrete}
 use Rattle.std.proofs.lemmas.List.Edits.{length-remove, get_or-remove_below, get_or-remove_above}
@@ -8,12 +9,20 @@ use Rattle.dq_wheel.proofs.Links.{nat_le_or_lt}
 use Rattle.dq_core.specs.AtTheCall.{linked_in}
 use Rattle.dq_core.specs.Core.{Core, IsLawfulCore}
 use Rattle.dq_core.specs.Machine.{Entry}
-use Rattle.dq_growing.specs.Cores.{CoreRow, IsCoreAt, GivesDrained, TakesIn, opened_without}
+use Rattle.dq_core.specs.Core.{machine}
+use Rattle.dq_core.specs.Machine.{NoneLinked}
+use Rattle.dq_core.specs.Readers.{TellsLeast}
+use Rattle.dq_ticks.specs.declared.keys.Key.{Key}
+use Rattle.dq_core.specs.declared.outcomes.Swept.{Swept}
+use Rattle.dq_growing.specs.declared.sweeping.Sweep.{Sweep}
+use Rattle.dq_growing.specs.Cores.{CoreRow, AreCores, IsCoreAt, OnCoreAt, SweepsFrom, GivesDrained, TakesIn, opened_without}
+use Rattle.dq_growing.specs.declared.sizing.Room.{Room}
 use Rattle.dq_growing.specs.Notes.{Book}
 use Rattle.dq_growing.specs.Moving.{HasOpenRoom}
-use Rattle.dq_growing.specs.Sizing.{ComesInto, HasRoomAt, OnlyOpens}
+use Rattle.dq_growing.specs.Sizing.{AllWere, ComesInto, GoesOn, HasClearAt, HasNoneToOpen, IsNearlyDrained, IsRoomAt, IsRoomier, IsRoomiest, NoStraggler, OnlyOpens, OpensIf, OpensWanted, StaysOpen, SweepsNext, TellsStraggler, WasBeside, clear_in}
 use Rattle.dq_growing.specs.Stands.{HasEntry, IsThere, SameStand}
-use Rattle.dq_growing.specs.Store.{StoreState, StandsFor}
+use Rattle.dq_growing.specs.Store.{StoreState, StandsFor, TellsFirstIn, entry_told}
+use Rattle.dq_growing.proofs.Leasts.{some_not_none}
 use Rattle.dq_growing.proofs.Rows.{at_snoc, one_at, removed_at, snoc_before, snoc_long}
 use Rattle.dq_growing.proofs.Standing.{all_same}
 use Rattle.dq_growing.proofs.Stored.{same_for, stored, unlinked}
@@ -109,19 +118,239 @@ module _ {T W : Type 0} where
   opens_only s t true place opens refused notes = ((place, (opens refl).1), notes)
   opens_only s t false place opens refused notes = ((s.cores.opened, (refused refl).1), notes)
 
-  pub opens_room : (s t : StoreState T W) (k : CoreRow T W) (o : Bool) (place : ℕ)
-      → (o ≡ true → (place < length s.cores.cores) × (t.cores ≡ record s.cores { opened = place }))
-      → k ≡ s.cores → HasRoomAt k place → o ≡ true → HasOpenRoom t.cores
-  opens_room s t k o place opens same room is =
-      let P : CoreRow T W → Type 0 = λ r. HasOpenRoom r in
-      let Q : CoreRow T W → Type 0 = λ r. HasRoomAt r place in
-      subst P (sym (opens is).1) (subst Q same room)
+  -- free slots
+  pub clear_as : (k s : CoreRow T W) → k ≡ s → HasClearAt k k.opened → HasClearAt s s.opened
+  clear_as k s same is = let P : CoreRow T W → Type 0 = λ r. HasClearAt r r.opened in subst P same is
 
-  pub room_in : (k s : CoreRow T W) → k ≡ s → HasOpenRoom k → HasOpenRoom s
-  room_in k s same room = let P : CoreRow T W → Type 0 = λ r. HasOpenRoom r in subst P same room
+  pub clear_room : (s : CoreRow T W) → HasClearAt s s.opened → HasOpenRoom s
+  clear_room s is = let some = is.2 in (is.0, is.1, omega (arith, some))
 
-  pub elsewhere : (k s : CoreRow T W) (place : ℕ) → k ≡ s → place ≢ k.opened → place ≢ s.opened
-  elsewhere k s place same ne = let P : CoreRow T W → Type 0 = λ r. place ≢ r.opened in subst P same ne
+  pub is_clear : (s : CoreRow T W) (i k n : ℕ) (b : Core T W) → IsCoreAt s.cores k b → n ≡ clear_in b → k ≡ i → 0 < n → HasClearAt s i
+  is_clear s i k n b at same e some =
+      let P : ℕ → Type 0 = λ j. HasClearAt s j in
+      subst P e (b, at, omega (arith, same, some))
+
+  pub not_clear : (s : CoreRow T W) (i k n : ℕ) (b : Core T W) → IsCoreAt s.cores k b → n ≡ clear_in b → k ≡ i → n ≤ 0 → ¬ HasClearAt s i
+  not_clear s i k n b at same e none x =
+      let P : ℕ → Type 0 = λ j. HasClearAt s j in
+      let y = subst P (sym e) x in
+      let C : Core T W → ℕ = λ d. clear_in d in
+      let both = ap C (one_at s.cores k b y.0 at y.1) in
+      let some = y.2 in
+      omega (arith, none, same, both, some)
+
+  pub roomier_there : (s : CoreRow T W) (any : Bool) (found : Room) (i n : ℕ) (b : Core T W) → IsCoreAt s.cores i b → n ≡ clear_in b → found.free ≤ n
+      → IsRoomier s any found i (record { place = i; free = n })
+  roomier_there s any found i n b at same le = record {
+    one = inr (b, at, sym same);
+    before = le;
+    here = λ c x may. let C : Core T W → ℕ = λ d. clear_in d in let both = ap C (one_at s.cores i b c at x) in omega (arith, both, same);
+  }
+
+  pub roomier_less : (s : CoreRow T W) (any : Bool) (found : Room) (i n : ℕ) (b : Core T W) → IsCoreAt s.cores i b → n ≡ clear_in b → n ≤ found.free
+      → IsRoomier s any found i found
+  roomier_less s any found i n b at same le = record {
+    one = inl refl;
+    before = omega arith;
+    here = λ c x may. let C : Core T W → ℕ = λ d. clear_in d in let both = ap C (one_at s.cores i b c at x) in omega (arith, both, same, le);
+  }
+
+  pub roomier_shut : (s : CoreRow T W) (any : Bool) (found : Room) (i n m : ℕ) (b : Core T W) → IsCoreAt s.cores i b → n ≡ clear_in b → m ≡ length b.slots.rows
+      → any ≡ false → n < m / 2 → IsRoomier s any found i found
+  roomier_shut s any found i n m b at same size shut less = record {
+    one = inl refl;
+    before = omega arith;
+    here = λ c x may.
+        let C : Core T W → ℕ = λ d. clear_in d in
+        let L : Core T W → ℕ = λ d. length d.slots.rows in
+        let both = ap C (one_at s.cores i b c at x) in
+        let long = ap L (one_at s.cores i b c at x) in
+        ⊎_elim
+        (λ (y : any ≡ true). absurd (both_ways any shut y))
+        (λ (y : length c.slots.rows / 2 ≤ clear_in c). absurd (omega (arith, both, same, long, size, less, y)))
+        may;
+  }
+
+  pub roomier_none : (s : CoreRow T W) (any : Bool) (found : Room) (i : ℕ) → length s.cores ≤ i → IsRoomier s any found i found
+  roomier_none s any found i past = record {
+    one = inl refl;
+    before = omega arith;
+    here = λ c x may. let inside = x.0 in absurd (omega (arith, past, inside));
+  }
+
+  pub roomiest_first : (s : CoreRow T W) (any : Bool) → IsRoomiest s 0 any (record { place = 0; free = 0 })
+  roomiest_first s any = record { some = λ has. absurd (omega (arith, has)); most = λ i c below at may. absurd (omega (arith, below)) }
+
+  pub roomiest_next : (s : CoreRow T W) (n : ℕ) (any : Bool) (r q : Room) → IsRoomiest s n any r → IsRoomier s any r n q → IsRoomiest s (n + 1) any q
+  roomiest_next s n any r q all next = record {
+    some = λ has.
+        ⊎_elim
+        (λ (e : q ≡ r). let P : Room → Type 0 = λ k. 0 < k.free → IsRoomAt s k in subst P (sym e) all.some has)
+        (λ (y : IsRoomAt s q). y)
+        next.one;
+    most = λ i c below at may.
+        ⊎_elim
+        (λ (e : i ≡ n). let P : ℕ → Type 0 = λ k. IsCoreAt s.cores k c in next.here c (subst P e at) may)
+        (λ (ne : i ≢ n). let le = all.most i c (omega (arith, below, ne)) at may in let grows = next.before in omega (arith, le, grows))
+        (cases_eq i n);
+  }
+
+  pub none_to_open : (k s : CoreRow T W) (any : Bool) (r : Room) → k ≡ s → IsRoomiest k (length k.cores) any r → r.free ≡ 0 → HasNoneToOpen any s
+  none_to_open k s any r same most none =
+      let P : CoreRow T W → Type 0 = λ t. HasNoneToOpen any t in
+      subst P same (λ i c at may. let le = most.most i c at.0 at may in omega (arith, le, none))
+
+  pub opens_clear : (s t : StoreState T W) (k : CoreRow T W) (o any : Bool) (r : Room)
+      → (o ≡ true → (r.place < length s.cores.cores) × (t.cores ≡ record s.cores { opened = r.place }))
+      → k ≡ s.cores → IsRoomiest k (length k.cores) any r → 0 < r.free → o ≡ true → HasClearAt t.cores t.cores.opened
+  opens_clear s t k o any r opens same most some is =
+      let P : CoreRow T W → Type 0 = λ x. HasClearAt x x.opened in
+      let Q : CoreRow T W → Type 0 = λ x. HasClearAt x r.place in
+      let here = most.some some in
+      let free = here.2 in
+      subst P (sym (opens is).1) (subst Q same (here.0, here.1, omega (arith, free, some)))
+
+  pub opens_found : (s t : StoreState T W) (k : CoreRow T W) (o any : Bool) (r : Room)
+      → (o ≡ false → (length s.cores.cores ≤ r.place) × (t.cores ≡ s.cores))
+      → k ≡ s.cores → IsRoomiest k (length k.cores) any r → 0 < r.free → o ≡ false → HasNoneToOpen any s.cores
+  opens_found s t k o any r refused same most some is =
+      let Q : CoreRow T W → Type 0 = λ x. IsRoomAt x r in
+      let here = subst Q same (most.some some) in
+      let inside = here.1.0 in
+      let past = (refused is).0 in
+      absurd (omega (arith, inside, past))
+
+  -- the core that was open is open
+  pub same_open : (s t : CoreRow T W) → t ≡ s → StaysOpen s t
+  same_open s t same = let P : CoreRow T W → Type 0 = λ k. StaysOpen s k in subst P (sym same) (λ c at. at)
+
+  pub then_open : (s m t : CoreRow T W) → StaysOpen s m → StaysOpen m t → StaysOpen s t
+  then_open s m t x y = λ c at. y c (x c at)
+
+  pub opens_as : (b d : Bool) (s t : CoreRow T W) → b ≡ d → OpensIf d s t → OpensIf b s t
+  opens_as b d s t same is = let P : Bool → Type 0 = λ k. OpensIf k s t in subst P (sym same) is
+
+  pub stays_open : (s m t : CoreRow T W) (c : Core T W) (o : Bool) (place : ℕ) → place ≡ s.opened → m.cores ≡ s.cores ++ c ∷ []
+      → (o ≡ true → (place < length m.cores) × (t ≡ record m { opened = place }))
+      → (o ≡ false → (length m.cores ≤ place) × (t ≡ m)) → StaysOpen s t
+  stays_open s m t c true place same comes opens refused d at =
+      let P : CoreRow T W → Type 0 = λ x. IsCoreAt x.cores x.opened d in
+      let L : List (Core T W) → Type 0 = λ l. IsCoreAt l place d in
+      let N : ℕ → Type 0 = λ n. IsCoreAt s.cores n d in
+      let was : IsCoreAt s.cores place d = subst N (sym same) at in
+      let long = snoc_long s.cores c in
+      let inside = was.0 in
+      let there : IsCoreAt (s.cores ++ c ∷ []) place d = (omega (arith, long, inside), snoc_before s.cores c d place inside ∙ was.1) in
+      subst P (sym (opens refl).1) (subst L (sym comes) there)
+  stays_open s m t c false place same comes opens refused d at =
+      let N : List (Core T W) → ℕ = λ l. length l in
+      let long : length m.cores ≡ suc (length s.cores) = ap N comes ∙ snoc_long s.cores c in
+      let inside = at.0 in
+      let past = (refused refl).0 in
+      absurd (omega (arith, long, past, inside, same))
+
+  pub opens_wanted : {X Y : Type 0} (r : Result X Y) (b : Bool) (s t : CoreRow T W) → (b ≡ false → HasClearAt s s.opened) → OnOk r (OpensIf b s t) → OnOk r (OpensWanted s t)
+  opens_wanted (Ok x) b s t clear is = (b, is, clear)
+  opens_wanted (Err e) b s t clear is = is
+
+  gives_place : (s : CoreRow T W) (i : ℕ) (d : Core T W) → i < length s.cores → i ≢ s.opened → IsCoreAt s.cores s.opened d
+      → IsCoreAt (remove s.cores i) (opened_without s.opened i) d
+  gives_place s i d inside ne at =
+      let o = s.opened in
+      let fewer = length-remove s.cores i inside in
+      let P : Bool → Type 0 = λ b. IsCoreAt (remove s.cores i) (if b then o - 1 else o) d in
+      let within = at.0 in
+      elim (nat_le_or_lt i o) [
+        | inl y ↦
+            let less : i < o = omega (arith, y, ne) in
+            let next : o - 1 + 1 ≡ o = omega (arith, less) in
+            let N : ℕ → Type 0 = λ n. get_or s.cores n d ≡ d in
+            let there : IsCoreAt (remove s.cores i) (o - 1) d = (omega (arith, fewer, within, less), get_or-remove_above s.cores i d (o - 1) (omega (arith, less)) inside ∙ subst N (sym next) at.1) in
+            subst P (sym (lt-ltb i o less)) there
+        | inr y ↦
+            let there : IsCoreAt (remove s.cores i) o d = (omega (arith, fewer, inside, y), get_or-remove_below s.cores i d o y inside ∙ at.1) in
+            subst P (sym (le-ltb i o (omega (arith, y)))) there
+      ]
+
+  pub gives_open : (s t : CoreRow T W) (c : Core T W) → GivesDrained s c t → StaysOpen s t
+  gives_open s t c gives =
+      let P : CoreRow T W → Type 0 = λ k. StaysOpen s k in
+      subst P (sym gives.rest) (λ d at. gives_place s gives.place d gives.drained.0.0 gives.drained.1 at)
+
+  -- which cores there were
+  pub was_beside : (s t : CoreRow T W) (c : Core T W) → GivesDrained s c t → WasBeside s c
+  was_beside s t c gives = (gives.place, gives.drained.1, gives.drained.0)
+
+  pub all_were : (s t : CoreRow T W) → t ≡ s → AllWere s t
+  all_were s t same = let P : CoreRow T W → Type 0 = λ k. AllWere s k in subst P (sym same) (λ i c at. (i, at))
+
+  pub then_were : (s m t : CoreRow T W) → AllWere s m → AllWere m t → AllWere s t
+  then_were s m t x y = λ i c at. let j = y i c at in x j.0 c j.1
+
+  pub gives_were : (s t : CoreRow T W) (c : Core T W) → GivesDrained s c t → AllWere s t
+  gives_were s t c gives =
+      let P : CoreRow T W → Type 0 = λ k. AllWere s k in
+      let i = gives.place in
+      subst P (sym gives.rest) (λ k d x.
+      ⊎_elim
+      (λ (y : (k < i) × IsCoreAt s.cores k d). (k, y.1))
+      (λ (y : (i ≤ k) × IsCoreAt s.cores (k + 1) d). (k + 1, y.1))
+      (removed_at s.cores i k d gives.drained.0.0 x))
+
+  pub comes_were : (s m t : CoreRow T W) (c : Core T W) → WasBeside s c → AllWere s m → t.cores ≡ m.cores ++ c ∷ [] → AllWere s t
+  comes_were s m t c beside were comes =
+      let P : List (Core T W) → Type 0 = λ l. (i : ℕ) (d : Core T W) → IsCoreAt l i d → (j : ℕ) × IsCoreAt s.cores j d in
+      subst P (sym comes) (λ i d at.
+      ⊎_elim
+      (λ (y : IsCoreAt m.cores i d). were i d y)
+      (λ (y : (i ≡ length m.cores) × (c ≡ d)). let Q : Core T W → Type 0 = λ x. IsCoreAt s.cores beside.0 x in (beside.0, subst Q y.1 beside.2))
+      (at_snoc m.cores c d i at))
+
+  pub beside_before : (s m : CoreRow T W) (c : Core T W) → AreCores m → AllWere s m → StaysOpen s m → WasBeside m c → WasBeside s c
+  beside_before s m c law were stays beside =
+      let j = were beside.0 c beside.2 in
+      let N : ℕ → Type 0 = λ n. IsCoreAt s.cores n c in
+      (j.0, (λ e. beside.1 (law.apart beside.0 m.opened c c beside.2 (stays c (subst N e j.1)) refl)), j.1)
+
+  -- which entry a core names that is nearly drained
+  none_least : (c : Core T W) (k : Option Key) → TellsLeast c k → None ≡ entry_told k → NoneLinked (machine c)
+  none_least c None t e = t
+  none_least c (Some k) t e = absurd (some_not_none k.entry (sym e))
+
+  none_first : (s : StoreState T W) (i : ℕ) → TellsFirstIn s i None → (c : Core T W) → IsCoreAt s.cores.cores i c → NoneLinked (machine c)
+  none_first s i tells c at =
+      ⊎_elim
+      (λ (y : length s.cores.cores ≤ i). let inside = at.0 in absurd (omega (arith, y, inside)))
+      (λ (y : (d : Core T W) × IsCoreAt s.cores.cores i d × ((k : Option Key) × TellsLeast d k × (None ≡ entry_told k))).
+      let P : Core T W → Type 0 = λ d. NoneLinked (machine d) in
+      subst P (one_at s.cores.cores i y.0 c y.1 at) (none_least y.0 y.2.0 y.2.1 y.2.2))
+      tells
+
+  pub tells_straggler : (s : StoreState T W) (i : ℕ) (r : Option EntryId) → ((c : Core T W) × IsNearlyDrained s.cores i c) → TellsFirstIn s i r → TellsStraggler s i r
+  tells_straggler s i None is tells = λ c near. none_first s i tells c near.0
+  tells_straggler s i (Some u) is tells = (is, tells)
+
+  pub no_straggler_next : (s : StoreState T W) (n : ℕ) → NoStraggler s n → TellsStraggler s n None → NoStraggler s (n + 1)
+  no_straggler_next s n all here i below =
+      ⊎_elim
+      (λ (e : i ≡ n). let P : ℕ → Type 0 = λ k. TellsStraggler s k None in subst P (sym e) here)
+      (λ (ne : i ≢ n). all i (omega (arith, below, ne)))
+      (cases_eq i n)
+
+  -- the next slots are swept
+  pub sweeps_next : (shared : Bool) (s t : StoreState T W) (w v : Sweep) (r : Option Swept) (next : Option ℕ) (n : ℕ)
+      → MatchOption r ((length s.cores.cores ≤ w.place) × (t.cores ≡ s.cores))
+      (λ swept. OnCoreAt w.place (SweepsFrom shared w.slot (w.slot + 256) swept) s.cores t.cores)
+      → MatchOption r (next ≡ None) (λ swept. next ≡ swept.next) → t.notes ≡ s.notes → n ≡ length s.cores.cores → GoesOn w next n v
+      → SweepsNext shared 256 w s v t
+  sweeps_next shared s t w v None next n did told notes many goes =
+      let P : Option ℕ → Type 0 = λ o. GoesOn w o n v in
+      let Q : ℕ → Type 0 = λ k. GoesOn w None k v in
+      (notes, inl ((λ c at. let inside = at.0 in let past = did.0 in absurd (omega (arith, inside, past))), did.1, subst Q many (subst P told goes)))
+  sweeps_next shared s t w v (Some swept) next n did told notes many goes =
+      let P : Option ℕ → Type 0 = λ o. GoesOn w o n v in
+      let Q : ℕ → Type 0 = λ k. GoesOn w swept.next k v in
+      (notes, inr (swept, did, subst Q many (subst P told goes)))
 
   -- a core that came in, and may be open
   pub comes_into : (s m t : StoreState T W) (c : Core T W) → TakesIn s.cores c m.cores → m.notes ≡ s.notes → OnlyOpens m t → ComesInto s c t

@@ -1,35 +1,138 @@
 -- How a store keeps the right size.
-use Rattle.std.specs.Prelude.{◌≡◌, ◌≢◌, ◌⊎◌, ◌+◌, ℕ, Bool, ◌++◌, ◌∷◌, [], Some}
+use Rattle.std.specs.Prelude.{◌≡◌, ◌≢◌, ◌⊎◌, ◌+◌, ◌-◌, ◌/◌, ◌<◌, ◌≤◌, ℕ, Bool, true, false}
+use Rattle.std.specs.Prelude.{◌++◌, ◌∷◌, [], Option, Some, None, length, nat_lt, if◌then◌else◌}
+use Rattle.dq_ticks.specs.declared.TheConstants.{CAPACITY_LIMIT}
 use Rattle.dq_ticks.specs.declared.keys.EntryId.{EntryId}
 use Rattle.dq_core.specs.declared.outcomes.Swept.{Swept}
-use Rattle.dq_core.specs.Core.{Core}
+use Rattle.dq_core.specs.Deferring.{waiting_in}
+use Rattle.dq_core.specs.AtTheCall.{linked_in}
+use Rattle.dq_core.specs.Core.{Core, machine}
+use Rattle.dq_core.specs.Machine.{NoneLinked}
 use Rattle.dq_growing.specs.Cores.{CoreRow, IsCoreAt, OnCoreAt, SweepsFrom}
-use Rattle.dq_growing.specs.Moving.{HasFreeSlot}
+use Rattle.dq_growing.specs.Moving.{worn_in}
+use Rattle.dq_growing.specs.declared.sizing.Room.{Room}
+use Rattle.dq_growing.specs.declared.sizing.TheConstants.{CORES}
+use Rattle.dq_growing.specs.declared.sweeping.Sweep.{Sweep}
 use Rattle.dq_growing.specs.Store.{StoreState, TellsFirstIn}
 
+-- a way through the slots of so many cores goes on to a slot of the same core, or to the first one of
+-- the next core, and behind the last one to the first core
+abbrev pub GoesOn : Sweep → Option ℕ → ℕ → Sweep → Type 0
+GoesOn w None cores v =
+    (v.place ≡ (if nat_lt (w.place + 1) cores then w.place + 1 else 0)) × (v.slot ≡ 0)
+GoesOn w (Some slot) cores v = (v.place ≡ w.place) × (v.slot ≡ slot)
+
+-- up to where the slots of a core were looked at
+abbrev pub end_of : Option ℕ → ℕ → ℕ
+end_of None capacity = capacity
+end_of (Some slot) capacity = slot
+
 module _ {T W : Type 0} where
-  -- the core at a place has a free slot
-  abbrev pub HasRoomAt : CoreRow T W → ℕ → Type 0
-  HasRoomAt s i = (c : Core T W) × IsCoreAt s.cores i c × HasFreeSlot c
+  -- how many slots are free in which no value waits for its drop, at least: one that waits in a worn
+  -- slot counts as if it waited in a free one
+  abbrev pub clear_in : Core T W → ℕ
+  clear_in c = length c.slots.rows - (linked_in c + worn_in c) - waiting_in c.deferred
+
+  -- such a slot is in the core at a place
+  abbrev pub HasClearAt : CoreRow T W → ℕ → Type 0
+  HasClearAt s i = (c : Core T W) × IsCoreAt s.cores i c × (0 < clear_in c)
+
+  -- a core may be opened for an insert: half of it is free, or any will do
+  abbrev pub MayOpen : Bool → Core T W → Type 0
+  MayOpen any c = (any ≡ true) ⊎ (length c.slots.rows / 2 ≤ clear_in c)
+
+  -- so many slots are free in the core at a place
+  abbrev pub IsRoomAt : CoreRow T W → Room → Type 0
+  IsRoomAt s r = (c : Core T W) × IsCoreAt s.cores r.place c × (clear_in c ≡ r.free)
+
+  -- as many slots are free as in one core that was found, and as in the core at a place, if that may be
+  -- opened
+  pub record IsRoomier (s : CoreRow T W) (any : Bool) (found : Room) (i : ℕ) (r : Room) : Type 0
+    where
+      pub one : (r ≡ found) ⊎ IsRoomAt s r
+      pub before : found.free ≤ r.free
+      pub here : (c : Core T W) → IsCoreAt s.cores i c → MayOpen any c → clear_in c ≤ r.free
+
+  -- of the first n cores that may be opened none has more free slots
+  pub record IsRoomiest (s : CoreRow T W) (n : ℕ) (any : Bool) (r : Room) : Type 0 where
+    pub some : 0 < r.free → IsRoomAt s r
+    pub most :
+        (i : ℕ) (c : Core T W) → i < n → IsCoreAt s.cores i c → MayOpen any c →
+        clear_in c ≤ r.free
+
+  -- no core that may be opened has a free slot
+  abbrev pub HasNoneToOpen : Bool → CoreRow T W → Type 0
+  HasNoneToOpen any s =
+      (i : ℕ) (c : Core T W) → IsCoreAt s.cores i c → MayOpen any c → clear_in c ≡ 0
+
+  -- nor does the open one
+  abbrev pub HasNoRoom : Bool → CoreRow T W → Type 0
+  HasNoRoom any s = (¬ HasClearAt s s.opened) × HasNoneToOpen any s
 
   -- no more changes than which core is open
   abbrev pub OnlyOpens : StoreState T W → StoreState T W → Type 0
   OnlyOpens s t =
       ((place : ℕ) × (t.cores ≡ record s.cores { opened = place })) × (t.notes ≡ s.notes)
 
+  -- one core more may be made, of so many slots
+  abbrev pub MayMake : StoreState T W → ℕ → Type 0
+  MayMake s n = (length s.cores.cores < CORES) × (n ≤ CAPACITY_LIMIT)
+
   -- a core is the last one from now on, and the others stay
   abbrev pub ComesInto : StoreState T W → Core T W → StoreState T W → Type 0
   ComesInto s c t = (t.cores.cores ≡ s.cores.cores ++ c ∷ []) × (t.notes ≡ s.notes)
 
-  -- the id of the entry that a core names as scheduled first, which isn't the open one
-  abbrev pub IsFirstElsewhere : StoreState T W → EntryId → Type 0
-  IsFirstElsewhere s u =
-      (place : ℕ) × (place ≢ s.cores.opened) × TellsFirstIn s place (Some u)
+  -- the core that was open is open
+  abbrev pub StaysOpen : CoreRow T W → CoreRow T W → Type 0
+  StaysOpen s t = (c : Core T W) → IsCoreAt s.cores s.opened c → IsCoreAt t.cores t.opened c
 
-  -- at most so many slots of one core were swept, and the notes stay
-  abbrev pub SweepsAPart : Bool → ℕ → StoreState T W → StoreState T W → Type 0
-  SweepsAPart shared most s t =
-      ((t.cores ≡ s.cores)
-      ⊎ ((place from : ℕ) × (swept : Swept)
-      × OnCoreAt place (SweepsFrom shared from (from + most) swept) s.cores t.cores))
-      × (t.notes ≡ s.notes)
+  -- a core that came in is open, or the one that was
+  abbrev pub OpensIf : Bool → CoreRow T W → CoreRow T W → Type 0
+  OpensIf true s t = t.opened ≡ length s.cores
+  OpensIf false s t = StaysOpen s t
+
+  -- so, and the one that came is where the one that was has no free slot
+  abbrev pub OpensWanted : CoreRow T W → CoreRow T W → Type 0
+  OpensWanted s t =
+      (wanted : Bool) × OpensIf wanted s t × (wanted ≡ false → HasClearAt s s.opened)
+
+  -- a core was in a store, and wasn't open
+  abbrev pub WasBeside : CoreRow T W → Core T W → Type 0
+  WasBeside s c = (i : ℕ) × (i ≢ s.opened) × IsCoreAt s.cores i c
+
+  -- each core was in a store before
+  abbrev pub AllWere : CoreRow T W → CoreRow T W → Type 0
+  AllWere s t =
+      (i : ℕ) (c : Core T W) → IsCoreAt t.cores i c → (j : ℕ) × IsCoreAt s.cores j c
+
+  -- a sixteenth is used at most of a core that isn't open
+  abbrev pub IsNearlyDrained : CoreRow T W → ℕ → Core T W → Type 0
+  IsNearlyDrained s i c =
+      IsCoreAt s.cores i c × (i ≢ s.opened) × (linked_in c ≤ length c.slots.rows / 16)
+
+  -- the id of the entry that such a core names as scheduled first; none where the core isn't such a
+  -- one, or nothing is linked there
+  abbrev pub TellsStraggler : StoreState T W → ℕ → Option EntryId → Type 0
+  TellsStraggler s i None =
+      (c : Core T W) → IsNearlyDrained s.cores i c → NoneLinked (machine c)
+  TellsStraggler s i (Some u) =
+      ((c : Core T W) × IsNearlyDrained s.cores i c) × TellsFirstIn s i (Some u)
+
+  -- so of one of the cores
+  abbrev pub IsStraggler : StoreState T W → EntryId → Type 0
+  IsStraggler s u = (i : ℕ) × TellsStraggler s i (Some u)
+
+  -- so of none of the first n cores
+  abbrev pub NoStraggler : StoreState T W → ℕ → Type 0
+  NoStraggler s n = (i : ℕ) → i < n → TellsStraggler s i None
+
+  -- the next slots of a way are swept, so many at most, and it goes on behind them; where nothing is
+  -- linked in the core there, or there is no such core, it goes on to the next one
+  abbrev pub SweepsNext : Bool → ℕ → Sweep → StoreState T W → Sweep → StoreState T W → Type 0
+  SweepsNext shared most w s v t =
+      (t.notes ≡ s.notes)
+      × ((((c : Core T W) → IsCoreAt s.cores.cores w.place c → linked_in c ≡ 0)
+      × (t.cores ≡ s.cores) × GoesOn w None (length s.cores.cores) v)
+      ⊎ ((swept : Swept)
+      × OnCoreAt w.place (SweepsFrom shared w.slot (w.slot + most) swept) s.cores t.cores
+      × GoesOn w swept.next (length s.cores.cores) v))

@@ -8,10 +8,13 @@
 //!
 //! The numbers here are a policy: any others would keep what the calls of a [`Store`] promise.
 
-ghost use Rattle.std.specs.Prelude.{◌≡◌, ◌≢◌, ◌<◌, true, IfSome, IfErr, OnOk};
+ghost use Rattle.std.specs.Prelude.{◌≡◌, ◌≤◌, max, true, false, length, IfSome, IfNone, IfErr, OnOk};
+ghost use Rattle.dq_core.specs.Core.{Core};
 ghost use Rattle.dq_core.specs.Folds.{IsFoldable};
-ghost use Rattle.dq_growing.specs.Moving.{HasFreeSlot, HasOpenRoom};
-ghost use Rattle.dq_growing.specs.Sizing.{HasRoomAt, OnlyOpens, ComesInto, IsFirstElsewhere};
+ghost use Rattle.dq_growing.specs.Moving.{HasOpenRoom};
+ghost use Rattle.dq_growing.specs.Sizing.{clear_in, HasClearAt, IsRoomier, IsRoomiest, HasNoneToOpen, HasNoRoom, OnlyOpens, ComesInto, OpensIf, OpensWanted, StaysOpen, WasBeside, AllWere, IsNearlyDrained, TellsStraggler, IsStraggler, NoStraggler, MayMake};
+ghost use Rattle.dq_growing.specs.declared.sizing.TheConstants.{CORES};
+ghost use Rattle.dq_ticks.specs.declared.TheConstants.{CAPACITY_LIMIT};
 ghost use Rattle.dq_growing.specs.Stands.{SameStand};
 ghost use Rattle.dq_growing.specs.Store.{StandsFor};
 
@@ -22,7 +25,6 @@ use crate::sweeping::Sweep;
 use dq_core::{DelayCore, Words};
 use dq_ticks::{CAPACITY_LIMIT, EntryId};
 use std::alloc::Allocator;
-use std::mem;
 
 /// The most cores of a store. A call by an entry's id compares its number with that of each.
 pub const CORES: usize = 64;
@@ -50,60 +52,61 @@ pub struct Sizing {
 // How many slots are free in which no value waits for its drop, at least: values that wait in worn slots count as if they
 // waited in free ones.
 #[inline(always)]
+#[tactic(auto, using(crate::proofs::Standing::within))]
 fn free<T, W: Words, A: Allocator>(core: &DelayCore<T, W, A>) -> usize
-    ensures { 0 < result → HasFreeSlot core.now }
+    ensures { result ≡ clear_in core.now }
 {
     core.law();
-    let waiting = if mem::needs_drop::<T>() {
-        core.deferred()
-    } else {
-        0
-    };
-    let taken = core.len() + core.worn();
-    core.capacity()
-        .saturating_sub(taken)
-        .saturating_sub(waiting)
+    let unused = core.capacity() - core.len() - core.worn();
+    unused.saturating_sub(core.deferred())
 }
 
-// So of the core at a place.
-#[inline(always)]
-fn free_at<T, W: Words, A: Allocator>(cores: &Cores<T, W, A>, place: usize) -> usize
-    ensures { 0 < result → HasRoomAt cores.now place }
-{
-    let Some(core) = cores.get(place) else {
-        return 0;
-    };
-    free(core)
-}
-
+// Whether such a slot is in the open core.
 #[inline(always)]
 fn has_open_room<T, W: Words, A: Allocator>(cores: &Cores<T, W, A>) -> bool
-    ensures { result ≡ true → HasOpenRoom cores.now }
+    ensures yes { result ≡ true → HasClearAt cores.now cores.now.opened }
+    ensures no { result ≡ false → ¬ HasClearAt cores.now cores.now.opened }
 {
-    free_at(cores, cores.opened()) > 0
+    let Some(core) = cores.get(cores.opened()) else {
+        return false;
+    };
+    free(core) > 0
 }
 
-// The place of the core with more free slots of two, where the second may be opened: half of it is free, or any will do.
+// A core's place, and how many slots are free there.
+#[derive(Clone, Copy)]
+struct Room {
+    place: usize,
+    free: usize,
+}
+
+// The one of two cores with more free slots, where the second may be opened: half of it is free, or any will do.
 fn roomier<T, W: Words, A: Allocator>(
     cores: &Cores<T, W, A>,
-    so_far: usize,
+    so_far: Room,
     place: usize,
     any_will_do: bool,
-) -> usize {
+) -> Room
+    ensures { IsRoomier cores.now any_will_do so_far place result }
+{
     let Some(core) = cores.get(place) else {
         return so_far;
     };
     let room = free(core);
-    if (room < core.capacity() / 2 && !any_will_do) || room < free_at(cores, so_far) {
-        so_far
-    } else {
-        place
+    if room < so_far.free {
+        return so_far;
     }
+    if any_will_do || core.capacity() / 2 <= room {
+        return Room { place, free: room };
+    }
+    so_far
 }
 
-// The place of the core that has the most free slots, of the open one, which has none, and of those that may be opened.
-fn roomiest<T, W: Words, A: Allocator>(cores: &Cores<T, W, A>, any_will_do: bool) -> usize {
-    let mut roomiest = cores.opened();
+// The core that has the most free slots of those that may be opened; none are free where there is no such one.
+fn roomiest<T, W: Words, A: Allocator>(cores: &Cores<T, W, A>, any_will_do: bool) -> Room
+    ensures { IsRoomiest cores.now (length cores.now.cores) any_will_do result }
+{
+    let mut roomiest = Room { place: 0, free: 0 };
     for at in 0..cores.count() {
         roomiest = roomier(cores, roomiest, at, any_will_do);
     }
@@ -144,7 +147,8 @@ fn linked<T, W: Words, A: Allocator>(cores: &Cores<T, W, A>) -> usize {
 
 // Whether a sixteenth of a core is used at most that isn't open.
 fn is_nearly_drained<T, W: Words, A: Allocator>(cores: &Cores<T, W, A>, place: usize) -> bool
-    ensures { result ≡ true → place ≢ cores.now.opened }
+    ensures yes { result ≡ true → (c : Core T W) × IsNearlyDrained cores.now place c }
+    ensures no { result ≡ false → (c : Core T W) → ¬ IsNearlyDrained cores.now place c }
 {
     if place == cores.opened() {
         return false;
@@ -153,6 +157,19 @@ fn is_nearly_drained<T, W: Words, A: Allocator>(cores: &Cores<T, W, A>, place: u
         return false;
     };
     core.len() <= core.capacity() / 16
+}
+
+// The entry that such a core names as scheduled first.
+fn straggler_in<T, W: Words, A: Allocator + Clone>(
+    store: &Store<T, W, A>,
+    place: usize,
+) -> Option<EntryId>
+    ensures { TellsStraggler store.now place result }
+{
+    if !is_nearly_drained(store.cores(), place) {
+        return None;
+    }
+    store.first_in(place)
 }
 
 // Whether half of the open core is free.
@@ -219,8 +236,12 @@ impl Sizing {
         store: &mut Store<T, W, A>,
         any_will_do: bool,
     ) -> bool
-        // Then an insert isn't refused as full.
+        // Then an insert isn't refused as full, and no value that waits for its drop is in its way.
         ensures room { result ≡ true → HasOpenRoom store.new.cores }
+        ensures clear { result ≡ true → HasClearAt store.new.cores store.new.cores.opened }
+
+        // Else there is no such slot in the open core, nor in one that may be opened.
+        ensures none { result ≡ false → HasNoRoom any_will_do store.old.cores }
 
         // No more changes than which core is open.
         ensures opens { OnlyOpens store.old store.new }
@@ -237,19 +258,22 @@ impl Sizing {
         store: &mut Store<T, W, A>,
         any_will_do: bool,
     ) -> bool
-        ensures room { result ≡ true → HasOpenRoom store.new.cores }
+        ensures clear { result ≡ true → HasClearAt store.new.cores store.new.cores.opened }
+        ensures none { result ≡ false → HasNoneToOpen any_will_do store.old.cores }
         ensures opens { OnlyOpens store.old store.new }
     {
-        let place = roomiest(store.cores(), any_will_do);
-        if free_at(store.cores(), place) == 0 {
+        let room = roomiest(store.cores(), any_will_do);
+        if room.free == 0 {
             return false;
         }
         self.note_work();
-        store.open(place)
+        store.open(room.place)
     }
 
     // The slots of the next core: twice as many as there are entries.
-    fn next_capacity<T, W: Words, A: Allocator>(&self, cores: &Cores<T, W, A>) -> usize {
+    fn next_capacity<T, W: Words, A: Allocator>(&self, cores: &Cores<T, W, A>) -> usize
+        ensures { result ≤ CAPACITY_LIMIT }
+    {
         let twice = linked(cores).saturating_mul(2).min(CAPACITY_LIMIT);
         twice
             .next_power_of_two()
@@ -278,7 +302,10 @@ impl Sizing {
     pub fn capacity_for_insert<T, W: Words, A: Allocator + Clone>(
         &self,
         store: &Store<T, W, A>,
-    ) -> Option<usize> {
+    ) -> Option<usize>
+        ensures some { IfSome result (MayMake store.now) }
+        ensures none { IfNone result (CORES ≤ length store.now.cores.cores) }
+    {
         let cores = store.cores();
         if cores.count() >= CORES {
             return None;
@@ -290,7 +317,9 @@ impl Sizing {
     pub fn capacity_ahead<T, W: Words, A: Allocator + Clone>(
         &self,
         store: &Store<T, W, A>,
-    ) -> Option<usize> {
+    ) -> Option<usize>
+        ensures { IfSome result (MayMake store.now) }
+    {
         let cores = store.cores();
         let is_ahead = self.kept == 0 && is_nearly_full(cores);
         if cores.opened() >= cores.count() || !(is_ahead || self.is_to_be_exchanged(cores)) {
@@ -310,8 +339,11 @@ impl Sizing {
         core: DelayCore<T, W, A>,
     ) -> Result<(), DelayCore<T, W, A>>
         ensures comes { OnOk result (ComesInto store.old core store.new) }
+
+        // It is open where the open one has no free slot; else it is, or the one that was still is.
+        ensures opens { OnOk result (OpensWanted store.old.cores store.new.cores) }
         ensures stands { SameStand (StandsFor store.old) (StandsFor store.new) }
-        ensures back { IfErr result (λ c. c ≡ core) }
+        ensures back { IfErr result (λ c. (c ≡ core) × (store.new.cores ≡ store.old.cores)) }
     {
         let is_needed = !has_open_room(store.cores()) || self.is_to_be_exchanged(store.cores());
         let taken = take_in(store, core, is_needed);
@@ -370,7 +402,9 @@ impl Sizing {
         &mut self,
         store: &mut Store<T, W, A>,
     ) -> Option<DelayCore<T, W, A>>
-        ensures drained { IfSome result (λ c. IsFoldable c) }
+        // It was a core that isn't open. That one stays open.
+        ensures drained { IfSome result (λ c. IsFoldable c × WasBeside store.old.cores c) }
+        ensures opens { StaysOpen store.old.cores store.new.cores }
         ensures stands { SameStand (StandsFor store.old) (StandsFor store.new) }
     {
         self.has_work = false;
@@ -380,6 +414,7 @@ impl Sizing {
         // The cores get other places.
         self.sweep.restart(slots(store.cores()));
         for _turn in 0..store.cores().count() {
+            store.cores.law();
             if let Some(core) = self.take_first(store) {
                 return Some(core);
             }
@@ -393,7 +428,9 @@ impl Sizing {
         &self,
         store: &mut Store<T, W, A>,
     ) -> Option<DelayCore<T, W, A>>
-        ensures drained { IfSome result (λ c. IsFoldable c) }
+        ensures drained { IfSome result (λ c. IsFoldable c × WasBeside store.old.cores c) }
+        ensures were { AllWere store.old.cores store.new.cores }
+        ensures opens { StaysOpen store.old.cores store.new.cores }
         ensures stands { SameStand (StandsFor store.old) (StandsFor store.new) }
     {
         let slots = slots(store.cores());
@@ -411,20 +448,17 @@ impl Sizing {
     }
 
     /// Returns an entry that may be moved into the open core, so that its own one drains: the one that is scheduled first
-    /// in a core that isn't open and of which a sixteenth is used at most.
-    #[tactic(auto, using(crate::proofs::Sizes::elsewhere))]
+    /// in a core that isn't open and of which a sixteenth is used at most. It returns none if none is in such a core.
     pub fn straggler<T, W: Words, A: Allocator + Clone>(
         &self,
         store: &Store<T, W, A>,
     ) -> Option<EntryId>
-        ensures { IfSome result (λ u. IsFirstElsewhere store.now u) }
+        ensures first { IfSome result (λ u. IsStraggler store.now u) }
+        ensures none { IfNone result (NoStraggler store.now (length store.now.cores.cores)) }
     {
-        let cores = store.cores();
-        for at in 0..cores.count() {
-            if is_nearly_drained(cores, at) {
-                if let Some(entry) = store.first_in(at) {
-                    return Some(entry);
-                }
+        for at in 0..store.cores().count() {
+            if let Some(entry) = straggler_in(store, at) {
+                return Some(entry);
             }
         }
         None
@@ -459,7 +493,9 @@ impl Sizing {
     }
 
     /// Keeps memory for so many entries for good.
-    pub fn keep(&mut self, entries: usize) {
+    pub fn keep(&mut self, entries: usize)
+        ensures { self.new ≡ record self.old { kept = max self.old.kept entries } }
+    {
         self.kept = self.kept.max(entries);
     }
 
@@ -488,8 +524,9 @@ fn take_in<T, W: Words, A: Allocator + Clone>(
     is_needed: bool,
 ) -> Result<(), DelayCore<T, W, A>>
     ensures comes { OnOk result (ComesInto store.old core store.new) }
+    ensures opens { OnOk result (OpensIf is_needed store.old.cores store.new.cores) }
     ensures stands { SameStand (StandsFor store.old) (StandsFor store.new) }
-    ensures back { IfErr result (λ c. c ≡ core) }
+    ensures back { IfErr result (λ c. (c ≡ core) × (store.new.cores ≡ store.old.cores)) }
 {
     core.law();
     let opened = store.cores().opened();

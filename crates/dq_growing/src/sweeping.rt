@@ -1,6 +1,7 @@
 //! How cancelled entries are freed where there is time: a few slots of a core at once, round and round.
 
-ghost use Rattle.dq_growing.specs.Sizing.{SweepsAPart};
+ghost use Rattle.std.specs.Prelude.{◌≡◌, ◌≤◌, ◌+◌, ◌-◌, max, true, false, MatchOption, None};
+ghost use Rattle.dq_growing.specs.Sizing.{GoesOn, SweepsNext, end_of};
 
 use crate::NEVER;
 use crate::sizing::{Sizing, slots};
@@ -22,7 +23,9 @@ pub(crate) struct Sweep {
 }
 
 // The slot to go on from, none where the core is done.
-fn next_of(swept: Option<Swept>) -> Option<usize> {
+fn next_of(swept: Option<Swept>) -> Option<usize>
+    ensures { MatchOption swept (result ≡ None) (λ s. result ≡ s.next) }
+{
     match swept {
         Some(swept) => swept.next,
         None => None,
@@ -47,7 +50,12 @@ impl Sweep {
     }
 
     // Goes on to a slot of the core of that many slots, or to the next core, of which there are so many.
-    fn go_on(&mut self, next: Option<usize>, capacity: usize, cores: usize) {
+    fn go_on(&mut self, next: Option<usize>, capacity: usize, cores: usize)
+        ensures goes_on { GoesOn self.old next cores self.new }
+
+        // No more slots are taken off than were looked at; but a core of none counts as one.
+        ensures left { self.old.left ≤ self.new.left + max (end_of next capacity - self.old.slot) 1 }
+    {
         let end = next.unwrap_or(capacity);
         let looked_at = end.saturating_sub(self.slot).max(1);
         self.left = self.left.saturating_sub(looked_at);
@@ -67,7 +75,14 @@ impl Sizing {
         store: &mut Store<T, W, A>,
         cancels: u64,
     ) -> bool
-        ensures { SweepsAPart W.shared 256 store.old store.new }
+        // The next slots of its way are swept, and it goes on behind them.
+        ensures sweeps { result ≡ true
+            → SweepsNext W.shared 256 self.old.sweep store.old self.new.sweep store.new }
+
+        // Else nothing changes; and where there are as many cancels as before, no slot was left.
+        ensures rests { result ≡ false → store.new ≡ store.old }
+        ensures left { result ≡ false
+            → self.old.sweep.cancels ≡ cancels → self.old.sweep.left ≡ 0 }
     {
         if self.sweep.cancels != cancels {
             self.sweep.cancels = cancels;
@@ -87,13 +102,15 @@ impl Sizing {
         &mut self,
         store: &Store<T, W, A>,
         cancels: u64,
-    ) {
+    )
+        ensures { self.new.sweep ≡ self.old.sweep }
+    {
         let is_quiet = self.sweep.left == 0 && !self.is_busy(store);
         self.quiet_since = if is_quiet { cancels } else { NEVER };
     }
 
     fn sweep_some<T, W: Words, A: Allocator + Clone>(&mut self, store: &mut Store<T, W, A>)
-        ensures { SweepsAPart W.shared 256 store.old store.new }
+        ensures { SweepsNext W.shared 256 self.old.sweep store.old self.new.sweep store.new }
     {
         let cores = store.cores().count();
         let Some(core) = store.cores().get(self.sweep.place) else {

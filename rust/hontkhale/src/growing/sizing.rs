@@ -14,7 +14,6 @@ use crate::growing::store::Store;
 use crate::growing::sweeping::Sweep;
 use crate::growing::NEVER;
 use crate::ticks::{EntryId, CAPACITY_LIMIT};
-use core::mem;
 
 /// The most cores of a store. A call by an entry's id compares its number with that of each.
 pub const CORES: usize = 64;
@@ -43,41 +42,44 @@ pub struct Sizing {
 // waited in free ones.
 #[inline(always)]
 fn free<T, W: Words>(core: &DelayCore<T, W>) -> usize {
-    let waiting = if mem::needs_drop::<T>() { core.deferred() } else { 0 };
-    let taken = core.len() + core.worn();
-    core.capacity().saturating_sub(taken).saturating_sub(waiting)
+    let unused = core.capacity() - core.len() - core.worn();
+    unused.saturating_sub(core.deferred())
 }
 
-// So of the core at a place.
-#[inline(always)]
-fn free_at<T, W: Words>(cores: &Cores<T, W>, place: usize) -> usize {
-    let Some(core) = cores.get(place) else {
-        return 0;
-    };
-    free(core)
-}
-
+// Whether such a slot is in the open core.
 #[inline(always)]
 fn has_open_room<T, W: Words>(cores: &Cores<T, W>) -> bool {
-    free_at(cores, cores.opened()) > 0
+    let Some(core) = cores.get(cores.opened()) else {
+        return false;
+    };
+    free(core) > 0
 }
 
-// The place of the core with more free slots of two, where the second may be opened: half of it is free, or any will do.
-fn roomier<T, W: Words>(cores: &Cores<T, W>, so_far: usize, place: usize, any_will_do: bool) -> usize {
+// A core's place, and how many slots are free there.
+#[derive(Clone, Copy)]
+struct Room {
+    place: usize,
+    free: usize,
+}
+
+// The one of two cores with more free slots, where the second may be opened: half of it is free, or any will do.
+fn roomier<T, W: Words>(cores: &Cores<T, W>, so_far: Room, place: usize, any_will_do: bool) -> Room {
     let Some(core) = cores.get(place) else {
         return so_far;
     };
     let room = free(core);
-    if (room < core.capacity() / 2 && !any_will_do) || room < free_at(cores, so_far) {
-        so_far
-    } else {
-        place
+    if room < so_far.free {
+        return so_far;
     }
+    if any_will_do || core.capacity() / 2 <= room {
+        return Room { place, free: room };
+    }
+    so_far
 }
 
-// The place of the core that has the most free slots, of the open one, which has none, and of those that may be opened.
-fn roomiest<T, W: Words>(cores: &Cores<T, W>, any_will_do: bool) -> usize {
-    let mut roomiest = cores.opened();
+// The core that has the most free slots of those that may be opened; none are free where there is no such one.
+fn roomiest<T, W: Words>(cores: &Cores<T, W>, any_will_do: bool) -> Room {
+    let mut roomiest = Room { place: 0, free: 0 };
     for at in 0..cores.count() {
         roomiest = roomier(cores, roomiest, at, any_will_do);
     }
@@ -125,6 +127,14 @@ fn is_nearly_drained<T, W: Words>(cores: &Cores<T, W>, place: usize) -> bool {
         return false;
     };
     core.len() <= core.capacity() / 16
+}
+
+// The entry that such a core names as scheduled first.
+fn straggler_in<T, W: Words>(store: &Store<T, W>, place: usize) -> Option<EntryId> {
+    if !is_nearly_drained(store.cores(), place) {
+        return None;
+    }
+    store.first_in(place)
 }
 
 // Whether half of the open core is free.
@@ -195,12 +205,12 @@ impl Sizing {
 
     #[cold]
     fn opens_another<T, W: Words>(&mut self, store: &mut Store<T, W>, any_will_do: bool) -> bool {
-        let place = roomiest(store.cores(), any_will_do);
-        if free_at(store.cores(), place) == 0 {
+        let room = roomiest(store.cores(), any_will_do);
+        if room.free == 0 {
             return false;
         }
         self.note_work();
-        store.open(place)
+        store.open(room.place)
     }
 
     // The slots of the next core: twice as many as there are entries.
@@ -329,14 +339,11 @@ impl Sizing {
     }
 
     /// Returns an entry that may be moved into the open core, so that its own one drains: the one that is scheduled first
-    /// in a core that isn't open and of which a sixteenth is used at most.
+    /// in a core that isn't open and of which a sixteenth is used at most. It returns none if none is in such a core.
     pub fn straggler<T, W: Words>(&self, store: &Store<T, W>) -> Option<EntryId> {
-        let cores = store.cores();
-        for at in 0..cores.count() {
-            if is_nearly_drained(cores, at) {
-                if let Some(entry) = store.first_in(at) {
-                    return Some(entry);
-                }
+        for at in 0..store.cores().count() {
+            if let Some(entry) = straggler_in(store, at) {
+                return Some(entry);
             }
         }
         None

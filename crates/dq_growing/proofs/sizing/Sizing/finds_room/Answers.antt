@@ -1,8 +1,21 @@
-use Rattle.dq_growing.proofs.Sizes.{room_in, still}
+use Rattle.std.proofs.Common.{sym}
+use Rattle.dq_growing.proofs.Sizes.{clear_as, clear_room, still}
 use Rattle.dq_growing.proofs.sizing.Sizing.finds_room.Goals as goal
 
 pub returns-then-has_open_room-clause-room : goal.returns-then-has_open_room-clause-room
-returns-then-has_open_room-clause-room g c _ = room_in _ c.args.store.now.cores c.cores.ensures (c.has_open_room.ensures c.if-has_open_room.true)
+returns-then-has_open_room-clause-room g c _ =
+    clear_room c.args.store.now.cores (clear_as _ c.args.store.now.cores c.cores.ensures (c.has_open_room.ensures.yes c.if-has_open_room.true))
+
+pub returns-then-has_open_room-clause-clear : goal.returns-then-has_open_room-clause-clear
+returns-then-has_open_room-clause-clear g c _ =
+    clear_as _ c.args.store.now.cores c.cores.ensures (c.has_open_room.ensures.yes c.if-has_open_room.true)
 
 pub returns-then-has_open_room-clause-opens : goal.returns-then-has_open_room-clause-opens
 returns-then-has_open_room-clause-opens g c = still c.args.store.now
+
+pub returns-clause-room : goal.returns-clause-room
+returns-clause-room g c is = clear_room c.opens_another.new.store.cores (c.opens_another.ensures.clear is)
+
+pub returns-clause-none : goal.returns-clause-none
+returns-clause-none g c is =
+    ((λ x. c.has_open_room.ensures.no c.if-has_open_room.false (clear_as c.args.store.now.cores _ (sym c.cores.ensures) x)), c.opens_another.ensures.none is)

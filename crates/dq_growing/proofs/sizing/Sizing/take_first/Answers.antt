@@ -1,9 +1,26 @@
 use Rattle.dq_growing.specs.Store.{StandsFor}
-use Rattle.dq_growing.proofs.Sizes.{stays, gives_same, then_stand}
+use Rattle.dq_growing.proofs.Sizes.{all_were, comes_were, gives_open, gives_same, gives_were, same_open, stays, then_open, then_stand, then_were, was_beside}
 use Rattle.dq_growing.proofs.sizing.Sizing.take_first.Goals as goal
+
+pub returns-in_default-clause-were : goal.returns-in_default-clause-were
+returns-in_default-clause-were g c = all_were c.args.store.now.cores c.take_drained.new.self.cores c.in_default.ensures.none.1
+
+pub returns-in_default-clause-opens : goal.returns-in_default-clause-opens
+returns-in_default-clause-opens g c = same_open c.args.store.now.cores c.take_drained.new.self.cores c.in_default.ensures.none.1
 
 pub returns-in_default-clause-stands : goal.returns-in_default-clause-stands
 returns-in_default-clause-stands g c = stays c.args.store.now c.take_drained.new.self c.in_default.ensures.none.1 c.in_default.ensures.notes
+
+pub returns-then-is_needless-clause-drained : goal.returns-then-is_needless-clause-drained
+returns-then-is_needless-clause-drained g c =
+    let gives = c.in-Some.ensures.gives in
+    (gives.drained.2, was_beside c.args.store.now.cores c.take_drained.new.self.cores c.in-Some.core gives)
+
+pub returns-then-is_needless-clause-were : goal.returns-then-is_needless-clause-were
+returns-then-is_needless-clause-were g c = gives_were c.args.store.now.cores c.take_drained.new.self.cores c.in-Some.core c.in-Some.ensures.gives
+
+pub returns-then-is_needless-clause-opens : goal.returns-then-is_needless-clause-opens
+returns-then-is_needless-clause-opens g c = gives_open c.args.store.now.cores c.take_drained.new.self.cores c.in-Some.core c.in-Some.ensures.gives
 
 pub returns-then-is_needless-clause-stands : goal.returns-then-is_needless-clause-stands
 returns-then-is_needless-clause-stands g c =
@@ -18,3 +35,29 @@ pub returns-clause-stands : goal.returns-clause-stands
 returns-clause-stands g c =
     let gone = gives_same c.args.store.now c.take_drained.new.self c.in-Some.core c.law.ensures.shard c.in-Some.ensures.gives c.in-Some.ensures.notes in
     then_stand (StandsFor c.args.store.now) (StandsFor c.take_drained.new.self) (StandsFor c.take_in.new.store) gone c.take_in.ensures.stands
+
+pub returns-in-Err-clause-were : goal.returns-in-Err-clause-were
+returns-in-Err-clause-were g c =
+    then_were c.args.store.now.cores c.take_drained.new.self.cores c.take_in.new.store.cores
+    (gives_were c.args.store.now.cores c.take_drained.new.self.cores c.in-Some.core c.in-Some.ensures.gives)
+    (all_were c.take_drained.new.self.cores c.take_in.new.store.cores c.in-Err.ensures.back.1)
+
+pub returns-in-Err-clause-opens : goal.returns-in-Err-clause-opens
+returns-in-Err-clause-opens g c =
+    then_open c.args.store.now.cores c.take_drained.new.self.cores c.take_in.new.store.cores
+    (gives_open c.args.store.now.cores c.take_drained.new.self.cores c.in-Some.core c.in-Some.ensures.gives)
+    (same_open c.take_drained.new.self.cores c.take_in.new.store.cores c.in-Err.ensures.back.1)
+
+pub returns-clause-were : goal.returns-clause-were
+returns-clause-were g c =
+    let gives = c.in-Some.ensures.gives in
+    comes_were c.args.store.now.cores c.take_drained.new.self.cores c.take_in.new.store.cores c.in-Some.core
+    (was_beside c.args.store.now.cores c.take_drained.new.self.cores c.in-Some.core gives)
+    (gives_were c.args.store.now.cores c.take_drained.new.self.cores c.in-Some.core gives)
+    c.in_default-take_in.ensures.comes.0
+
+pub returns-clause-opens : goal.returns-clause-opens
+returns-clause-opens g c =
+    then_open c.args.store.now.cores c.take_drained.new.self.cores c.take_in.new.store.cores
+    (gives_open c.args.store.now.cores c.take_drained.new.self.cores c.in-Some.core c.in-Some.ensures.gives)
+    c.in_default-take_in.ensures.opens

@@ -1,6 +1,8 @@
+use Rattle.dq_growing.specs.Sizing.{AllWere, StaysOpen}
 use Rattle.dq_growing.specs.Stands.{SameStand}
 use Rattle.dq_growing.specs.Store.{StandsFor}
 use Rattle.dq_growing.proofs.sizing.Sizing.take_needless.Given as goal
 
 abbrev pub invariant-loop-turn : goal.invariant-loop-turn
-invariant-loop-turn g l = SameStand (StandsFor l.fn.store) (StandsFor l.store)
+invariant-loop-turn g l =
+    SameStand (StandsFor l.fn.store) (StandsFor l.store) × AllWere l.fn.store.cores l.store.cores × StaysOpen l.fn.store.cores l.store.cores
