@@ -25,7 +25,7 @@ use Rattle.dq_growing.specs.Cores.{CoreRow, AreCores, HaveOwnNumbers, IsCoreAt, 
 use Rattle.dq_growing.specs.Moving.{IfTo, IfCameOut, GoesOnIn}
 use Rattle.dq_growing.specs.Notes.{Book, AreNotes, ArePastBy, AllArePast, SameNotes, Forgets, meant_place, with_id, numbers_of, or_own, user_at}
 use Rattle.dq_growing.specs.Polls.{PollsRow, PollsCore, RestsIn, DoesPiece, DoesPoll, IfPieceOut, noting_in, told}
-use Rattle.dq_growing.specs.Runs.{StoreCall, WasGiven, GaveOut, KeepsId, KeepsIds, KeepsIdsBeside, GivesId, GoesByCalls, NoneFrom, StandsUntil, EntriesLeaveOnce, EndedStaysEnded, CoresGiveNoneAnew}
+use Rattle.dq_growing.specs.Runs.{StoreCall, IsUsedId, GaveOut, KeepsId, KeepsIds, KeepsIdsBeside, GivesId, GoesByStoreCalls, NoneFrom, StandsUntil, StoreEntriesLeaveOnce, StoreEndedStaysEnded, CoresGiveNoneAnew}
 use Rattle.dq_growing.specs.Stands.{IsThere, IsPastAt, IsPastIn, AgesAs, Ages, OneLeaves, HasEntry, HasNoEntry, StandsAlike}
 use Rattle.dq_growing.specs.Store.{StoreState, IsStore, HasFor, HasOneValue, NoneStandsFor, GoesOnFor, GoesOut, NotesAfter, NotesAnswered, piece_as}
 use Rattle.dq_growing.specs.declared.cores.TakeError.{TakeError}
@@ -121,14 +121,14 @@ module _ {T W : Type 0} where
   gave_under : (s t : StoreState T W) (o : Option (EntryId × T)) (u : EntryId) (v : T) → o ≡ Some (u, v) → GaveOut s o t → GoesOut s u v t
   gave_under s t o u v is gave = let P : Option (EntryId × T) → Type 0 = λ k. GaveOut s k t in subst P is gave
 
-  none_from : (u : EntryId) (s : StoreState T W) (calls : List (StoreCall T W)) → WasGiven s u → GoesByCalls u s calls → NoneStandsFor s u → NoneFrom u calls
+  none_from : (u : EntryId) (s : StoreState T W) (calls : List (StoreCall T W)) → IsUsedId s u → GoesByStoreCalls u s calls → NoneStandsFor s u → NoneFrom u calls
   none_from u s [] given go none = tt {0}
   none_from u s (call ∷ calls) given go none =
       let k = go.0 given in
       let gone : NoneStandsFor call.left u = λ e z. let f = k.stood e.value (e, z, refl) in none f.0 f.1 in
       (gone, (λ v is. let out = gave_under s call.left call.gave u v is go.1 in none out.0.0 out.0.1), none_from u call.left calls k.given go.2 gone)
 
-  until : (u : EntryId) (v : T) (s : StoreState T W) (calls : List (StoreCall T W)) → WasGiven s u → HasOneValue s u → GoesByCalls u s calls → HasFor s u v → StandsUntil u v calls
+  until : (u : EntryId) (v : T) (s : StoreState T W) (calls : List (StoreCall T W)) → IsUsedId s u → HasOneValue s u → GoesByStoreCalls u s calls → HasFor s u v → StandsUntil u v calls
   until u v s [] given one go has = tt {0}
   until u v s (call ∷ calls) given one go has =
       let t = call.left in
@@ -154,7 +154,7 @@ module _ {T W : Type 0} where
       }
 
   -- one id, where the cores age as its places do, and what stands has the users that it had
-  module _ (s t : StoreState T W) (law : IsStore s) (u : EntryId) (given : WasGiven s u) (own : AgesAs s.cores t.cores u)
+  module _ (s t : StoreState T W) (law : IsStore s) (u : EntryId) (given : IsUsedId s u) (own : AgesAs s.cores t.cores u)
       (ages : (q : EntryId) → user_at s.notes q ≡ u → AgesAs s.cores t.cores q)
       (same : (q : EntryId) (e : Entry T) → HasEntry t.cores q e → user_at t.notes q ≡ user_at s.notes q) where
     past_place : (q : EntryId) → user_at s.notes q ≡ u → IsPastIn s.cores q
@@ -455,10 +455,10 @@ module _ {T W : Type 0} where
   takes_keep s cores c (Ok done) law lawful past takes refused u own given = keeps_beside s cores c law lawful takes past u own given
   takes_keep s cores c (Err e) law lawful past takes refused u own given = same_ids s cores refused.2 u given
 
-pub entries_leave_once : (T W : Type 0) → EntriesLeaveOnce T W
+pub entries_leave_once : (T W : Type 0) → StoreEntriesLeaveOnce T W
 entries_leave_once T W u v s calls given one go has = until u v s calls given one go has
 
-pub ended_stays_ended : (T W : Type 0) → EndedStaysEnded T W
+pub ended_stays_ended : (T W : Type 0) → StoreEndedStaysEnded T W
 ended_stays_ended T W u s calls given go none = none_from u s calls given go none
 
 pub no_core_gives_anew : (T W : Type 0) → CoresGiveNoneAnew T W

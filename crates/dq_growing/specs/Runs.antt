@@ -14,28 +14,28 @@ pub record StoreCall (T W : Type 0) : Type 0 where
 
 module _ {T W : Type 0} where
   -- an entry has had an id: its number is a used one, and no new entry gets the id
-  abbrev pub WasGiven : StoreState T W → EntryId → Type 0
-  WasGiven s u = (u.shard < s.cores.next) × IsPastIn s.cores u
+  abbrev pub IsUsedId : StoreState T W → EntryId → Type 0
+  IsUsedId s u = (u.shard < s.cores.next) × IsPastIn s.cores u
 
   -- what a call leaves of an id that an entry has had: no new entry gets it; the entry stands with its
   -- value as before, or has left; and what stands under the id stood under it before
   pub record KeepsId (s t : StoreState T W) (u : EntryId) : Type 0 where
-    pub given : WasGiven t u
+    pub given : IsUsedId t u
     pub stays : (v : T) → HasFor s u v → HasFor t u v ⊎ NoneStandsFor t u
     pub stood : (v : T) → HasFor t u v → HasFor s u v
 
   -- so of each id that an entry has had
   abbrev pub KeepsIds : StoreState T W → StoreState T W → Type 0
-  KeepsIds s t = (u : EntryId) → WasGiven s u → KeepsId s t u
+  KeepsIds s t = (u : EntryId) → IsUsedId s u → KeepsId s t u
 
   -- so of each such id that a core which comes in doesn't give anew
   abbrev pub KeepsIdsBeside : Core T W → StoreState T W → StoreState T W → Type 0
   KeepsIdsBeside c s t =
-      (u : EntryId) → ArePastBy (numbers_of u) c → WasGiven s u → KeepsId s t u
+      (u : EntryId) → ArePastBy (numbers_of u) c → IsUsedId s u → KeepsId s t u
 
   -- no entry had had an id, and one has it now
   abbrev pub GivesId : StoreState T W → EntryId → StoreState T W → Type 0
-  GivesId s u t = (¬ WasGiven s u) × WasGiven t u
+  GivesId s u t = (¬ IsUsedId s u) × IsUsedId t u
 
   -- what a call gave out, if it did: that stood under its user's id, and none stands there any more
   abbrev pub GaveOut : StoreState T W → Option (EntryId × T) → StoreState T W → Type 0
@@ -43,11 +43,11 @@ module _ {T W : Type 0} where
   GaveOut s (Some (u, v)) t = GoesOut s u v t
 
   -- calls, one after the other, from that store on: each kept an id
-  abbrev pub GoesByCalls : EntryId → StoreState T W → List (StoreCall T W) → Type 0
-  GoesByCalls u s [] = Unit {0}
-  GoesByCalls u s (call ∷ calls) =
-      (WasGiven s u → KeepsId s call.left u) × GaveOut s call.gave call.left
-      × GoesByCalls u call.left calls
+  abbrev pub GoesByStoreCalls : EntryId → StoreState T W → List (StoreCall T W) → Type 0
+  GoesByStoreCalls u s [] = Unit {0}
+  GoesByStoreCalls u s (call ∷ calls) =
+      (IsUsedId s u → KeepsId s call.left u) × GaveOut s call.gave call.left
+      × GoesByStoreCalls u call.left calls
 
   -- a call gave nothing out under an id
   abbrev pub GaveNone : EntryId → StoreCall T W → Type 0
@@ -68,22 +68,22 @@ module _ {T W : Type 0} where
       × NoneFrom u calls)
 
 -- an entry leaves at most once, and has its value until then
-abbrev pub EntriesLeaveOnce : Type 0 → Type 0 → Type 0
-EntriesLeaveOnce T W =
-    (u : EntryId) (v : T) (s : StoreState T W) (calls : List (StoreCall T W)) → WasGiven s u →
-    HasOneValue s u → GoesByCalls u s calls → HasFor s u v → StandsUntil u v calls
+abbrev pub StoreEntriesLeaveOnce : Type 0 → Type 0 → Type 0
+StoreEntriesLeaveOnce T W =
+    (u : EntryId) (v : T) (s : StoreState T W) (calls : List (StoreCall T W)) → IsUsedId s u →
+    HasOneValue s u → GoesByStoreCalls u s calls → HasFor s u v → StandsUntil u v calls
 
 -- under an id whose entry has left none stands ever again, and nothing is given out
-abbrev pub EndedStaysEnded : Type 0 → Type 0 → Type 0
-EndedStaysEnded T W =
-    (u : EntryId) (s : StoreState T W) (calls : List (StoreCall T W)) → WasGiven s u →
-    GoesByCalls u s calls → NoneStandsFor s u → NoneFrom u calls
+abbrev pub StoreEndedStaysEnded : Type 0 → Type 0 → Type 0
+StoreEndedStaysEnded T W =
+    (u : EntryId) (s : StoreState T W) (calls : List (StoreCall T W)) → IsUsedId s u →
+    GoesByStoreCalls u s calls → NoneStandsFor s u → NoneFrom u calls
 
 -- a core of an unused number, or one that has drained, gives no id anew that an entry has had
 pub record CoresGiveNoneAnew (T W : Type 0) : Type 0 where
   pub unused :
-      (u : EntryId) (s : StoreState T W) (c : Core T W) → WasGiven s u → s.cores.next ≤ c.shard →
+      (u : EntryId) (s : StoreState T W) (c : Core T W) → IsUsedId s u → s.cores.next ≤ c.shard →
       ArePastBy (numbers_of u) c
   pub drained :
-      (u : EntryId) (s : StoreState T W) (c : Core T W) (t : CoreRow T W) → WasGiven s u →
+      (u : EntryId) (s : StoreState T W) (c : Core T W) (t : CoreRow T W) → IsUsedId s u →
       GivesDrained s.cores c t → ArePastBy (numbers_of u) c

@@ -7,19 +7,19 @@
 //! `came_out` and `goes_out` tell.
 //!
 //! Each function is empty: its contract is the law, and a call of it hands the law to the prover.
-ghost use Rattle.dq_growing.specs.Runs.{CoresGiveNoneAnew, EndedStaysEnded, EntriesLeaveOnce};
+ghost use Rattle.dq_growing.specs.Runs.{CoresGiveNoneAnew, StoreEndedStaysEnded, StoreEntriesLeaveOnce};
 
 /// An entry leaves at most once, whatever calls are made, and has its value until then. The call by which it left alone may
 /// give it out, with that value. From then on none stands under its id, and nothing is given out under it.
 #[tactic(auto, using(crate::proofs::Keeping::entries_leave_once))]
 pub fn entries_leave_once<T, W>()
-    ensures { EntriesLeaveOnce T W }
+    ensures { StoreEntriesLeaveOnce T W }
 {}
 
 /// Under an id whose entry has left none stands ever again, and nothing is given out.
 #[tactic(auto, using(crate::proofs::Keeping::ended_stays_ended))]
 pub fn ended_stays_ended<T, W>()
-    ensures { EndedStaysEnded T W }
+    ensures { StoreEndedStaysEnded T W }
 {}
 
 /// A core of an unused number gives no id anew that an entry has had, nor does one that has drained.
