@@ -7,8 +7,8 @@ ASSIGNS = {"=", "+=", "-=", "|=", "&=", "^="}
 READS = {"cancels", "capacity", "deferred", "is_some", "law", "lock", "next_key", "number", "peek", "shard"}
 CHANGES = {
     "cancel", "clear_deferring", "deadline", "extend", "insert_deferring", "look",
-    "poll_deferring", "poll_some_deferring", "reap_deferring", "remove", "reset", "sweep_some_deferring", "take", "take_deferred",
-    "with_value",
+    "poll_deferring", "poll_some_deferring", "reap_deferring", "remove", "remove_if_due", "reset", "sweep_some_deferring",
+    "take", "take_deferred", "with_value",
 }
 
 

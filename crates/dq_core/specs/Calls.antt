@@ -261,6 +261,13 @@ abbrev pub TellsDeadline : {T W : Type 0} →
 TellsDeadline shared b id (Ok d) c = IsFoundLive shared b id d c
 TellsDeadline shared b id (Err e) c = FindRefused shared b id e c
 
+-- a remove of what is due by a tick: or the entry's deadline in force is later, or a refusal
+abbrev pub RemovesIfDue : {T W : Type 0} →
+    Bool → Core T W → EntryId → ℕ → Result (Option (Removed T)) CoreError → Core T W → Type 0
+RemovesIfDue shared b id tick (Ok (Some x)) c = (x.deadline ≤ tick) × IsRemoved shared b id x c
+RemovesIfDue shared b id tick (Ok None) c = (d : ℕ) × (tick < d) × IsFoundLive shared b id d c
+RemovesIfDue shared b id tick (Err e) c = FindRefused shared b id e c
+
 -- poll
 
 -- an entry left the machine, expired at its deadline in force, with its key of the present stamp

@@ -72,6 +72,19 @@ abbrev pub IsChanged : Bool → ℕ → (ℕ → Parts) → Parts → Option ℕ
 IsChanged shared s into w (Some d) v = Learned shared w (live s d) × (v ≡ into d)
 IsChanged shared s into w None v = Learned shared w (cancelled s) × (v ≡ cancelled s)
 
+-- how a live word was removed by a tick: or it is live until a later one, or was found cancelled
+abbrev pub IsFinishedBy : Bool → ℕ → ℕ → Parts → Look → Parts → Type 0
+IsFinishedBy shared s tick w (LookRemoved d) v =
+    (d ≤ tick) × IsChanged shared s (removed s) w (Some d) v
+IsFinishedBy shared s tick w (StillLive d) v = (tick < d) × IsChanged shared s (live s) w (Some d) v
+IsFinishedBy shared s tick w LookCancelled v = IsChanged shared s (removed s) w None v
+IsFinishedBy shared s tick w (LookExpired d) v = ⊥
+
+-- the deadline that was in force as the word was removed
+abbrev pub removed_at : Look → Option ℕ
+removed_at (LookRemoved d) = Some d
+removed_at look = None
+
 -- the counts with one begin more
 abbrev pub begun_counts : Counts → Counts
 begun_counts c = record c { begins = c.begins + 1 }

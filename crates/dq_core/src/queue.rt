@@ -16,7 +16,7 @@ ghost use Rattle.dq_wheel.specs.State.{filed_at, fresh_filing};
 use crate::errors::{CoreConfig, CoreError};
 use crate::outcomes::{Expired, Pace, Progress, Removed, Tally, Turn};
 use crate::slots::Slots;
-use crate::words::{Settled, Words};
+use crate::words::{Look, Settled, Words};
 use dq_ticks::{CAPACITY_LIMIT, EntryId, Key, LAST_STAMP, LAST_TICK, Mark, REACH};
 use dq_wheel::{Beside, Wheel, wakes_are_ahead};
 use std::alloc::{AllocError, Allocator, Global};
@@ -210,7 +210,7 @@ impl<T, W: Words, A: Allocator> DelayCore<T, W, A> {
     ghost use Rattle.dq_core.specs.Machine.{NoneLiveBefore, NoneLinked, table_at};
     ghost use Rattle.dq_core.specs.AtTheCall.{IfOut, IfRests, linked_in, IsLinkedAs, HoldsValue, OthersStay, KeepsSlots};
     ghost use Rattle.dq_core.specs.declared.errors.CoreError.TheVariants.{TooFar, Missing, WasCancelled};
-    ghost use Rattle.dq_core.specs.Calls.{SameCore, base_for, IsMissing, IsLiveEntry, IsCancelledEntry, Inserts, noting, Polls, TellsWake, WakesAhead, IsFind, TellsDeadline, Removes, Resets};
+    ghost use Rattle.dq_core.specs.Calls.{SameCore, base_for, IsMissing, IsLiveEntry, IsCancelledEntry, Inserts, noting, Polls, TellsWake, WakesAhead, IsFind, RemovesIfDue, TellsDeadline, Removes, Resets};
     ghost use Rattle.dq_core.specs.Pieces.{SettlesDue, IsStepAt};
 
     /// The shard law, what the wheel's own law says of this queue's wheel, and that what is known and counted is what
@@ -621,6 +621,48 @@ impl<T, W: Words, A: Allocator> DelayCore<T, W, A> {
             deadline,
             value: held.value,
         })
+    }
+
+    /// Takes a live entry out if its current deadline isn't after `tick`, both of one millisecond, and returns its
+    /// value with its key and that deadline. It returns none if the deadline is later: the entry stays as it is.
+    /// Constant time, and no memory is taken.
+    ///
+    /// # Errors
+    /// In this order:
+    /// - `Missing` if the entry isn't in the queue any more, or never was.
+    /// - `WasCancelled` if the entry was cancelled.
+    pub fn remove_if_due(
+        &mut self,
+        entry: &EntryId,
+        tick: u64,
+    ) -> Result<Option<Removed<T>>, CoreError>
+        // Exactly: a remove of an entry that is due, or a look at one whose deadline is after the tick.
+        ensures removes { RemovesIfDue W.shared self.old entry.now tick result self.new }
+
+        // Nothing is deferred or taken out.
+        ensures deferred { self.new.deferred ≡ self.old.deferred }
+        ensures same { SameCore self.old self.new }
+        ensures origin { W.origin self.new.words ≡ W.origin self.old.words }
+        ensures begun { StillBegun W.begun self.old.words self.new.words }
+    {
+        let Some(index) = self.find(entry) else {
+            return Err(CoreError::Missing);
+        };
+        let stamp = once_near::<W, A>(&self.wheel, index, self.slots.stamp(index));
+        let deadline = match self.words.finish_by(index, stamp, tick) {
+            Look::LookRemoved(deadline) => deadline,
+            Look::StillLive(_) => return Ok(None),
+            Look::LookCancelled => return Err(CoreError::WasCancelled),
+            Look::LookExpired(_) => unreachable!(),
+        };
+        self.wheel.unlink(index);
+        let held = self.slots.vacate(index);
+        self.removed += 1;
+        Ok(Some(Removed {
+            key: Key::new(*entry, stamp),
+            deadline,
+            value: held.value,
+        }))
     }
 
     /// Gives a live entry the deadline `when`, a tick of one millisecond, sooner or later than the one that it has,

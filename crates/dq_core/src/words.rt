@@ -5,7 +5,7 @@
 
 ghost use Rattle.std.specs.Prelude.{◌≡◌, ℕ, ◌+◌, ◌<◌, ◌≤◌, length, slice_set, List, Bool, Result, IfOk};
 ghost use Rattle.dq_ticks.specs.declared.words.Parts.{Parts};
-ghost use Rattle.dq_core.specs.Words.{Counts, never, live, removed, word_at, IsOver, IsInForce, Learned, IsSettled, IsChanged, begun_counts, settled_counts, finished_counts, StillBegun, look_by};
+ghost use Rattle.dq_core.specs.Words.{Counts, never, live, removed, word_at, IsOver, IsInForce, Learned, IsSettled, IsChanged, IsFinishedBy, removed_at, begun_counts, settled_counts, finished_counts, StillBegun, look_by};
 
 use dq_ticks::{LAST_STAMP, LAST_TICK, Mark, Parts};
 use std::fmt;
@@ -196,6 +196,20 @@ pub trait Words {
         ensures known { known self.new
             ≡ slice_set (known self.old) index (word_at (known self.new) index) }
         ensures counts { counts self.new ≡ finished_counts (counts self.old) result }
+        ensures origin { origin self.new ≡ origin self.old }
+        ensures begun { StillBegun begun self.old self.new };
+
+    /// Makes a live word removed if its deadline isn't after `tick`, and tells what the word shows then.
+    fn finish_by(&mut self, index: usize, stamp: u32, tick: u64) -> Look
+        requires in_range { index < length (known self.old) }
+        requires in_force { IsInForce stamp 0 (word_at (known self.old) index) }
+        requires last { stamp ≤ LAST_STAMP }
+        ensures finished { IsFinishedBy shared stamp tick
+            (word_at (known self.old) index) result (word_at (known self.new) index) }
+        ensures known { known self.new
+            ≡ slice_set (known self.old) index (word_at (known self.new) index) }
+        ensures counts { counts self.new
+            ≡ finished_counts (counts self.old) (removed_at result) }
         ensures origin { origin self.new ≡ origin self.old }
         ensures begun { StillBegun begun self.old self.new };
 }

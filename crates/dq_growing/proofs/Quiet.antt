@@ -13,7 +13,7 @@ use Rattle.dq_core.specs.declared.errors.ReapError.TheVariants.{Missing as NotTh
 use Rattle.dq_core.specs.declared.outcomes.Removed.{Removed}
 use Rattle.dq_core.specs.Machine.{Entry, Machine, Event, Note, Pass, Insert, Reset, Extend, Cancel, Remove, Reap, Expire, table_at, put, NoneLiveBefore, Step, Run, RunOf, IsCallers, IsOnTheWay, IsReaping}
 use Rattle.dq_core.specs.Core.{Core, machine}
-use Rattle.dq_core.specs.Calls.{Inserts, Removes, Resets, TellsDeadline, FindRefused, Polls, IsTurn, noting}
+use Rattle.dq_core.specs.Calls.{Inserts, Removes, RemovesIfDue, Resets, TellsDeadline, FindRefused, Polls, IsTurn, noting}
 use Rattle.dq_core.specs.Sweeps.{Reaps, SweepsSome, Clears}
 use Rattle.dq_core.specs.Values.{ChangesEntry, ChangesValue}
 use Rattle.dq_core.proofs.RunsMoves.{put_same, put_other}
@@ -183,6 +183,11 @@ module _ {T W : Type 0} (shared : Bool) (b c : Core T W) (t : ℕ) (before : Non
   pub tells_late : (id : EntryId) (r : Result ℕ CoreError) → TellsDeadline shared b id r c → NoneLiveBefore (machine c) t
   tells_late id (Ok d) r = run_late shared b.slots.last_stamp t (machine b) (machine c) r.looked.callers before
   tells_late id (Err e) r = find_refused_late id e r
+
+  pub dues_late : (id : EntryId) (tick : ℕ) (r : Result (Option (Removed T)) CoreError) → RemovesIfDue shared b id tick r c → NoneLiveBefore (machine c) t
+  dues_late id tick (Ok (Some x)) r = removes_late id (Ok x) r.1
+  dues_late id tick (Ok None) r = tells_late id (Ok r.0) r.2
+  dues_late id tick (Err e) r = find_refused_late id e r
 
   pub inserts_late : (v : T) (when : ℕ) (r : Result Key (CoreError × T)) → t ≤ when → Inserts b v when r c → NoneLiveBefore (machine c) t
   unfolding IsLate
@@ -367,6 +372,11 @@ module _ {T W : Type 0} (shared : Bool) (b c : Core T W) where
   pub tells_noted : (id : EntryId) (r : Result ℕ CoreError) → TellsDeadline shared b id r c → c.noted ≡ b.noted
   tells_noted id (Ok d) r = r.looked.noted
   tells_noted id (Err e) r = find_refused_noted id e r
+
+  pub dues_noted : (id : EntryId) (tick : ℕ) (r : Result (Option (Removed T)) CoreError) → RemovesIfDue shared b id tick r c → c.noted ≡ b.noted
+  dues_noted id tick (Ok (Some x)) r = r.1.noted
+  dues_noted id tick (Ok None) r = r.2.looked.noted
+  dues_noted id tick (Err e) r = find_refused_noted id e r
 
   pub inserts_noted : (v : T) (when : ℕ) (r : Result Key (CoreError × T)) → Inserts b v when r c → c.noted ≡ b.noted
   inserts_noted v when (Ok k) r = r.noted

@@ -10,7 +10,7 @@ use Rattle.dq_core.specs.declared.outcomes.Removed.{Removed}
 use Rattle.dq_core.specs.declared.outcomes.Turn.TheVariants.{Out as CameOut, Waiting, Idle}
 use Rattle.dq_core.specs.declared.outcomes.Piece.{Piece}
 use Rattle.dq_core.specs.declared.outcomes.Piece.TheVariants.{Answer, Working}
-use Rattle.dq_core.specs.Calls.{IsMissing, Removes, Resets, base_for}
+use Rattle.dq_core.specs.Calls.{IsMissing, Removes, RemovesIfDue, Resets, TellsDeadline, base_for}
 use Rattle.dq_core.specs.Core.{Core, IsLawfulCore, machine, entry_of, due_by}
 use Rattle.dq_core.specs.Readers.{TellsLeast, TellsFirst}
 use Rattle.dq_core.specs.Words.{word_at}
@@ -230,6 +230,41 @@ module _ {T W : Type 0} where
       → OnCoreOr p.shard (λ b c. Removes shared b p (Err e) c) (◌≡◌ {A = Result (Removed T) CoreError} (Err e) (Err Missing)) s.cores cores
       → RemovesFor shared s u (Err e) (stored cores s.notes)
   removal_refused shared s cores u p e at did = inl (p, at, (found_refused shared s.cores cores p e did, refl))
+
+  -- a removal of what is due, in its cases
+  abbrev IsDueCall : Bool → CoreRow T W → CoreRow T W → EntryId → ℕ → Option (Removed T) → Type 0
+  IsDueCall shared s t p tick o =
+      OnCoreOr p.shard (λ b c. RemovesIfDue shared b p tick (Ok o) c) (◌≡◌ {A = Result (Option (Removed T)) CoreError} (Ok o) (Err Missing)) s t
+
+  taken_of : (shared : Bool) (s t : CoreRow T W) (p : EntryId) (tick : ℕ) (x : Removed T) → IsDueCall shared s t p tick (Some x)
+      → (x.deadline ≤ tick) × OnCoreOr p.shard (λ b c. Removes shared b p (Ok x) c) (◌≡◌ {A = Result (Removed T) CoreError} (Ok x) (Err Missing)) s t
+  taken_of shared s t p tick x (inl on) =
+      (on.did.0, inl (record { place = on.place; before = on.before; after = on.after; at = on.at; did = on.did.1; rest = on.rest }))
+  taken_of shared s t p tick x (inr y) = absurd (ok_not_err (Some x) Missing y.1)
+
+  later_of : (shared : Bool) (s t : CoreRow T W) (p : EntryId) (tick : ℕ) → IsDueCall shared s t p tick None
+      → (d : ℕ) × (tick < d) × OnCoreOr p.shard (λ b c. TellsDeadline shared b p (Ok d) c) (◌≡◌ {A = Result ℕ CoreError} (Ok d) (Err Missing)) s t
+  later_of shared s t p tick (inl on) =
+      (on.did.0, on.did.1, inl (record { place = on.place; before = on.before; after = on.after; at = on.at; did = on.did.2; rest = on.rest }))
+  later_of shared s t p tick (inr y) = absurd (ok_not_err None Missing y.1)
+
+  pub due_taken : (shared : Bool) (s t : CoreRow T W) (p : EntryId) (tick : ℕ) (o : Option (Removed T)) (x : Removed T) → o ≡ Some x → IsDueCall shared s t p tick o
+      → (x.deadline ≤ tick) × OnCoreOr p.shard (λ b c. Removes shared b p (Ok x) c) (◌≡◌ {A = Result (Removed T) CoreError} (Ok x) (Err Missing)) s t
+  due_taken shared s t p tick o x is on = taken_of shared s t p tick x (subst (IsDueCall shared s t p tick) is on)
+
+  pub due_later : (shared : Bool) (s t : CoreRow T W) (p : EntryId) (tick : ℕ) (o : Option (Removed T)) → o ≡ None → IsDueCall shared s t p tick o
+      → (d : ℕ) × (tick < d) × OnCoreOr p.shard (λ b c. TellsDeadline shared b p (Ok d) c) (◌≡◌ {A = Result ℕ CoreError} (Ok d) (Err Missing)) s t
+  due_later shared s t p tick o is on = later_of shared s t p tick (subst (IsDueCall shared s t p tick) is on)
+
+  pub due_refused : (shared : Bool) (s t : CoreRow T W) (p : EntryId) (tick : ℕ) (e : CoreError)
+      → OnCoreOr p.shard (λ b c. RemovesIfDue shared b p tick (Err e) c) (◌≡◌ {A = Result (Option (Removed T)) CoreError} (Err e) (Err Missing)) s t
+      → OnCoreOr p.shard (λ b c. Removes shared b p (Err e) c) (◌≡◌ {A = Result (Removed T) CoreError} (Err e) (Err Missing)) s t
+  due_refused shared s t p tick e (inl on) =
+      inl (record { place = on.place; before = on.before; after = on.after; at = on.at; did = on.did; rest = on.rest })
+  due_refused shared s t p tick e (inr y) =
+      let told : ◌≡◌ {A = Result (Option (Removed T)) CoreError} (Err e) (Err Missing) = y.1 in
+      let same : e ≡ Missing = cc in
+      inr (y.0, ap (λ x. Err x) same, y.2)
 
 -- notes for which memory was taken are the same notes
 pub reserved_forgets : (n k m : Book) (p : EntryId) (o : Option EntryId) → SameNotes n k → Forgets k p o m → Forgets n p o m

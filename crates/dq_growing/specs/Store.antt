@@ -1,5 +1,5 @@
 -- A store as its users see it: they know an entry by the id that it came in with, wherever it is.
-use Rattle.std.specs.Prelude.{◌≡◌, ◌≢◌, ◌⊎◌, ◌≤◌, ℕ, length, Bool, Option, Some, None, Result, Ok, Err}
+use Rattle.std.specs.Prelude.{◌≡◌, ◌≢◌, ◌⊎◌, ◌<◌, ◌≤◌, ℕ, length, Bool, Option, Some, None, Result, Ok, Err}
 use Rattle.dq_ticks.specs.declared.keys.Key.{Key}
 use Rattle.dq_ticks.specs.declared.keys.EntryId.{EntryId}
 use Rattle.dq_core.specs.declared.errors.CoreError.{CoreError}
@@ -181,6 +181,15 @@ module _ {T W : Type 0} where
       (λ b c. TellsDeadline shared b p r c) (r ≡ Err Missing) s.cores t.cores
       × (t.notes ≡ s.notes))
       ((r ≡ Err Missing) × (t ≡ s))
+
+  -- a removal of what is due by a tick: or a look at a deadline that is later, or a refusal
+  abbrev pub RemovesIfDueFor : Bool → StoreState T W → EntryId → ℕ →
+      Result (Option (Removed T)) CoreError → StoreState T W → Type 0
+  RemovesIfDueFor shared s u tick (Ok (Some x)) t =
+      (x.deadline ≤ tick) × RemovesFor shared s u (Ok x) t
+  RemovesIfDueFor shared s u tick (Ok None) t =
+      (d : ℕ) × (tick < d) × TellsFor shared s u (Ok d) t
+  RemovesIfDueFor shared s u tick (Err e) t = RemovesFor shared s u (Err e) t
 
   -- a change of a value by a user's id: that of the entry at the place that the notes tell
   abbrev pub ChangesThere : {R : Type 0} → (T → R → T → Type 0) → StoreState T W → EntryId →

@@ -3,7 +3,7 @@
 ghost use Rattle.std.specs.Prelude.{◌≡◌, ◌≢◌, ◌⊎◌, true, false, ℕ, ◌<◌, ◌≤◌, IfSome, IfNone, IfOk, IfErr, OnOk, OnErr, IsErrOf, IsErrAnd, ◌↔◌, Ok, Err, Some, None, [], length};
 ghost use Rattle.dq_core.specs.declared.errors.CoreError.TheVariants.{Missing, TooFar};
 ghost use Rattle.dq_core.specs.Core.{Core};
-ghost use Rattle.dq_core.specs.Calls.{IsMissing, Inserts, Removes, Resets, SameCore, TellsDeadline};
+ghost use Rattle.dq_core.specs.Calls.{IsMissing, Inserts, Removes, RemovesIfDue, Resets, SameCore, TellsDeadline};
 ghost use Rattle.dq_core.specs.AtTheCall.{HoldsValue};
 ghost use Rattle.dq_core.specs.Values.{ChangesValue};
 ghost use Rattle.dq_ticks.specs.Keys.{EntryName};
@@ -259,6 +259,32 @@ impl<T, W: Words, A: Allocator> Cores<T, W, A> {
             return Err(CoreError::Missing);
         };
         let answer = remove_from(&mut self.cores[at], entry);
+        answer
+    }
+
+    /// Takes a live entry out if its current deadline isn't after `tick`, both of one millisecond, and returns its value
+    /// with its key and that deadline. It returns none if the deadline is later: the entry stays as it is. Constant time,
+    /// and no memory is taken.
+    ///
+    /// # Errors
+    /// In this order:
+    /// - `Missing` if the entry isn't in the store any more, or never was.
+    /// - `WasCancelled` if the entry was cancelled.
+    pub fn remove_if_due(
+        &mut self,
+        entry: &EntryId,
+        tick: u64,
+    ) -> Result<Option<Removed<T>>, CoreError>
+        // Exactly: a remove of what is due in the core of that number, and nothing else changes.
+        ensures removes { OnCoreOr entry.now.shard
+            (λ b c. RemovesIfDue W.shared b entry.now tick result c)
+            (result ≡ Err Missing) self.old self.new }
+        ensures words { KeepsWords W.origin W.begun self.old self.new }
+    {
+        let Some(at) = self.place_of(entry.shard()) else {
+            return Err(CoreError::Missing);
+        };
+        let answer = self.cores[at].remove_if_due(entry, tick);
         answer
     }
 

@@ -6,7 +6,7 @@ ghost use Rattle.dq_growing.specs.Cores.{InsertsIn, TakesIn, GivesDrained, NoneD
 ghost use Rattle.dq_growing.specs.Runs.{GivesId, KeepsIds, KeepsIdsBeside};
 ghost use Rattle.dq_ticks.specs.Keys.{EntryName};
 ghost use Rattle.dq_growing.specs.Stands.{OneLeaves, SameStand, KeepsWords};
-ghost use Rattle.dq_growing.specs.Store.{key_as, key_told, removed_as, expired_as, moved_as, answer_as, NotesMoved, NotesAnswered, IsStore, KeysAreApart, StandsFor, ComesFor, GoesOnFor, RemovesFor, TellsFor, RelocatesFor, PollsFor, PeeksFor, piece_as, NotesAfter, ReapsFor, ResetsFor, TakeRefusedFor, TellsPlaceFor, ResetsThere, HasBegunFor, HasOneValue, GoesOut};
+ghost use Rattle.dq_growing.specs.Store.{key_as, key_told, removed_as, expired_as, moved_as, answer_as, NotesMoved, NotesAnswered, IsStore, KeysAreApart, StandsFor, ComesFor, GoesOnFor, RemovesFor, RemovesIfDueFor, TellsFor, RelocatesFor, PollsFor, PeeksFor, piece_as, NotesAfter, ReapsFor, ResetsFor, TakeRefusedFor, TellsPlaceFor, ResetsThere, HasBegunFor, HasOneValue, GoesOut};
 ghost use Rattle.dq_growing.specs.Moving.{IfTo, IfCameOut, HasBegunIn};
 ghost use Rattle.dq_growing.specs.Polls.{DoesPoll, DoesPiece, IfPieceOut};
 ghost use Rattle.dq_growing.specs.Notes.{HasNoteRoom, AllArePast, user_at, with_id};
@@ -252,6 +252,37 @@ impl<T, W: Words, A: Allocator + Clone> Store<T, W, A> {
         let _ = self.notes.forget(&place);
         self.notes.law();
         Ok(removed_as(entry, removed))
+    }
+
+    /// Takes a live entry out if its current deadline isn't after `tick`, both of one millisecond, and returns its value
+    /// with its key and that deadline. It returns none if the deadline is later: the entry stays where it is, with its
+    /// key. Constant time, and no memory is taken.
+    ///
+    /// # Errors
+    /// In this order:
+    /// - `Missing` if the entry isn't in the store any more, or never was.
+    /// - `WasCancelled` if the entry was cancelled.
+    pub fn remove_if_due(
+        &mut self,
+        entry: &EntryId,
+        tick: u64,
+    ) -> Result<Option<Removed<T>>, CoreError>
+        // Exactly: a removal of an entry that is due, or a look at a deadline that is after the tick.
+        ensures removes { RemovesIfDueFor W.shared self.old entry.now tick result self.new }
+        ensures words { KeepsWords W.origin W.begun self.old.cores self.new.cores }
+    {
+        let Some(place) = self.notes.place(entry) else {
+            return Err(CoreError::Missing);
+        };
+        self.cores.law();
+        let removed = match self.cores.remove_if_due(&place, tick) {
+            Ok(Some(removed)) => removed,
+            Ok(None) => return Ok(None),
+            Err(error) => return Err(error),
+        };
+        let _ = self.notes.forget(&place);
+        self.notes.law();
+        Ok(Some(removed_as(entry, removed)))
     }
 
     /// Returns the current deadline of a live entry, a tick of one millisecond. Constant time.

@@ -35,7 +35,7 @@ module _ (e : ℕ) (numbers moves homes : List ℕ) (ok : IsLawfulFiling e (file
   none_before_limit starts = none_before limit (filed_ticks numbers) moves homes (lawful_at_limit starts)
 
   pub starts_never : ((p : ℕ) → p < LISTS → IsListEmpty homes p) → StartsLater
-  starts_never empty i f is = absurd (none_filed e (filed_ticks numbers) moves homes ok empty later i f is)
+  starts_never empty i f is = absurd (none_filed e (filed_ticks numbers) moves homes ok empty i f is)
 
   -- the first list that is filled, and when it starts
   module _ (own list begin : ℕ) (own_is : own ≡ digit_of e 5) (first : IsFirstFilled own homes list)

@@ -405,6 +405,5 @@ module _ (e : ℕ) (numbers moves homes : List ℕ) (ok : IsLawfulFiling e (file
             omega arith),
       )
 
-  pub seen_none : ((p : ℕ) → p < LISTS → IsListEmpty homes p) → ((i f : ℕ) → filed_at (filed_ticks numbers) i ≡ Some f → e < f) →
-      (i f : ℕ) → filed_at now.filed i ≡ Some f → ⊥
-  seen_none empty later = rw (← filed_is) (none_filed e (filed_ticks numbers) moves homes ok empty later)
+  pub seen_none : ((p : ℕ) → p < LISTS → IsListEmpty homes p) → (i f : ℕ) → filed_at now.filed i ≡ Some f → ⊥
+  seen_none empty = rw (← filed_is) (none_filed e (filed_ticks numbers) moves homes ok empty)

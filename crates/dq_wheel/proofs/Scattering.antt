@@ -1,7 +1,7 @@
 -- A list whose entries go to other lists, one after the other.
 
-use Rattle.std.proofs.Common.{◌≡◌, ◌≢◌, ℕ, ◌+◌, ◌<◌, ◌≤◌, List, length, get_or, set, take, refl, sym, arith, ◌∙◌, ap}
-use Rattle.std.proofs.lemmas.List.{length-take-le, length-map, get_or-take}
+use Rattle.std.proofs.Common.{◌≡◌, ◌≢◌, ◌⊎◌, ℕ, ◌+◌, ◌<◌, ◌≤◌, List, length, get_or, set, take, refl, sym, arith, ◌∙◌, ap, inl, inr}
+use Rattle.std.proofs.lemmas.List.{length-take-le, length-map, get_or-take, set-get_or}
 use Rattle.std.proofs.Math.Seq.{take-set-lt}
 use Rattle.dq_wheel.specs.Rows.{nexts, prevs, homes, filed_numbers, moves_made, entry_homes, entry_filed, entry_moves}
 use Rattle.dq_wheel.specs.Circle.{IsCircles, IsTakenOff}
@@ -102,7 +102,7 @@ module _ (cap e p at : ℕ) (old rows : List Row) (maps : List ℕ) (made : ℕ)
     scattering_falls = rw homes_now (opening_falls e p filed homes0 moves0 _ moves maps made s.turn at put waits_here put_to away)
 
     -- it is due
-    pub scattering_due : moves_made rows3 ≡ moves_made rows → when ≡ e → IsScattering cap e p after old rows3 maps3 made
+    scattering_due : moves_made rows3 ≡ moves_made rows → when ≡ e → IsScattering cap e p after old rows3 maps3 made
     scattering_due unmoved due =
         record {
           taken = t3;
@@ -113,7 +113,7 @@ module _ (cap e p at : ℕ) (old rows : List Row) (maps : List ℕ) (made : ℕ)
         }
 
     -- it goes to a list that is not the due list
-    pub scattering_moved : moves_made rows3 ≡ set (moves_made rows) at (moved + 1) → when ≢ e → IsScattering cap e p after old rows3 maps3 (made + 1)
+    scattering_moved : moves_made rows3 ≡ set (moves_made rows) at (moved + 1) → when ≢ e → IsScattering cap e p after old rows3 maps3 (made + 1)
     scattering_moved once later =
         let moves_now : entry_moves cap rows3 ≡ set moves at (get_or moves at 0 + 1) =
         moves_put cap at _ rows rows3 at_in s.taken.homes_len once ∙ ap (λ n. set moves at (n + 1)) moves_is in
@@ -124,6 +124,20 @@ module _ (cap e p at : ℕ) (old rows : List Row) (maps : List ℕ) (made : ℕ)
               rw (homes_now, moves_now)
               (opening_moved e p filed homes0 moves0 _ moves maps made s.turn at put waits_here put_to away maps3 one others (λ same. later (filed_is ∙ sym same)));
         }
+
+    -- it goes, and its move is counted where that is one
+    pub scattering_goes : (more : ℕ) → moves_made rows3 ≡ set (moves_made rows) at (moved + more) →
+        (((when ≡ e) × (more ≡ 0)) ⊎ ((when ≢ e) × (more ≡ 1))) → IsScattering cap e p after old rows3 maps3 (made + more)
+    scattering_goes more written which =
+        elim which [
+          | inl due ↦
+              let same : made + more ≡ made = omega (arith, due.1) in
+              let as_was : moved + more ≡ get_or (moves_made rows) at 0 = omega (arith, due.1, moved_is) in
+              rw same (scattering_due (written ∙ ap (set (moves_made rows) at) as_was ∙ set-get_or (moves_made rows) at 0) due.0)
+          | inr later ↦
+              let one_more : made + more ≡ made + 1 = ap (λ n. made + n) later.1 in
+              rw one_more (scattering_moved (written ∙ ap (λ n. set (moves_made rows) at (moved + n)) later.1) later.0)
+        ]
 
 pub scattering_init : (cap e p at : ℕ) (maps : List ℕ) (old rows : List Row) → IsTakenOff cap p at (nexts rows) (prevs rows) (homes rows) →
     homes rows ≡ homes old → filed_numbers rows ≡ filed_numbers old → moves_made rows ≡ moves_made old →

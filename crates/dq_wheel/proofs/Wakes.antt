@@ -114,6 +114,22 @@ earlier_first e f g p q of_f of_g p_is q_is apart earlier =
           before_later e f g of_f of_g levels there
     ]
 
+-- where a slot of the lowest level starts
+start_low : (e k : ℕ) → start e 0 k ≡ e / 64 * 64 + k
+unfolding start
+start_low e k = omega arith
+
+-- the due list starts at the tick
+start_due : (e : ℕ) → start e (digit_of e 0 / 64) (digit_of e 0 % 64) ≡ e
+start_due e =
+    let place : digit_of e 0 / 64 ≡ 0 = omega (arith, digit_below e 0) in
+    let digit : digit_of e 0 % 64 ≡ digit_of e 0 = omega (arith, digit_below e 0) in
+    rw (place, digit) (omega (arith, start_low e (digit_of e 0)))
+
+start_at : (e f place k : ℕ) → level e f ≡ place → digit_of f (level e f) ≡ k → start_for e f ≡ start e place k
+unfolding start_for
+start_at e f place k is digit = ap (start e (level e f)) digit ∙ ap (λ p. start e p k) is
+
 module _ (e : ℕ) (filed : List (Option ℕ)) (moves homes : List ℕ) (ok : IsLawfulFiling e filed moves homes) where
   pub filed_home : (i f : ℕ) → filed_at filed i ≡ Some f → (i < length homes) × IsAt e f (get_or homes i 0) (get_or moves i 0)
   filed_home i f is =
@@ -165,13 +181,11 @@ module _ (e : ℕ) (filed : List (Option ℕ)) (moves homes : List ℕ) (ok : Is
       let later : e ≤ f = at.not_before in
       elim (same_or_not e f) [ inl same ↦ absurd (none i (is ∙ ap Some (sym same))) | inr other ↦ omega arith ]
 
-  -- no list is filled and nothing is due
-  pub none_filed : ((p : ℕ) → p < LISTS → IsListEmpty homes p) → ((i f : ℕ) → filed_at filed i ≡ Some f → e < f) →
-      (i f : ℕ) → filed_at filed i ≡ Some f → ⊥
-  none_filed empty later i f is =
+  -- no list is filled
+  pub none_filed : ((p : ℕ) → p < LISTS → IsListEmpty homes p) → (i f : ℕ) → filed_at filed i ≡ Some f → ⊥
+  none_filed empty i f is =
       let home = filed_home i f is in
       let at : IsAt e f (get_or homes i 0) (get_or moves i 0) = home.1 in
-      let after : e < f = later i f is in
       empty (list_number e f) (number_low e f) i home.0 at.number
 
   -- an index that is due is next
@@ -294,6 +308,48 @@ module _ (e : ℕ) (filed : List (Option ℕ)) (moves homes : List ℕ) (ok : Is
               let before : f < start_for e g = first_before i f is stands.1 j g there elsewhere in
               let le : start_for e g ≤ g = start_le e g (ahead_of j g there) in
               omega arith
+        ]
+
+  -- the same without a look at the due list: while an index is due, that is the first list
+  module _ (list : ℕ) (list_in : list < LISTS) (filled : IsListFilled homes list)
+      (first : (p : ℕ) → p < LISTS → IsListFilled homes p → IsEarlier (digit_of e 5) list p) where
+    one_filed : (g : ℕ) × (filed_at filed filled.0 ≡ Some g) × IsAt e g (get_or homes filled.0 0) (get_or moves filled.0 0)
+    one_filed = some_at e (filed_at filed filled.0) _ _ (ok.home filled.0 filled.1.0) (omega (arith, filled.1.1))
+
+    number_there : list_number e one_filed.0 ≡ list
+    number_there = omega (arith, one_filed.2.number, filled.1.1)
+
+    none_at : e < one_filed.0 → (i : ℕ) → filed_at filed i ≢ Some e
+    none_at later i is =
+        let g : ℕ = one_filed.0 in
+        let a : IsAhead e g = ahead e g _ _ one_filed.2 later in
+        let order : IsEarlier (digit_of e 5) list (digit_of e 0) = first (digit_of e 0) (omega (arith, digit_below e 0)) (i, stands_due i is) in
+        let low : list / 64 ≡ 0 = elim order [
+          | inl lower ↦ absurd (omega (arith, lower, digit_below e 0))
+          | inr same ↦ omega (arith, same.0, digit_below e 0)
+        ] in
+        let of_list : turn e (list / 64) (list % 64) ≡ list % 64 = turn_low e (list / 64) (list % 64) (λ top. omega (arith, low)) in
+        let of_due : turn e (digit_of e 0 / 64) (digit_of e 0 % 64) ≡ digit_of e 0 % 64 =
+        turn_low e (digit_of e 0 / 64) (digit_of e 0 % 64) (λ top. omega (arith, digit_below e 0)) in
+        let not_after : list % 64 ≤ digit_of e 0 = elim order [
+          | inl lower ↦ absurd (omega (arith, lower, digit_below e 0))
+          | inr same ↦ omega (arith, same.1, of_list, of_due, digit_below e 0)
+        ] in
+        let flat : level e g ≡ 0 = sym (list_level e g list number_there) ∙ low in
+        let digit : digit_of g (level e g) ≡ list % 64 = sym (list_digit e g list number_there) in
+        let begins : start_for e g ≡ start e 0 (list % 64) = start_at e g 0 (list % 64) flat digit in
+        omega (arith, start_above e g a, begins, start_low e (list % 64), not_after)
+
+    pub first_wake : IsNextWake e filed (start e (list / 64) (list % 64))
+    first_wake =
+        elim (same_or_not e one_filed.0) [
+          | inl same ↦
+              let due : list ≡ digit_of e 0 = sym number_there ∙ number_same e one_filed.0 same in
+              let begins : start e (list / 64) (list % 64) ≡ e = ap (λ p. start e (p / 64) (p % 64)) due ∙ start_due e in
+              rw begins (due_wake filled.0 (one_filed.1 ∙ ap Some (sym same)))
+          | inr other ↦
+              let later : e < one_filed.0 = omega (arith, one_filed.2.not_before, other) in
+              next_wake list list_in filled first (later_all (none_at later))
         ]
 
 -- where nothing is due, what wakes next wakes after the tick

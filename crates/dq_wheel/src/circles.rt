@@ -12,8 +12,7 @@ use crate::LISTS;
 use crate::beside::Beside;
 use crate::homes::{Maps, clear_bit, list_from, set_bit};
 use crate::row::{
-    Row, append, detach, detach_first, hang, lone_rows, once_near, put_last, row_at, set_moves,
-    take_off,
+    Row, append, detach, detach_first, hang, lone_rows, once_near, put_last, row_at, take_off,
 };
 use dq_ticks::CAPACITY_LIMIT;
 use std::alloc::{AllocError, Allocator, Global};
@@ -111,12 +110,10 @@ fn scatter(rows: &mut [Row], capacity: usize, maps: &mut Maps, list: usize, tick
     while index < capacity {
         let row = row_at(rows, index);
         let to = list_from(list, tick, row.filed);
-        let after = put_last(rows, capacity, list, index, to);
+        let moved = if row.filed == tick { 0 } else { 1 };
+        let after = put_last(rows, capacity, list, index, to, row.moves + moved);
         set_bit(maps, to);
-        if row.filed != tick {
-            set_moves(rows, index, row.moves + 1);
-            made += 1;
-        }
+        made += moved as u64;
         index = after;
     }
     clear_bit(maps, list);

@@ -75,18 +75,6 @@ fn set_filed(rows: &mut [Row], at: usize, filed: u64)
     row.moves = 0;
 }
 
-/// Writes how often a number moved.
-pub fn set_moves(rows: &mut [Row], at: usize, moves: u8)
-    requires { at < length rows.old }
-    ensures next { nexts rows.new ≡ nexts rows.old }
-    ensures prev { prevs rows.new ≡ prevs rows.old }
-    ensures home { homes rows.new ≡ homes rows.old }
-    ensures filed { filed_numbers rows.new ≡ filed_numbers rows.old }
-    ensures moves { moves_made rows.new ≡ slice_set (moves_made rows.old) at moves }
-{
-    rows[at].moves = moves;
-}
-
 /// A number's row.
 pub fn row_at(rows: &[Row], at: usize) -> Row
     requires { at < length rows.now }
@@ -225,9 +213,16 @@ pub fn take_off(rows: &mut [Row], capacity: usize, list: usize) -> usize
     first
 }
 
-/// Puts the first entry of a list that was taken off at the end of another list, and gives the entry that followed
-/// it.
-pub fn put_last(rows: &mut [Row], capacity: usize, list: usize, index: usize, to: usize) -> usize
+/// Puts the first entry of a list that was taken off at the end of another list, after so many moves, and gives the
+/// entry that followed it.
+pub fn put_last(
+    rows: &mut [Row],
+    capacity: usize,
+    list: usize,
+    index: usize,
+    to: usize,
+    moves: u8,
+) -> usize
     requires taken { AreTakenFrom capacity list index rows.old }
     requires index_in { index < capacity }
     requires list_in { list < LISTS }
@@ -236,10 +231,10 @@ pub fn put_last(rows: &mut [Row], capacity: usize, list: usize, index: usize, to
     ensures taken { AreTakenFrom capacity list result rows.new }
     ensures home { homes rows.new ≡ slice_set (homes rows.old) index (to + 1) }
     ensures filed { filed_numbers rows.new ≡ filed_numbers rows.old }
-    ensures moves { moves_made rows.new ≡ moves_made rows.old }
+    ensures moves { moves_made rows.new ≡ slice_set (moves_made rows.old) index moves }
 {
     let row = row_at(rows, index);
-    append(rows, capacity + to, index, to, row.filed, row.moves);
+    append(rows, capacity + to, index, to, row.filed, moves);
     row.next as usize
 }
 

@@ -232,15 +232,13 @@ impl<A: Allocator> Wheel<A> {
             (NoneFiled self.now.filing.filed)
             (λ w. IsNextWake self.now.filing.tick self.now.filing.filed w) }
     {
-        match self.lists.first(due_list(self.tick)) {
-            Some(_) => Some(self.tick),
-            None => match self
-                .lists
-                .first_filled(digit(self.tick, LEVELS - 1) as usize)
-            {
-                Some(list) => Some(start_of(self.tick, list)),
-                None => None,
-            },
+        // While an index is due, the first list is the due one, which starts at the tick.
+        match self
+            .lists
+            .first_filled(digit(self.tick, LEVELS - 1) as usize)
+        {
+            Some(list) => Some(start_of(self.tick, list)),
+            None => None,
         }
     }
 

@@ -1,5 +1,7 @@
 -- What the keeper has begun stays written, and how many steps it makes.
 use Rattle.std.proofs.Common.{◌≡◌, ℕ, suc, ◌+◌, ◌≤◌, List, ◌∷◌, length, Option, Some, None, sym, ap, subst, inl, inr, arith}
+use Rattle.dq_core.specs.declared.words.Look.{Look}
+use Rattle.dq_core.specs.declared.words.Look.TheVariants.{StillLive, LookCancelled, LookExpired, LookRemoved}
 use Rattle.dq_core.specs.declared.words.Settled.{Settled}
 use Rattle.dq_core.specs.declared.words.Settled.TheVariants.{SettledExpired, Later, SettledCancelled}
 use Rattle.dq_ticks.specs.Word.{word, stamp_of, field_of}
@@ -8,7 +10,7 @@ use Rattle.dq_words.specs.declared.views.Write.{Write}
 use Rattle.dq_words.specs.declared.views.Write.TheVariants.{Begin}
 use Rattle.dq_words.specs.Endings.{WritesStay}
 use Rattle.dq_words.specs.Files.{IsIn}
-use Rattle.dq_words.specs.KeeperCalls.{KeeperSettles, KeeperRenews, KeeperFinishes}
+use Rattle.dq_words.specs.KeeperCalls.{KeeperSettles, KeeperRenews, KeeperFinishes, KeeperFinishesBy}
 use Rattle.dq_words.specs.Plays.{beginning, BeginStep, KeeperLoads}
 
 -- no write more
@@ -46,6 +48,12 @@ renew_stays v w i s when None h = stays v w (ap (λ (u : View). u.writes) h.1.1)
 pub finish_stays : (v w : View) (i s : ℕ) (r : Option ℕ) → KeeperFinishes v i s r w → WritesStay v w
 finish_stays v w i s (Some d) h = stays_on v w _ (ap (λ (u : View). u.writes) h.2.1)
 finish_stays v w i s None h = stays v w (ap (λ (u : View). u.writes) h.1.1)
+
+pub finish_by_stays : (v w : View) (i s tick : ℕ) (r : Look) → KeeperFinishesBy v i s tick r w → WritesStay v w
+finish_by_stays v w i s tick (LookRemoved d) h = finish_stays v w i s (Some d) h.1
+finish_by_stays v w i s tick (StillLive d) h = stays v w (ap (λ (u : View). u.writes) h.3.1)
+finish_by_stays v w i s tick LookCancelled h = finish_stays v w i s None h
+finish_by_stays v w i s tick (LookExpired d) h = absurd h
 
 -- one step more
 once : (v w : View) → length w.steps ≡ suc (length v.steps) → length w.steps ≤ length v.steps + 1

@@ -5,12 +5,14 @@ use Rattle.dq_ticks.specs.declared.words.Parts.{Parts}
 use Rattle.dq_ticks.specs.declared.words.Mark.{Mark}
 use Rattle.dq_ticks.specs.declared.words.Mark.TheVariants.{LiveMark, CancelledMark}
 use Rattle.dq_ticks.specs.Word.{word, stamp_of, mark_of, field_of, mark_number, mark_by, parts_of}
+use Rattle.dq_core.specs.declared.words.Look.{Look}
+use Rattle.dq_core.specs.declared.words.Look.TheVariants.{StillLive, LookCancelled, LookExpired, LookRemoved}
 use Rattle.dq_core.specs.declared.words.Settled.{Settled}
 use Rattle.dq_core.specs.declared.words.Settled.TheVariants.{SettledExpired, Later, SettledCancelled}
-use Rattle.dq_core.specs.Words.{live, cancelled, expired, removed, never, word_at, AreFresh, IsInForce, IsSettled, IsChanged, Learned}
+use Rattle.dq_core.specs.Words.{live, cancelled, expired, removed, never, word_at, AreFresh, IsInForce, IsSettled, IsChanged, IsFinishedBy, Learned}
 use Rattle.dq_words.specs.declared.views.View.{View}
 use Rattle.dq_words.specs.Keeping.{counts_of, IsOpen}
-use Rattle.dq_words.specs.KeeperCalls.{after_failures, KeeperSettles, KeeperRenews, KeeperFinishes}
+use Rattle.dq_words.specs.KeeperCalls.{after_failures, KeeperSettles, KeeperRenews, KeeperFinishes, KeeperFinishesBy}
 use Rattle.dq_words.specs.Rule.{zeros, first_keeper}
 use Rattle.dq_words.specs.Word.{LearnedWord, parts_row}
 use Rattle.dq_words.proofs.Keepings.{Grown}
@@ -179,3 +181,13 @@ module _ (v w : View) (i s : ℕ) (inside : i < length (parts_row v.seen)) where
       let now = shows (word s 3 d) (removed s d) (ap (λ (u : View). u.seen) h.2.1 ∙ set-set xs i (word s 0 d) (word s 3 d)) (removed_is s d (word s 3 d) refl h.0) in
       ((learned_at xs i (word s 0 d) (live s d) h.1 (live_is s d (word s 0 d) refl h.0), now.0), now.1)
   finishes_parts None h = let m = missed_parts h.1.0 h.0 h.1.1 in ((m.0, m.1), m.2)
+
+  -- a finish by a tick, in parts
+  pub finishes_by_parts : (tick : ℕ) (r : Look) → KeeperFinishesBy v i s tick r w → IsFinishedBy true s tick (word_at (parts_row xs) i) r (word_at (parts_row w.seen) i) × (parts_row w.seen ≡ set (parts_row xs) i (word_at (parts_row w.seen) i))
+  finishes_by_parts tick (LookRemoved d) h = let m = finishes_parts (Some d) h.1 in ((h.0, m.0), m.1)
+  finishes_by_parts tick (StillLive d) h =
+      let e = live_is s d (word s 0 d) refl h.1 in
+      let now = shows (word s 0 d) (live s d) (ap (λ (u : View). u.seen) h.3.1) e in
+      ((h.0, (learned_at xs i (word s 0 d) (live s d) h.2 e, now.0)), now.1)
+  finishes_by_parts tick LookCancelled h = finishes_parts None h
+  finishes_by_parts tick (LookExpired d) h = absurd h

@@ -1,10 +1,11 @@
 -- What the keeper's tries leave of its view.
-use Rattle.std.proofs.Common.{◌≡◌, ◌≢◌, ◌∷◌, ℕ, suc, ◌<◌, length, get_or, ap, ◌∙◌, subst, ⊎_elim, get_or-set_same, set-set, arith}
+use Rattle.std.proofs.Common.{◌≡◌, ◌≢◌, ◌∷◌, ℕ, suc, ◌<◌, ◌≤◌, length, get_or, ap, ◌∙◌, subst, ⊎_elim, get_or-set_same, set-set, arith}
 use Rattle.dq_words.specs.declared.views.View.{View}
 use Rattle.dq_words.specs.declared.views.StepKind.TheVariants.{KeeperLoad, FailedExchange}
 use Rattle.dq_words.specs.Keeping.{IsOpen}
 use Rattle.dq_ticks.specs.Word.{word, mark_of, field_of}
-use Rattle.dq_words.specs.KeeperCalls.{failed_on, after_failures, FindsCancelled}
+use Rattle.dq_core.specs.declared.words.Look.TheVariants.{StillLive}
+use Rattle.dq_words.specs.KeeperCalls.{failed_on, after_failures, FindsCancelled, KeeperFinishesBy}
 use Rattle.dq_words.specs.Plays.{stepping}
 use Rattle.dq_words.specs.Plays.{SeatGoesOn}
 use Rattle.dq_words.specs.Word.{LearnedWord}
@@ -35,6 +36,13 @@ found_cancelled v w i s x l ended =
     let is : x ≡ word s 1 0 = ⊎_elim (λ (e : x ≡ word s 1 0). e) (λ (e : x ≡ word s 0 (field_of x)). absurd (ended (omega arith))) l.open_word.1 in
     let P : ℕ → Type 0 = λ y. LearnedWord (get_or v.seen i 0) y in
     (subst P is l.learned, (l.many, l.is ∙ ap (λ y. after_failures v i y l.many) is))
+
+-- where it is live, it was found so
+pub found_live : (v w : View) (i s x d tick : ℕ) → Loaded v w i s x → mark_of x ≡ 0 → d ≡ field_of x → tick < d → KeeperFinishesBy v i s tick (StillLive d) w
+found_live v w i s x d tick l live at late =
+    let is : x ≡ word s 0 d = ⊎_elim (λ (e : x ≡ word s 1 0). absurd (omega arith)) (λ (e : x ≡ word s 0 (field_of x)). omega (arith, e, at)) l.open_word.1 in
+    let P : ℕ → Type 0 = λ y. LearnedWord (get_or v.seen i 0) y in
+    (late, omega (arith, at), subst P is l.learned, (l.many, l.is ∙ ap (λ y. after_failures v i y l.many) is))
 
 pub goes_more : (u v w : View) → SeatGoesOn u v → SeatGoesOn v w → SeatGoesOn u w
 goes_more u v w a b = record { knew = b.knew; row = b.row ∙ a.row; role = b.role ∙ a.role; issued = λ k. b.issued (a.role ∙ k) ∙ a.issued k }

@@ -5,6 +5,9 @@ use Rattle.atomic_table.specs.Table.{State}
 use mathlib.Core.Option.{some}
 use lib.ListN.{get_elem?}
 use Rattle.dq_core.specs.Words.{Counts, AreFresh, word_at}
+use Rattle.dq_core.specs.declared.words.Look.{Look}
+use Rattle.dq_core.specs.declared.words.Look.TheVariants.{StillLive, LookCancelled, LookExpired}
+use Rattle.dq_core.specs.declared.words.Look.TheVariants.{LookRemoved}
 use Rattle.dq_core.specs.declared.words.Settled.{Settled}
 use Rattle.dq_core.specs.declared.words.Settled.TheVariants.{SettledExpired, Later}
 use Rattle.dq_core.specs.declared.words.Settled.TheVariants.{SettledCancelled}
@@ -94,6 +97,16 @@ KeeperFinishes v i s (Some d) w =
     (d ≤ LAST_TICK) × LearnedWord (slice_index v.seen i) (word s 0 d)
     × ((n : ℕ) × (w ≡ finishing (after_failures v i (word s 0 d) n) i (word s 0 d) (word s 3 d)))
 KeeperFinishes v i s None w = FindsCancelled v i s w
+
+-- A finish by a tick stops at a live word with a later deadline too, which it sees by its load, or by
+-- the last of n exchanges after it.
+abbrev pub KeeperFinishesBy : View → ℕ → ℕ → ℕ → Look → View → Type 0
+KeeperFinishesBy v i s tick (LookRemoved d) w = (d ≤ tick) × KeeperFinishes v i s (Some d) w
+KeeperFinishesBy v i s tick (StillLive d) w =
+    (tick < d) × (d ≤ LAST_TICK) × LearnedWord (slice_index v.seen i) (word s 0 d)
+    × ((n : ℕ) × (w ≡ after_failures v i (word s 0 d) n))
+KeeperFinishesBy v i s tick LookCancelled w = FindsCancelled v i s w
+KeeperFinishesBy v i s tick (LookExpired d) w = ⊥
 
 -- of what was begun nothing more expired, and nothing more was begun
 abbrev pub OnlyRemoves : Counts → Counts → Type 0

@@ -43,6 +43,7 @@ impl<A: Allocator> Keeper<A> {
     /// What is known of all accepted cancels of callers and passers, whoever is out: they are the cancelled words that
     /// the keeper overwrote by a begin, and those that are cancelled still. Once the keeper saw no word live, it knows
     /// their number by itself.
+    #[tactic(auto, using(crate::proofs::Accounts::anyhow, crate::proofs::Accounts::counts_cancels))]
     pub fn account(&self)
         ensures anyhow { AccountsAnyhow self.now.view }
         ensures cancels { CountsCancels self.now.view }

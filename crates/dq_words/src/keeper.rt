@@ -2,12 +2,12 @@
 ghost use Rattle.std.specs.Prelude.{◌≡◌, ◌+◌, ◌<◌, ◌≤◌, length, true, slice_set, IfErr, IfOk};
 ghost use Rattle.atomic_table.specs.Seated.{TableId};
 ghost use Rattle.dq_core.specs.Words.{AreFresh, live, removed, begun_counts, settled_counts};
-ghost use Rattle.dq_core.specs.Words.{finished_counts, IsChanged, IsInForce, IsOver, IsSettled};
+ghost use Rattle.dq_core.specs.Words.{finished_counts, removed_at, IsChanged, IsFinishedBy, IsInForce, IsOver, IsSettled};
 ghost use Rattle.dq_core.specs.Words.{Learned, never, StillBegun};
 ghost use Rattle.dq_words.specs.AtTheCall.{KnowsNothing, NoCallerAfter, NoKeeperFor, StepsAtMost};
 ghost use Rattle.dq_words.specs.KeeperCalls.{known_of, known_word, counts_by, EndsFit, HasBegun};
 ghost use Rattle.dq_words.specs.KeeperCalls.{KeeperIsMade, KeeperBegins, KeeperLooks};
-ghost use Rattle.dq_words.specs.KeeperCalls.{KeeperSettles, KeeperRenews, KeeperFinishes, Issues};
+ghost use Rattle.dq_words.specs.KeeperCalls.{KeeperSettles, KeeperRenews, KeeperFinishes, KeeperFinishesBy, Issues};
 ghost use Rattle.dq_words.specs.KeeperCalls.{Tells, Returns, Accounts, OnlyRemoves};
 ghost use Rattle.dq_words.specs.Keeping.{IsKeeper, NoneLive, Stood};
 
@@ -15,7 +15,7 @@ use crate::caller::Caller;
 use crate::parts::{ONE_CANCEL, live_word};
 use crate::seated::Seated;
 use crate::tries;
-use dq_core::{Settled, SharedWords, Words};
+use dq_core::{Look, Settled, SharedWords, Words};
 use dq_ticks::{CAPACITY_LIMIT, LAST_STAMP, LAST_TICK, Parts, unpack};
 use std::alloc::{AllocError, Allocator, Global};
 use std::marker::Model;
@@ -317,6 +317,23 @@ impl<A: Allocator> Words for Keeper<A> {
         ensures step { KeeperFinishes self.old.view index stamp result self.new.view }
     {
         tries::finish(&mut self.seat, index, stamp)
+    }
+
+    fn finish_by(&mut self, index: usize, stamp: u32, tick: u64) -> Look
+        requires in_range { index < length (known_of self.old) }
+        requires in_force { IsInForce stamp 0 (known_word self.old index) }
+        requires last { stamp ≤ LAST_STAMP }
+        ensures finished { IsFinishedBy true stamp tick
+            (known_word self.old index) result (known_word self.new index) }
+        ensures known { known_of self.new
+            ≡ slice_set (known_of self.old) index (known_word self.new index) }
+        ensures counts { counts_by self.new
+            ≡ finished_counts (counts_by self.old) (removed_at result) }
+        ensures origin { self.new.table ≡ self.old.table }
+        ensures begun { StillBegun HasBegun self.old self.new }
+        ensures step { KeeperFinishesBy self.old.view index stamp tick result self.new.view }
+    {
+        tries::finish_by(&mut self.seat, index, stamp, tick)
     }
 }
 

@@ -3,13 +3,13 @@
 ghost use Rattle.std.specs.Prelude.{◌≡◌, ◌<◌, ◌≤◌, length, true, slice_index, slice_set};
 ghost use Rattle.dq_ticks.specs.declared.TheConstants.{LAST_TICK, LAST_STAMP};
 ghost use Rattle.dq_words.specs.Endings.{WritesStay};
-ghost use Rattle.dq_words.specs.KeeperCalls.{KeeperSettles, KeeperRenews, KeeperFinishes, OnlyRemoves};
+ghost use Rattle.dq_words.specs.KeeperCalls.{KeeperSettles, KeeperRenews, KeeperFinishes, KeeperFinishesBy, OnlyRemoves};
 ghost use Rattle.dq_words.specs.Keeping.{counts_of, IsEnded, IsOpen, IsOpenFrom};
 ghost use Rattle.dq_words.specs.Plays.{SeatGoesOn};
 
 use crate::parts::{expired_word, live_word, removed_word};
 use crate::seated::Seated;
-use dq_core::Settled;
+use dq_core::{Look, Settled};
 use dq_ticks::{field, is_live, stamp};
 use std::alloc::Allocator;
 
@@ -88,6 +88,36 @@ pub(crate) fn finish<A: Allocator>(seat: &mut Seated<A>, index: usize, stamp: u3
         seen = found;
     }
     None
+}
+
+// The same where the deadline isn't after a tick.
+pub(crate) fn finish_by<A: Allocator>(
+    seat: &mut Seated<A>,
+    index: usize,
+    stamp: u32,
+    tick: u64,
+) -> Look
+    requires inside { index < length seat.old.view.seen }
+    requires keeper { seat.old.view.keeps ≡ true }
+    requires open { IsOpen (slice_index seat.old.view.seen index) stamp }
+    requires last { stamp ≤ LAST_STAMP }
+    ensures finishes { KeeperFinishesBy seat.old.view index stamp tick result seat.new.view }
+    ensures table { seat.new.table ≡ seat.old.table }
+    ensures seat { SeatGoesOn seat.old.view seat.new.view }
+{
+    let mut seen = seat.keeper_load(index);
+    while is_live(seen) {
+        let deadline = field(seen);
+        if deadline > tick {
+            return Look::StillLive(deadline);
+        }
+        let found = seat.finish(index, seen, removed_word(stamp, deadline));
+        if found == seen {
+            return Look::LookRemoved(deadline);
+        }
+        seen = found;
+    }
+    Look::LookCancelled
 }
 
 // Ends the word of a slot as removed, where it is live.

@@ -433,9 +433,6 @@ impl<T> DelayQueue<T> {
     /// In this order:
     /// - `WrongQueue` if the key is another queue's.
     /// - `Ended` if the entry came out, or was removed, cancelled, drained or cleared.
-    /// - `NoMemory` if the entry's shard has no free slot and can't grow: memory is refused, or the shard has as many slots as it
-    ///   may have. The entry was due when the call looked. It stays, with its deadline, which another thread may have extended
-    ///   since.
     ///
     /// ```
     /// use hontkhale::{DelayQueue, KeyError, ManualClock};

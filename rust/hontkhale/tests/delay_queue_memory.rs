@@ -439,7 +439,27 @@ fn what_is_due_is_taken_out_without_memory() {
     }
 }
 
-/// Slots are free, and no memory is left for the note of a move. Neither call tries that again and again.
+/// Nor is a slot needed: there are as many entries as fill all slots, and one more or less.
+#[test]
+fn what_is_due_is_taken_out_of_a_full_queue_without_memory() {
+    let _alone = alone();
+    for entries in 1..=130 {
+        let clock = ManualClock::new();
+        let queue = DelayQueue::builder().shards(1).clock(&clock).build();
+        let keys: Vec<Key> = (0..entries)
+            .map(|number| queue.insert(number.to_string(), FAR).expect("room"))
+            .collect();
+        assert!(queue.deadline(&keys[0]).is_ok());
+        clock.advance(FAR);
+        GRANTS.with(|left| left.set(Some(0)));
+        let ended = queue.remove_if_due(&keys[0]);
+        GRANTS.with(|left| left.set(None));
+        assert_eq!(ended, Ok(Some("0".to_string())), "{entries} entries");
+    }
+}
+
+/// Slots are free, and no memory is left for the note of a move. A reset doesn't try that again and again, and a remove of what is
+/// due needs none.
 #[test]
 fn a_move_without_memory_for_its_note_is_refused_at_once() {
     const MOST: u64 = 1_000;

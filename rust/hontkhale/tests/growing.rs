@@ -60,6 +60,7 @@ mod drawn {
     const STORE_CALLS: Calls<store::Run> = &[
         (30, store::Run::insert),
         (4, store::Run::remove),
+        (6, store::Run::remove_if_due),
         (14, store::Run::reset),
         (10, store::Run::relocate),
         (4, store::Run::deadline),
@@ -103,7 +104,7 @@ mod drawn {
         }
     }
 
-    // promise: core.next-key growing.by-id growing.notes growing.upkeep
+    // promise: core.next-key growing.by-id growing.notes growing.remove-if-due growing.upkeep
     #[test]
     fn drawn_calls_of_a_store_answer_as_the_model_does() {
         for round in 0..calls().div_ceil(ROUND) {

@@ -7,7 +7,7 @@
 use crate::core::errors::{CoreConfig, CoreError};
 use crate::core::outcomes::{Expired, Pace, Progress, Removed, Turn};
 use crate::core::slots::Slots;
-use crate::core::words::{Settled, Words};
+use crate::core::words::{Look, Settled, Words};
 use crate::fresh::are_fresh;
 use crate::memory::AllocError;
 use crate::ticks::{EntryId, Key, Mark, CAPACITY_LIMIT, LAST_STAMP, LAST_TICK, REACH};
@@ -381,6 +381,35 @@ impl<T, W: Words> DelayCore<T, W> {
             deadline,
             value: held.value,
         })
+    }
+
+    /// Takes a live entry out if its current deadline isn't after `tick`, both of one millisecond, and returns its
+    /// value with its key and that deadline. It returns none if the deadline is later: the entry stays as it is.
+    /// Constant time, and no memory is taken.
+    ///
+    /// # Errors
+    /// In this order:
+    /// - `Missing` if the entry isn't in the queue any more, or never was.
+    /// - `WasCancelled` if the entry was cancelled.
+    pub fn remove_if_due(&mut self, entry: &EntryId, tick: u64) -> Result<Option<Removed<T>>, CoreError> {
+        let Some(index) = self.find(entry) else {
+            return Err(CoreError::Missing);
+        };
+        let stamp = once_near::<W>(&self.wheel, index, self.slots.stamp(index));
+        let deadline = match self.words.finish_by(index, stamp, tick) {
+            Look::LookRemoved(deadline) => deadline,
+            Look::StillLive(_) => return Ok(None),
+            Look::LookCancelled => return Err(CoreError::WasCancelled),
+            Look::LookExpired(_) => unreachable!(),
+        };
+        self.wheel.unlink(index);
+        let held = self.slots.vacate(index);
+        self.removed += 1;
+        Ok(Some(Removed {
+            key: Key::new(*entry, stamp),
+            deadline,
+            value: held.value,
+        }))
     }
 
     /// Gives a live entry the deadline `when`, a tick of one millisecond, sooner or later than the one that it has,

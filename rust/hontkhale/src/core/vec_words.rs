@@ -210,4 +210,25 @@ impl Steps for VecWords {
             _ => None,
         }
     }
+
+    #[inline]
+    fn finish_by(&mut self, index: usize, stamp: u32, tick: u64) -> Look {
+        let word = self.row.get(index);
+        match word.mark {
+            Mark::LiveMark if word.field <= tick => {
+                self.row.set(
+                    index,
+                    Parts {
+                        stamp,
+                        mark: Mark::RemovedMark,
+                        field: word.field,
+                    },
+                );
+                self.removals += 1;
+                Look::LookRemoved(word.field)
+            }
+            Mark::LiveMark => Look::StillLive(word.field),
+            _ => Look::LookCancelled,
+        }
+    }
 }

@@ -125,6 +125,9 @@ pub(crate) trait Steps {
     /// Makes a live word removed, and answers the deadline that was in force; None for a word that was cancelled,
     /// which stays.
     fn finish(&mut self, index: usize, stamp: u32) -> Option<u64>;
+
+    /// Makes a live word removed if its deadline isn't after `tick`, and tells what the word shows then.
+    fn finish_by(&mut self, index: usize, stamp: u32, tick: u64) -> Look;
 }
 
 /// Words whose callers are issued and given back.

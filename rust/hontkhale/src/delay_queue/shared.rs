@@ -339,17 +339,10 @@ impl<T> Shared<T> {
             return Ok(None);
         }
         let mut store = self.lock_of(key)?;
-        let mut has_freed = false;
-        loop {
-            let ended = store.remove_if_due(key, now);
-            let lacks_room = store.lacks_room(&ended);
-            let taken = matches!(ended, Ok(Some(_)));
-            self.leave(store, usize::from(taken));
-            match ended {
-                Err(_) if lacks_room => store = self.room_for_a_move(key, &mut has_freed)?,
-                ended => return ended,
-            }
-        }
+        let ended = store.remove_if_due(key, now);
+        let taken = matches!(ended, Ok(Some(_)));
+        self.leave(store, usize::from(taken));
+        ended
     }
 }
 

@@ -282,32 +282,26 @@ impl<T> ShardStore<T> {
         self.note_left();
     }
 
-    /// Takes a live entry out of its slot, and puts it into one of the open core; where it is due its value is out.
+    /// Takes a live entry out of its slot, and puts it into one of the open core.
     #[cold]
-    fn relocate(&mut self, entry: &EntryId, next: NextDeadline) -> Result<Option<T>, KeyError> {
+    fn relocate(&mut self, entry: &EntryId) -> Result<(), KeyError> {
         if !self.finds_room(true) {
             return Err(KeyError::NoMemory);
         }
-        match self.store.relocate(entry, next).0.map_err(refused)? {
-            Moved::Out(removed) => {
-                self.note_removed();
-                Ok(Some(removed.value))
-            }
-            Moved::To { deadline, .. } => {
-                self.hint = self.hint.min(deadline);
-                self.note_moved();
-                Ok(None)
-            }
+        if let Moved::To { deadline, .. } = self.store.relocate(entry, NextDeadline::Same).0.map_err(refused)? {
+            self.hint = self.hint.min(deadline);
+            self.note_moved();
         }
+        Ok(())
     }
 
-    /// Takes a live entry out where its deadline isn't after a tick. An extend takes no lock: one that comes meanwhile is seen
-    /// only as the entry is taken out, and then the entry goes on in another slot.
+    /// Takes a live entry out where its deadline isn't after a tick, and gives its value.
     pub fn remove_if_due(&mut self, key: &Key, now: u64) -> Result<Option<T>, KeyError> {
-        if self.store.deadline(&key.entry()).map_err(refused)? > now {
-            return Ok(None);
+        let removed = self.store.remove_if_due(&key.entry(), now).map_err(refused)?;
+        if removed.is_some() {
+            self.note_removed();
         }
-        self.relocate(&key.entry(), NextDeadline::SameIfAfter(now))
+        Ok(removed.map(|removed| removed.value))
     }
 
     /// What a program's closure makes of a live entry's value.
@@ -490,7 +484,7 @@ impl<T> ShardStore<T> {
             };
             match self.store.deadline(&entry) {
                 Ok(deadline) if deadline > now => {
-                    if self.relocate(&entry, NextDeadline::Same).is_err() {
+                    if self.relocate(&entry).is_err() {
                         break;
                     }
                 }

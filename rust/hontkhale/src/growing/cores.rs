@@ -156,6 +156,21 @@ impl<T, W: Words> Cores<T, W> {
         remove_from(nth_mut(&mut self.cores, at), entry)
     }
 
+    /// Takes a live entry out if its current deadline isn't after `tick`, both of one millisecond, and returns its value
+    /// with its key and that deadline. It returns none if the deadline is later: the entry stays as it is. Constant time,
+    /// and no memory is taken.
+    ///
+    /// # Errors
+    /// In this order:
+    /// - `Missing` if the entry isn't in the store any more, or never was.
+    /// - `WasCancelled` if the entry was cancelled.
+    pub fn remove_if_due(&mut self, entry: &EntryId, tick: u64) -> Result<Option<Removed<T>>, CoreError> {
+        let Some(at) = self.place_of(entry.shard()) else {
+            return Err(CoreError::Missing);
+        };
+        nth_mut(&mut self.cores, at).remove_if_due(entry, tick)
+    }
+
     /// Gives a live entry the deadline `when`, a tick of one millisecond, sooner or later than the one that it has, and
     /// returns its new key. Constant time, and no memory is taken.
     ///

@@ -154,6 +154,27 @@ impl<T, W: Words> Store<T, W> {
         Ok(removed_as(entry, removed))
     }
 
+    /// Takes a live entry out if its current deadline isn't after `tick`, both of one millisecond, and returns its value
+    /// with its key and that deadline. It returns none if the deadline is later: the entry stays where it is, with its
+    /// key. Constant time, and no memory is taken.
+    ///
+    /// # Errors
+    /// In this order:
+    /// - `Missing` if the entry isn't in the store any more, or never was.
+    /// - `WasCancelled` if the entry was cancelled.
+    pub fn remove_if_due(&mut self, entry: &EntryId, tick: u64) -> Result<Option<Removed<T>>, CoreError> {
+        let Some(place) = self.notes.place(entry) else {
+            return Err(CoreError::Missing);
+        };
+        let removed = match self.cores.remove_if_due(&place, tick) {
+            Ok(Some(removed)) => removed,
+            Ok(None) => return Ok(None),
+            Err(error) => return Err(error),
+        };
+        let _ = self.notes.forget(&place);
+        Ok(Some(removed_as(entry, removed)))
+    }
+
     /// Returns the current deadline of a live entry, a tick of one millisecond. Constant time.
     ///
     /// # Errors

@@ -3,9 +3,7 @@
 use crate::memory::AllocError;
 use crate::wheels::beside::Beside;
 use crate::wheels::homes::{clear_bit, list_from, set_bit, Maps};
-use crate::wheels::row::{
-    append, detach, detach_first, hang, lone_rows, once_near, put_last, row_at, set_moves, take_off, Row,
-};
+use crate::wheels::row::{append, detach, detach_first, hang, lone_rows, once_near, put_last, row_at, take_off, Row};
 use alloc::vec::Vec;
 
 /// Which of the lists each index stands in, if any.
@@ -61,12 +59,10 @@ fn scatter(rows: &mut [Row], capacity: usize, maps: &mut Maps, list: usize, tick
     while index < capacity {
         let row = row_at(rows, index);
         let to = list_from(list, tick, row.filed);
-        let after = put_last(rows, capacity, list, index, to);
+        let moved = if row.filed == tick { 0 } else { 1 };
+        let after = put_last(rows, capacity, list, index, to, row.moves + moved);
         set_bit(maps, to);
-        if row.filed != tick {
-            set_moves(rows, index, row.moves + 1);
-            made += 1;
-        }
+        made += moved as u64;
         index = after;
     }
     clear_bit(maps, list);

@@ -49,12 +49,6 @@ fn set_filed(rows: &mut [Row], at: usize, filed: u64) {
     row.moves = 0;
 }
 
-/// Writes how often a number moved.
-pub fn set_moves(rows: &mut [Row], at: usize, moves: u8) {
-    // requires at < length rows.old
-    nth_mut(rows, at).moves = moves;
-}
-
 /// A number's row.
 pub fn row_at(rows: &[Row], at: usize) -> Row {
     // requires at < length rows.now
@@ -144,16 +138,16 @@ pub fn take_off(rows: &mut [Row], capacity: usize, list: usize) -> usize {
     first
 }
 
-/// Puts the first entry of a list that was taken off at the end of another list, and gives the entry that followed
-/// it.
-pub fn put_last(rows: &mut [Row], capacity: usize, _list: usize, index: usize, to: usize) -> usize {
+/// Puts the first entry of a list that was taken off at the end of another list, after so many moves, and gives the
+/// entry that followed it.
+pub fn put_last(rows: &mut [Row], capacity: usize, _list: usize, index: usize, to: usize, moves: u8) -> usize {
     // requires AreTakenFrom capacity list index rows.old
     // requires index < capacity
     // requires list < LISTS
     // requires to < LISTS
     // requires to ≢ list
     let row = row_at(rows, index);
-    append(rows, capacity + to, index, to, row.filed, row.moves);
+    append(rows, capacity + to, index, to, row.filed, moves);
     row.next as usize
 }
 

@@ -155,12 +155,10 @@ impl Wheel {
     /// The tick at which something has to be done next: the wheel's own where an index is due, else the start of the
     /// first slot that isn't empty.
     pub fn next_wake(&self) -> Option<u64> {
-        match self.lists.first(due_list(self.tick)) {
-            Some(_) => Some(self.tick),
-            None => match self.lists.first_filled(digit(self.tick, LEVELS - 1) as usize) {
-                Some(list) => Some(start_of(self.tick, list)),
-                None => None,
-            },
+        // While an index is due, the first list is the due one, which starts at the tick.
+        match self.lists.first_filled(digit(self.tick, LEVELS - 1) as usize) {
+            Some(list) => Some(start_of(self.tick, list)),
+            None => None,
         }
     }
 

@@ -1,6 +1,6 @@
 //! The one seat that begins and ends entries.
 
-use crate::core::{Settled, SharedWords, Steps};
+use crate::core::{Look, Settled, SharedWords, Steps};
 use crate::memory::AllocError;
 use crate::ticks::{unpack, Parts, CAPACITY_LIMIT};
 use crate::words::caller::Caller;
@@ -167,6 +167,13 @@ impl Steps for Keeper {
         // requires IsInForce stamp 0 (known_word self.old index)
         // requires stamp ≤ LAST_STAMP
         tries::finish(&mut self.seat, index, stamp)
+    }
+
+    fn finish_by(&mut self, index: usize, stamp: u32, tick: u64) -> Look {
+        // requires index < length (known_of self.old)
+        // requires IsInForce stamp 0 (known_word self.old index)
+        // requires stamp ≤ LAST_STAMP
+        tries::finish_by(&mut self.seat, index, stamp, tick)
     }
 }
 

@@ -1,7 +1,7 @@
 //! What the keeper does to a word that callers may change at any moment: it tries, and what it finds tells it how to
 //! go on.
 
-use crate::core::Settled;
+use crate::core::{Look, Settled};
 use crate::ticks::{field, is_live, stamp};
 use crate::words::parts::{expired_word, live_word, removed_word};
 use crate::words::seated::Seated;
@@ -59,6 +59,27 @@ pub(crate) fn finish(seat: &mut Seated, index: usize, stamp: u32) -> Option<u64>
         seen = found;
     }
     None
+}
+
+// The same where the deadline isn't after a tick.
+pub(crate) fn finish_by(seat: &mut Seated, index: usize, stamp: u32, tick: u64) -> Look {
+    // requires index < length seat.old.view.seen
+    // requires seat.old.view.keeps ≡ true
+    // requires IsOpen (slice_index seat.old.view.seen index) stamp
+    // requires stamp ≤ LAST_STAMP
+    let mut seen = seat.keeper_load(index);
+    while is_live(seen) {
+        let deadline = field(seen);
+        if deadline > tick {
+            return Look::StillLive(deadline);
+        }
+        let found = seat.finish(index, seen, removed_word(stamp, deadline));
+        if found == seen {
+            return Look::LookRemoved(deadline);
+        }
+        seen = found;
+    }
+    Look::LookCancelled
 }
 
 // Ends the word of a slot as removed, where it is live.

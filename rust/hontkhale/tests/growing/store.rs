@@ -176,6 +176,26 @@ impl Run {
         }
     }
 
+    pub fn remove_if_due(&mut self) {
+        let Some(entry) = self.id() else { return };
+        let (known, tick) = (self.live(&entry), self.tick());
+        let answer = self.store.remove_if_due(&entry, tick);
+        assert_eq!(answer.as_ref().err(), known.as_ref().err());
+        let (Ok(answer), Ok((known, deadline))) = (answer, known) else {
+            return;
+        };
+        assert_eq!(answer.is_some(), deadline <= tick);
+        match answer {
+            Some(removed) => {
+                let told = (removed.key, removed.deadline, removed.value.number());
+                assert_eq!(told, (Key::new(entry, known.stamp), deadline, known.value));
+                self.leaves(&entry);
+                self.is_gone(&entry);
+            }
+            None => assert_eq!(self.store.deadline(&entry), Ok(deadline)),
+        }
+    }
+
     /// No call finds an entry that left, and its note went with it.
     fn is_gone(&mut self, entry: &EntryId) {
         assert_eq!(self.store.deadline(entry), Err(CoreError::Missing));

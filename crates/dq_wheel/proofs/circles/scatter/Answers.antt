@@ -1,5 +1,6 @@
-use Rattle.std.proofs.Common.{arith, sym, ◌∙◌}
-use Rattle.dq_wheel.proofs.Scattering.{few_moves, may_go, scattered, scattered_bits, scattered_circles, scattering_due, scattering_falls, scattering_init, scattering_moved}
+use Rattle.std.proofs.Common.{arith, sym, ◌∙◌, inl, inr}
+use Rattle.dq_wheel.proofs.Scattering.{few_moves, may_go, scattered, scattered_bits, scattered_circles, scattering_falls, scattering_goes, scattering_init}
+use Rattle.dq_wheel.proofs.circles.scatter.Goals.{then-row-tick, else-row-tick}
 use Rattle.dq_wheel.proofs.circles.scatter.Goals as goal
 
 pub loop-index-init : goal.loop-index-init
@@ -32,19 +33,6 @@ pub overflow_add-row : goal.overflow_add-row
 overflow_add-row c =
     omega (arith, few_moves _ _ _ _ _ _ _ _ c.loop-index.invariant c.loop-index-test.true c.requires.can_go _ c.row_at-row.ensures.filed _ c.row_at-row.ensures.moves)
 
-pub loop-index-smaller-then-row-tick : goal.loop-index-smaller-then-row-tick
-loop-index-smaller-then-row-tick c =
-    scattering_falls _ _ _ _ _ _ _ _ c.loop-index.invariant c.loop-index-test.true c.requires.can_go _ c.row_at-row.ensures.filed _ c.row_at-row.ensures.moves c.set_moves.new.rows _ _ c.put_last-after.result
-    c.list_from-to.ensures.value (rw (c.set_moves.ensures.next, c.set_moves.ensures.prev, c.set_moves.ensures.home) c.put_last-after.ensures.taken)
-    (c.set_moves.ensures.home ∙ c.put_last-after.ensures.home) (c.set_moves.ensures.filed ∙ c.put_last-after.ensures.filed) c.set_bit.ensures.set c.set_bit.ensures.others
-
-pub loop-index-preserved-then-row-tick : goal.loop-index-preserved-then-row-tick
-loop-index-preserved-then-row-tick c =
-    scattering_moved _ _ _ _ _ _ _ _ c.loop-index.invariant c.loop-index-test.true c.requires.can_go _ c.row_at-row.ensures.filed _ c.row_at-row.ensures.moves c.set_moves.new.rows _ _ c.put_last-after.result
-    c.list_from-to.ensures.value (rw (c.set_moves.ensures.next, c.set_moves.ensures.prev, c.set_moves.ensures.home) c.put_last-after.ensures.taken)
-    (c.set_moves.ensures.home ∙ c.put_last-after.ensures.home) (c.set_moves.ensures.filed ∙ c.put_last-after.ensures.filed) c.set_bit.ensures.set c.set_bit.ensures.others
-    (rw c.put_last-after.ensures.moves at c.set_moves.ensures.moves) c.if-row-tick.true
-
 pub loop-index-smaller : goal.loop-index-smaller
 loop-index-smaller c =
     scattering_falls _ _ _ _ _ _ _ _ c.loop-index.invariant c.loop-index-test.true c.requires.can_go _ c.row_at-row.ensures.filed _ c.row_at-row.ensures.moves _ _ _ _
@@ -52,9 +40,13 @@ loop-index-smaller c =
 
 pub loop-index-preserved : goal.loop-index-preserved
 loop-index-preserved c =
-    scattering_due _ _ _ _ _ _ _ _ c.loop-index.invariant c.loop-index-test.true c.requires.can_go _ c.row_at-row.ensures.filed _ c.row_at-row.ensures.moves _ _ _ _
+    scattering_goes _ _ _ _ _ _ _ _ c.loop-index.invariant c.loop-index-test.true c.requires.can_go _ c.row_at-row.ensures.filed _ c.row_at-row.ensures.moves _ _ _ _
     c.list_from-to.ensures.value c.put_last-after.ensures.taken c.put_last-after.ensures.home c.put_last-after.ensures.filed c.set_bit.ensures.set c.set_bit.ensures.others
-    c.put_last-after.ensures.moves c.if-row-tick.false
+    _ c.put_last-after.ensures.moves
+    (elim c.if-row-tick.branch [
+      | then-row-tick w ↦ inl (w.if-row-tick.true, w.moved-is)
+      | else-row-tick w ↦ inr (w.if-row-tick.false, w.moved-is)
+    ])
 
 pub returns-clause-circles : goal.returns-clause-circles
 returns-clause-circles c = scattered_circles _ _ _ _ _ _ _ _ c.loop-index.invariant (omega arith)

@@ -20,4 +20,4 @@ pub returns-clause-filed : goal.returns-clause-filed
 returns-clause-filed c = search (rules, set-get_or)
 
 pub returns-clause-moves : goal.returns-clause-moves
-returns-clause-moves c = search (rules, set-get_or)
+returns-clause-moves c = search rules

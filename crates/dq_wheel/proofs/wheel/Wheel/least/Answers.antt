@@ -10,7 +10,6 @@ returns-in-Some g c = seen_least_due _ _ _ _ c.self.invariant.0 _ _ (ap (λ w. w
 pub returns-in_default-first_filled : goal.returns-in_default-first_filled
 returns-in_default-first_filled g c =
     seen_none _ _ _ _ c.self.invariant.0 _ _ (ap (λ w. w.filing) c.self.view_is) c.in_default-first_filled.ensures
-    (none_due _ _ _ _ c.self.invariant.0 (rw c.due_list.ensures.value at c.in_default.ensures))
 
 pub returns : goal.returns
 returns g c =

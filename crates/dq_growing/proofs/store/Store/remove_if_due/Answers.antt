@@ -1,0 +1,57 @@
+use Rattle.std.proofs.Common.{Ok, Err, inl, refl, sym, ◌∙◌}
+use Rattle.dq_growing.proofs.Aging.{removes_age, tells_age}
+use Rattle.dq_growing.proofs.Stored.{stored, law_same_notes, law_forgets, removes_for, removal_refused, due_taken, due_later, due_refused}
+use Rattle.dq_growing.proofs.store.Store.remove_if_due.Goals as goal
+
+pub invariant_of-self : goal.invariant_of-self
+invariant_of-self g c =
+    let i = c.self.inside in
+    let due = due_later g.W.Words.shared i.cores c.remove_if_due.new.self c.in-Some.place c.args.tick _ c.in-Ok-None.field-0-is c.in-Ok-None.ensures.removes in
+    law_same_notes (stored i.cores i.notes) c.remove_if_due.new.self c.self.invariant
+    (tells_age g.W.Words.shared i.cores c.remove_if_due.new.self c.in-Some.place (Ok due.0) _ c.law.ensures due.2)
+
+pub returns-in-Ok-None-clause-removes : goal.returns-in-Ok-None-clause-removes
+returns-in-Ok-None-clause-removes g c =
+    let i = c.self.inside in
+    let due = due_later g.W.Words.shared i.cores c.remove_if_due.new.self c.in-Some.place c.args.tick _ c.in-Ok-None.field-0-is c.in-Ok-None.ensures.removes in
+    rw (← c.self.view_is) (due.0, due.1, inl (c.in-Some.place, sym c.place.ensures ∙ c.in-Some.is, (due.2, refl)))
+
+pub returns-in-Ok-None-clause-words : goal.returns-in-Ok-None-clause-words
+returns-in-Ok-None-clause-words g c = rw (← c.self.view_is) c.remove_if_due.ensures.words
+
+pub invariant_of-self-in-Err : goal.invariant_of-self-in-Err
+invariant_of-self-in-Err g c =
+    let i = c.self.inside in
+    law_same_notes (stored i.cores i.notes) c.remove_if_due.new.self c.self.invariant
+    (removes_age g.W.Words.shared i.cores c.remove_if_due.new.self c.in-Some.place (Err c.in-Err.error) _ c.law.ensures
+    (due_refused g.W.Words.shared i.cores c.remove_if_due.new.self c.in-Some.place c.args.tick c.in-Err.error c.in-Err.ensures.removes))
+
+pub returns-in-Err-clause-removes : goal.returns-in-Err-clause-removes
+returns-in-Err-clause-removes g c =
+    let i = c.self.inside in
+    rw (← c.self.view_is)
+    (removal_refused g.W.Words.shared (stored i.cores i.notes) c.remove_if_due.new.self c.args.entry.now c.in-Some.place c.in-Err.error (sym c.place.ensures ∙ c.in-Some.is)
+    (due_refused g.W.Words.shared i.cores c.remove_if_due.new.self c.in-Some.place c.args.tick c.in-Err.error c.in-Err.ensures.removes))
+
+pub returns-in-Err-clause-words : goal.returns-in-Err-clause-words
+returns-in-Err-clause-words g c = rw (← c.self.view_is) c.remove_if_due.ensures.words
+
+pub invariant_of-self-2 : goal.invariant_of-self-2
+invariant_of-self-2 g c =
+    let i = c.self.inside in
+    let due = due_taken g.W.Words.shared i.cores c.remove_if_due.new.self c.in-Some.place c.args.tick _ c.in-Ok-Some.removed c.in-Ok-Some.field-0-is c.in-Ok-Some.ensures.removes in
+    law_forgets (stored i.cores i.notes) (stored c.remove_if_due.new.self c.forget.new.self) c.in-Some.place c.forget.result c.self.invariant
+    (removes_age g.W.Words.shared i.cores c.remove_if_due.new.self c.in-Some.place (Ok c.in-Ok-Some.removed) _ c.law.ensures due.1) c.law-2.ensures c.forget.ensures
+
+pub returns-clause-removes : goal.returns-clause-removes
+returns-clause-removes g c =
+    let i = c.self.inside in
+    let due = due_taken g.W.Words.shared i.cores c.remove_if_due.new.self c.in-Some.place c.args.tick _ c.in-Ok-Some.removed c.in-Ok-Some.field-0-is c.in-Ok-Some.ensures.removes in
+    rw (c.removed_as.ensures, ← c.self.view_is) (
+      due.0,
+      removes_for g.W.Words.shared (stored i.cores i.notes) (stored c.remove_if_due.new.self c.forget.new.self) c.args.entry.now c.in-Some.place c.in-Ok-Some.removed c.forget.result
+          (sym c.place.ensures ∙ c.in-Some.is) due.1 c.forget.ensures,
+    )
+
+pub returns-clause-words : goal.returns-clause-words
+returns-clause-words g c = rw (← c.self.view_is) c.remove_if_due.ensures.words
