@@ -375,3 +375,75 @@ fn a_clock_that_panics_at_any_reading_loses_no_entry() {
         );
     }
 }
+
+/// Whoever is behind one whose waker panics leads from then on, and so it is woken.
+#[test]
+fn a_task_that_sleeps_again_within_a_waker_that_panics_is_woken() {
+    let queue = DelayQueue::new();
+    let own = Arc::new(Mutex::new(queue.receiver()));
+    let woken = Arc::new(AtomicUsize::new(0));
+    let (polled, counts) = (Arc::clone(&own), Arc::clone(&woken));
+    let again = waker(move || _ = counts.fetch_add(1, SeqCst));
+    let panics = waker(move || {
+        assert!(polled.lock().is_ok_and(|mut task| poll(&mut task, &again).is_pending()));
+        panic!("a waker that panics");
+    });
+    assert!(poll(&mut own.lock().expect("no panic"), &panics).is_pending());
+    assert!(catch_unwind(AssertUnwindSafe(|| queue.insert("sooner".to_string(), SECOND))).is_err());
+    assert_eq!(woken.load(SeqCst), 1);
+}
+
+/// A waker drops its own receiver, and wakes a task of another queue, before that or after it.
+#[test]
+fn a_task_is_called_after_the_waker_that_left_whatever_other_queue_that_wakes() {
+    for wakes_first in [false, true] {
+        let (queue, other) = (DelayQueue::new(), DelayQueue::new());
+        let told = Arc::new(Mutex::new(String::new()));
+        let tells = |word: &'static str| {
+            let told = Arc::clone(&told);
+            move || told.lock().expect("no panic").push_str(word)
+        };
+        let [leads, mut next, mut elsewhere] = [&queue, &queue, &other].map(DelayQueue::receiver);
+        let own = Arc::new(Mutex::new(Some(leads)));
+        let (inserts, dropped, begins, ends) = (other.clone(), Arc::clone(&own), tells("begins "), tells("ends "));
+        let insert = move || assert!(inserts.insert(1, Duration::ZERO).is_ok());
+        let leaves = waker(move || {
+            begins();
+            wakes_first.then(&insert);
+            drop(dropped.lock().map(|mut own| own.take()));
+            (!wakes_first).then(&insert);
+            ends();
+        });
+        let waits = |task: &mut Receiver<u64>, waker: &Waker| assert!(poll(task, waker).is_pending());
+        waits(own.lock().expect("no panic").as_mut().expect("it waits"), &leaves);
+        waits(&mut next, &waker(tells("next ")));
+        waits(&mut elsewhere, &waker(tells("elsewhere ")));
+        queue.insert(1, Duration::ZERO).expect("room");
+        assert_eq!(*told.lock().expect("no panic"), "begins elsewhere ends next ");
+    }
+}
+
+/// What is called as it is dropped.
+struct AtDrop<F: Fn()>(F);
+
+impl<F: Fn()> Drop for AtDrop<F> {
+    fn drop(&mut self) {
+        (self.0)();
+    }
+}
+
+/// The task has left the line by then, and has the entry in hand.
+#[test]
+fn a_waker_that_panics_as_it_is_dropped_loses_no_entry() {
+    let queue = DelayQueue::builder().read_clock(hooked_clock).build();
+    queue.insert("due".to_string(), SECOND).expect("room");
+    let mut task = queue.receiver();
+    let dropped = Arc::new(AtomicUsize::new(0));
+    let counts = Arc::clone(&dropped);
+    let panics = AtDrop(move || panic!("the drop {} panics", counts.fetch_add(1, SeqCst)));
+    assert!(poll(&mut task, &waker(move || _ = &panics)).is_pending());
+    PASSED.set(PASSED.get() + SECOND);
+    let polled = poll(&mut task, &waker(|| {}));
+    assert!(matches!(polled, Poll::Ready(Some(out)) if out.value == "due"));
+    assert_eq!(dropped.load(SeqCst), 1);
+}

@@ -1,8 +1,8 @@
 //! Who asks whether a queue is empty: its receivers once nothing more is inserted, and those that wait until it is.
 //!
 //! Whoever ends an entry while somebody asks looks whether it was the last one, and whoever begins to ask looks once by the
-//! shards' locks. An insert that was under way as inserts were refused either is seen by that look, or finds the queue sealed
-//! and takes its entry back: so what was put in comes out.
+//! shards' locks. An insert that was under way as inserts were refused either is seen by that look, or finds that the queue is to
+//! end and takes its entry back: so what was put in comes out.
 
 use crate::delay_queue::shared::Shared;
 use crate::delay_queue::waking::lose;
@@ -17,8 +17,7 @@ use std::time::Duration;
 pub(crate) struct Ends {
     /// How many ask. While nobody does the end of an entry tells nobody.
     asked: AtomicUsize,
-    /// Whether inserts are refused, whether the receivers end once the queue is empty, whether the queue was dropped, and whether
-    /// what is put in comes too late.
+    /// Whether inserts are refused, whether the receivers end once the queue is empty, and whether the queue was dropped.
     state: AtomicUsize,
     /// The clones of the queue, which may insert.
     inserters: AtomicUsize,
@@ -31,7 +30,6 @@ pub(crate) struct Ends {
 const REFUSES: usize = 1;
 const ENDS_WHEN_EMPTY: usize = 2;
 const IS_OVER: usize = 4;
-const IS_SEALED: usize = 8;
 
 impl Ends {
     #[inline(always)]
@@ -61,18 +59,10 @@ impl Ends {
         self.state.fetch_or(IS_OVER, SeqCst);
     }
 
-    /// Whether whoever put something in takes it back.
+    /// Whether the receivers end once the queue is empty: whoever put something in takes it back.
     #[inline(always)]
-    pub fn is_sealed(&self) -> bool {
-        self.is(IS_SEALED)
-    }
-
-    fn seal(&self) {
-        self.state.fetch_or(IS_SEALED, SeqCst);
-    }
-
-    fn unseal(&self) {
-        self.state.fetch_and(!IS_SEALED, SeqCst);
+    pub fn ends_when_empty(&self) -> bool {
+        self.is(ENDS_WHEN_EMPTY)
     }
 
     pub fn add_inserter(&self) {
@@ -153,7 +143,7 @@ impl<T> Shared<T> {
             return;
         }
         self.common.ends.wake_all();
-        if self.common.ends.is(ENDS_WHEN_EMPTY) {
+        if self.common.ends.ends_when_empty() {
             lose(self.end_if_empty());
         }
     }
@@ -165,12 +155,7 @@ impl<T> Shared<T> {
             return Ok(());
         }
         let deciding = self.common.ends.emptied();
-        if self.common.is_closed() {
-            return Ok(());
-        }
-        self.common.ends.seal();
-        if !self.is_surely_empty() {
-            self.common.ends.unseal();
+        if self.common.is_closed() || !self.is_surely_empty() {
             return Ok(());
         }
         let called = self.common.receivers.close();
@@ -224,6 +209,17 @@ mod tests {
         shared.common.uncount(1);
         assert!(is_empty && shared.common.is_closed());
         assert_eq!((value.as_str(), queue.len()), ("last", 0));
+    }
+
+    /// Else the end of each entry from then on would look at all shards.
+    #[test]
+    fn who_has_waited_asks_no_more() {
+        let queue = DelayQueue::new();
+        queue.insert("waits".to_string(), FAR).expect("room");
+        let ends = &queue.shared.common.ends;
+        assert!(!queue.wait_empty(Duration::ZERO) && !ends.is_asked());
+        queue.close_when_empty();
+        assert!(!queue.wait_empty(Duration::ZERO) && ends.is_asked());
     }
 
     /// Another thread's insert is counted, and is refused then for want of memory, or by a panic.

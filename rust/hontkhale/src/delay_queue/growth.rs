@@ -145,7 +145,6 @@ impl<T> Shared<T> {
     pub fn free_cancelled(&self, at: usize) {
         let cancels = self.common.seen[at].cancels();
         (0..SWEEPS).all(|_| self.lock(at).sweep(cancels));
-        self.drop_deferred_at(at);
         self.drop_deferred();
     }
 

@@ -364,7 +364,8 @@ impl<T> fmt::Debug for Drain<'_, T> {
 
 #[cfg(test)]
 mod tests {
-    use crate::DelayQueue;
+    use crate::locks::taken;
+    use crate::{DelayQueue, ManualClock};
     use std::panic::catch_unwind;
     use std::time::Duration;
 
@@ -382,6 +383,38 @@ mod tests {
         });
         assert_eq!(received.map(|expired| expired.value), Ok("due"));
         assert!(queue.recv().is_none());
+    }
+
+    /// Else a shard in which something is always due would keep the others waiting for ever.
+    #[test]
+    fn of_two_shards_the_one_that_is_due_first_is_asked() {
+        for first in [0, 1] {
+            let clock = ManualClock::new();
+            let queue = DelayQueue::builder().clock(&clock).shards(2).build();
+            for (at, tick) in [(first, 1), (1 - first, 2)] {
+                queue.shared.grow(at).expect("room");
+                queue.shared.lock(at).insert(tick.to_string(), tick);
+            }
+            clock.advance(Duration::from_millis(3));
+            assert_eq!(queue.stats().late, Duration::from_millis(2));
+            let came_out: Vec<_> = queue.try_iter().map(|out| out.value).collect();
+            assert_eq!(came_out, ["1", "2"]);
+        }
+    }
+
+    /// So whoever asks next takes no lock.
+    #[test]
+    fn a_row_that_is_full_of_all_that_is_due_tells_when_the_next_is() {
+        let queue = DelayQueue::builder().shards(1).build();
+        for after in [0, 0, 1_000] {
+            queue
+                .insert("waits".to_string(), Duration::from_secs(after))
+                .expect("room");
+        }
+        let mut row = Vec::new();
+        assert_eq!(queue.try_recv_many(&mut row, 2), Ok(2));
+        let (is_empty, locks) = taken::by(|| queue.shared.take_one().is_none());
+        assert_eq!((is_empty, locks), (true, 0));
     }
 
     /// It would never sleep otherwise.

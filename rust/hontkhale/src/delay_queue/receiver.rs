@@ -160,24 +160,29 @@ impl<T> Receiver<T> {
     ///
     /// The values of cancelled entries are dropped here, before something is in hand, and while no lock is held.
     pub fn poll_recv(&mut self, cx: &mut Context<'_>) -> Poll<Option<Expired<T>>> {
+        self.poll_by(cx, |shared| shared.try_poll(0))
+    }
+
+    /// The same by what `take` comes to.
+    fn poll_by(
+        &mut self,
+        cx: &mut Context<'_>,
+        mut take: impl FnMut(&Shared<T>) -> Step<T>,
+    ) -> Poll<Option<Expired<T>>> {
         self.wake_at = None;
         for _ in 0..TURNS {
             let shared = &self.shared;
             shared.drop_deferred();
             // It is asked first: what was put in before a close comes out.
             let is_closed = shared.common.is_closed();
-            match shared.try_poll(0) {
+            match take(shared) {
                 Step::Took(expired) => {
                     shared.common.leave(&mut self.seat);
                     return Poll::Ready(Some(expired));
                 }
                 Step::Works => {}
-                // What the step freed is dropped first.
-                Step::Rests if !shared.has_no_deferred() => {}
-                Step::Rests if is_closed => {
-                    shared.common.leave(&mut self.seat);
-                    return Poll::Ready(None);
-                }
+                // Nobody sleeps any more, and no place in line is of use.
+                Step::Rests if is_closed => return Poll::Ready(None),
                 Step::Rests => {
                     if let Some(tick) = self.sleep(cx.waker()) {
                         self.wake_at = self.shared.common.time.moment_of(tick);
@@ -251,7 +256,7 @@ mod tests {
     use std::sync::atomic::{AtomicBool, Ordering::SeqCst};
     use std::sync::mpsc::channel;
     use std::sync::Arc;
-    use std::task::{Context, Wake, Waker};
+    use std::task::{Context, Poll, Wake, Waker};
     use std::thread;
     use std::time::Duration;
 
@@ -272,6 +277,22 @@ mod tests {
 
     impl Wake for Sleeps {
         fn wake(self: Arc<Self>) {}
+    }
+
+    #[test]
+    fn what_was_put_in_just_before_the_close_is_given_to_a_task() {
+        let queue = DelayQueue::new();
+        let (mut receiver, mut is_first) = (queue.receiver(), true);
+        let waker = Waker::from(Arc::new(Sleeps));
+        let polled = receiver.poll_by(&mut Context::from_waker(&waker), |shared| {
+            let step = shared.try_poll(0);
+            if std::mem::take(&mut is_first) {
+                queue.insert("due".to_string(), Duration::ZERO).expect("room");
+                queue.close();
+            }
+            step
+        });
+        assert!(matches!(polled, Poll::Ready(Some(out)) if out.value == "due"));
     }
 
     /// The steps are those in the line, each of which looks at an index.

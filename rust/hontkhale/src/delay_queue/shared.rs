@@ -226,7 +226,7 @@ impl<T> Shared<T> {
     fn is_in(&self, store: Locked<'_, T>, key: Key) -> Result<Key, T> {
         // A waker that panics takes the key along, but not the entry.
         self.leave(store, 0);
-        if self.common.ends.is_sealed() {
+        if self.common.ends.ends_when_empty() {
             if let Some(value) = self.take_back(key) {
                 return Err(value);
             }
@@ -272,11 +272,7 @@ impl<T> Shared<T> {
     /// A step under the shard's lock: the entry's stamp was changed by a reset, it was moved, or it has ended.
     #[cold]
     fn step_slowly(&self, key: &Key, step: Step) -> Result<u64, KeyError> {
-        let mut store = self.lock_of(key)?;
-        if matches!(step, Step::Extend(tick) if tick > LAST_TICK) {
-            return Err(KeyError::TooFar);
-        }
-        store.step(key, step, &self.common.words)
+        self.lock_of(key)?.step(key, step, &self.common.words)
     }
 
     /// What a program's closure makes of a live entry's value, under its shard's lock and no other one.
@@ -367,7 +363,7 @@ impl<T> Shared<T> {
     }
 
     /// Drops the values that are deferred in a shard, each while the lock is free. Within a drop of the queue they stay deferred.
-    pub fn drop_deferred_at(&self, at: usize) {
+    fn drop_deferred_at(&self, at: usize) {
         loop {
             let value = self.lock(at).take_deferred();
             let Some(value) = value else { return };
@@ -384,10 +380,10 @@ impl<T> Drop for Shared<T> {
 
 #[cfg(test)]
 mod tests {
-    use crate::delay_queue::Key;
+    use crate::delay_queue::{Key, Timeout};
     use crate::locks::taken;
     use crate::DelayQueue;
-    use std::time::Duration;
+    use std::time::{Duration, Instant};
 
     const FAR: Duration = Duration::from_secs(1_000);
 
@@ -411,12 +407,13 @@ mod tests {
         assert!(queue.try_recv().is_err());
         let (key, handle) = (&keys[0], queue.handle());
         type Call<'c> = (&'static str, usize, Box<dyn Fn() -> bool + 'c>);
-        let calls: [Call<'_>; 10] = [
+        let calls: [Call<'_>; 11] = [
             ("extend", 0, Box::new(|| queue.extend(key, FAR * 2).is_ok())),
             ("a handle's extend", 0, Box::new(|| handle.extend(key, FAR * 3).is_ok())),
             ("deadline", 0, Box::new(|| queue.deadline(key).is_ok())),
             ("a later reset", 0, Box::new(|| queue.reset(key, FAR * 4).is_ok())),
             ("nothing due", 0, Box::new(|| queue.try_recv().is_err())),
+            ("not due", 0, Box::new(|| queue.remove_if_due(key) == Ok(None))),
             ("len", 0, Box::new(|| queue.len() == 2)),
             ("a sooner reset", 1, Box::new(|| queue.reset(key, FAR).is_ok())),
             ("insert", 1, Box::new(|| queue.insert(2, FAR).is_ok())),
@@ -426,6 +423,31 @@ mod tests {
         for (name, locks, call) in calls {
             assert_eq!(taken::by(call), (true, locks), "{name}");
         }
+    }
+
+    /// It goes on by the key that the reset gave.
+    #[test]
+    fn a_guard_is_extended_without_a_lock_after_its_resets() {
+        let queue = DelayQueue::builder().shards(1).build();
+        let mut guard = queue.guard("guarded".to_string(), FAR).expect("room");
+        type Resets = fn(&mut Timeout<String>) -> bool;
+        let resets: [Resets; 2] = [
+            |guard| guard.reset(FAR / 2).is_ok(),
+            |guard| guard.reset_at(Instant::now()).is_ok(),
+        ];
+        for reset in resets {
+            assert!(reset(&mut guard));
+            assert_eq!(taken::by(|| guard.extend(FAR).is_ok()), (true, 0));
+        }
+    }
+
+    #[test]
+    fn a_queue_that_rests_takes_no_lock_once_what_was_cancelled_is_freed() {
+        let queue = DelayQueue::builder().shards(2).build();
+        let key = queue.insert("cancelled".to_string(), FAR).expect("room");
+        queue.cancel(&key).expect("it waits");
+        (0..10).for_each(|_| assert!(queue.try_recv().is_err()));
+        assert_eq!(taken::by(|| queue.try_recv().is_err()), (true, 0));
     }
 
     /// It found the queue open before the close.

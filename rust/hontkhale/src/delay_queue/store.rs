@@ -9,7 +9,7 @@ use crate::delay_queue::common::Step;
 use crate::delay_queue::errors::{InsertErrorKind, KeyError};
 use crate::delay_queue::key::Key;
 use crate::directory::Directory;
-use crate::growing::{Cores, Folds, Moved, NextDeadline, Sizing, Store};
+use crate::growing::{Cores, Folds, NextDeadline, Sizing, Store};
 use crate::locks::with_lock;
 use crate::memory::AllocError;
 use crate::ticks::{self, EntryId};
@@ -288,10 +288,9 @@ impl<T> ShardStore<T> {
         if !self.finds_room(true) {
             return Err(KeyError::NoMemory);
         }
-        if let Moved::To { deadline, .. } = self.store.relocate(entry, NextDeadline::Same).0.map_err(refused)? {
-            self.hint = self.hint.min(deadline);
-            self.note_moved();
-        }
+        // It is due when it was, so the hint stays.
+        self.store.relocate(entry, NextDeadline::Same).0.map_err(refused)?;
+        self.note_moved();
         Ok(())
     }
 

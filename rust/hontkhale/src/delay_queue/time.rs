@@ -242,7 +242,8 @@ fn rounded_up(length: Duration) -> (u64, u32) {
 
 #[cfg(test)]
 mod tests {
-    use super::{rounded_up, LAST_TICK};
+    use super::{rounded_up, ManualClock, Source, Time, LAST_TICK};
+    use crate::DelayQueue;
     use std::time::Duration;
 
     #[test]
@@ -254,5 +255,31 @@ mod tests {
         assert_eq!(rounded_up(last), (LAST_TICK, 0));
         assert!(rounded_up(last + Duration::from_nanos(1)).0 > LAST_TICK);
         assert!(rounded_up(Duration::MAX).0 > LAST_TICK);
+    }
+
+    #[test]
+    fn the_last_tick_comes_and_none_after_it() {
+        let time = Time::new(Source::System, None);
+        assert_eq!(time.moment_of(LAST_TICK), Some(time.moment(LAST_TICK)));
+        assert_eq!(time.moment_of(LAST_TICK + 1), None);
+    }
+
+    /// The system's clock would wake it while the manual one stands.
+    #[test]
+    fn who_waits_for_a_manual_clock_sleeps_until_it_is_advanced() {
+        let clock = ManualClock::new();
+        let time = Time::new(Source::Manual(clock.clone()), None);
+        assert_eq!(time.sleep_until(clock.now()), None);
+    }
+
+    #[test]
+    fn a_clock_keeps_nothing_of_a_queue_that_is_gone() {
+        let clock = ManualClock::new();
+        let queues = [(); 3].map(|()| DelayQueue::<String>::builder().clock(&clock).build());
+        clock.advance(Duration::ZERO);
+        assert_eq!(clock.queues().len(), 3);
+        drop(queues);
+        clock.advance(Duration::ZERO);
+        assert_eq!(clock.queues().len(), 0);
     }
 }

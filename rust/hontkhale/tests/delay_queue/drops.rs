@@ -3,12 +3,24 @@
 use crate::kit::{ms, within_the_limit, Drops, Value, FAR};
 use hontkhale::{DelayQueue, ManualClock, Timeout};
 use std::panic::{catch_unwind, AssertUnwindSafe};
+use std::sync::atomic::{AtomicUsize, Ordering::SeqCst};
 use std::sync::mpsc::channel;
 use std::sync::{Arc, Mutex};
+use std::task::{Context, Wake};
 use std::thread::{self, JoinHandle};
 
 /// How many values are cancelled before a receiver drops them.
 const CANCELLED: u64 = 20;
+
+/// How often a task was woken.
+#[derive(Default)]
+struct Wakes(AtomicUsize);
+
+impl Wake for Wakes {
+    fn wake(self: Arc<Self>) {
+        self.0.fetch_add(1, SeqCst);
+    }
+}
 
 /// How many of the first values were dropped.
 fn dropped(drops: &Drops, values: u64) -> usize {
@@ -229,6 +241,67 @@ fn after_a_panic_within_the_drops_of_two_queues_both_drop() {
     }
     assert!(outer.is_empty() && inner.is_empty());
     assert!(drops.are_once(2));
+}
+
+/// It was let go within the drop that panics, and a receiver rests once it is dropped.
+#[test]
+fn a_later_call_drops_what_was_let_go_within_a_drop_that_panics() {
+    let (queue, drops) = (DelayQueue::new(), Drops::default());
+    let guard = queue.guard(drops.value(1), FAR).expect("room");
+    let panics = drops.value(0).then(move || {
+        drop(guard);
+        panic!("a drop that panics");
+    });
+    let panics = queue.guard(panics, FAR).expect("room");
+    assert!(catch_unwind(AssertUnwindSafe(|| drop(panics))).is_err());
+    assert_eq!((drops.count(0), drops.count(1)), (1, 0));
+    let (mut task, wakes) = (queue.receiver(), Arc::<Wakes>::default());
+    for _ in 0..2 {
+        assert!(task
+            .poll_recv(&mut Context::from_waker(&wakes.clone().into()))
+            .is_pending());
+        assert_eq!((drops.count(1), wakes.0.load(SeqCst)), (1, 0));
+    }
+}
+
+/// What it let go is dropped after it.
+#[test]
+fn a_receive_within_a_drop_waits_for_no_other_drop() {
+    let (queue, drops) = (DelayQueue::new(), Drops::default());
+    let guard = queue.guard(drops.value(1), FAR).expect("room");
+    let (mut task, wakes, counts) = (queue.receiver(), Arc::<Wakes>::default(), drops.clone());
+    let receives = drops.value(0).then(move || {
+        drop(guard);
+        let waker = wakes.clone().into();
+        assert!(task.poll_recv(&mut Context::from_waker(&waker)).is_pending());
+        assert_eq!((counts.count(1), wakes.0.load(SeqCst)), (0, 0));
+    });
+    drop(queue.guard(receives, FAR).expect("room"));
+    assert!(queue.is_empty() && drops.are_once(2));
+}
+
+/// One queue's drop stands within another one's, and a third one's was within it.
+#[test]
+fn what_a_drop_within_other_queues_drops_lets_go_is_dropped_after_it() {
+    let (queues, drops) = ([(); 3].map(|()| DelayQueue::new()), Drops::default());
+    let guard = |at: usize, value| queues[at].guard(value, FAR).expect("room");
+    let (inner, last) = (guard(2, drops.value(2)), guard(1, drops.value(3)));
+    let counts = drops.clone();
+    let middle = guard(
+        1,
+        drops.value(1).then(move || {
+            drop(inner);
+            drop(last);
+            assert_eq!((counts.count(2), counts.count(3)), (1, 0));
+        }),
+    );
+    let counts = drops.clone();
+    let outer = drops.value(0).then(move || {
+        drop(middle);
+        assert_eq!(counts.count(3), 1);
+    });
+    drop(guard(0, outer));
+    assert!(drops.are_once(4));
 }
 
 #[test]

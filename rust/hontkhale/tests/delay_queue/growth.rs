@@ -1,9 +1,10 @@
 //! A queue grows as entries come, up to its bound, and uses again what has ended.
 
-use crate::kit::{ms, within_the_limit, Drops, FAR};
+use crate::kit::{ms, within_the_limit, Drops, Value, FAR};
 use hontkhale::{DelayQueue, InsertErrorKind, ManualClock, Metrics};
 use std::cell::Cell;
-use std::sync::{Barrier, OnceLock};
+use std::sync::{Arc, Barrier, OnceLock};
+use std::task::{Context, Poll, Wake, Waker};
 use std::thread;
 use std::time::{Duration, Instant};
 
@@ -86,6 +87,16 @@ fn what_is_due_counts_against_the_bound_until_it_comes_out() {
     assert_eq!(queue.insert(3, FAR).unwrap_err().kind(), InsertErrorKind::Full);
     queue.recv().expect("it is due");
     queue.insert(3, FAR).expect("room");
+}
+
+#[test]
+fn what_one_call_takes_out_of_several_shards_makes_room_once() {
+    const THREADS: usize = 8;
+    let queue = DelayQueue::builder().max_entries(3 * THREADS).shards(4).build();
+    let inserts = || (0..3).for_each(|_| assert!(queue.insert("due".to_string(), Duration::ZERO).is_ok()));
+    thread::scope(|scope| (0..THREADS).for_each(|_| drop(scope.spawn(inserts))));
+    assert_eq!(queue.try_recv_many(&mut Vec::new(), 100), Ok(3 * THREADS));
+    assert_eq!(queue.len(), 0);
 }
 
 /// Cancelled entries give their slots back without a receiver, so a queue doesn't grow by them without end.
@@ -183,6 +194,66 @@ fn a_receiver_drops_what_it_freed_before_it_returns_none() {
     assert!(queue.recv().is_none());
     assert_eq!(queue.stats().cancelled, 0);
     assert!(drops.are_once(20));
+}
+
+/// It may have something to give each time, and never rest.
+#[test]
+fn each_receive_drops_what_the_one_before_it_freed() {
+    type Receives = fn(&DelayQueue<Value>) -> bool;
+    let receives: [Receives; 6] = [
+        |queue| queue.recv().is_some(),
+        |queue| queue.recv_timeout(FAR).is_ok(),
+        |queue| queue.recv_many(&mut Vec::new(), 1) == 1,
+        |queue| queue.try_recv().is_ok(),
+        |queue| queue.try_recv_many(&mut Vec::new(), 1) == Ok(1),
+        |queue| queue.drain().next().is_some(),
+    ];
+    for receives in receives {
+        let (clock, drops) = (ManualClock::new(), Drops::default());
+        let queue = DelayQueue::builder().clock(&clock).build();
+        let insert = |number| queue.insert(drops.value(number), ms(number)).expect("room");
+        let key = insert(1);
+        let _live = [2, 3].map(insert);
+        queue.cancel(&key).expect("it waits");
+        clock.advance(ms(3));
+        assert_eq!((receives(&queue), drops.count(1)), (true, 0));
+        assert_eq!((receives(&queue), drops.count(1)), (true, 1));
+    }
+}
+
+/// A task does as a thread does, in a quiet moment and as it finds the queue closed.
+#[test]
+fn a_task_drops_what_was_cancelled_before_it_rests() {
+    struct Idle;
+    impl Wake for Idle {
+        fn wake(self: Arc<Self>) {}
+    }
+    let (clock, drops) = (ManualClock::new(), Drops::default());
+    let queue = DelayQueue::builder().clock(&clock).build();
+    let (mut task, waker) = (queue.receiver(), Waker::from(Arc::new(Idle)));
+    let mut poll = || task.poll_recv(&mut Context::from_waker(&waker));
+    for (number, after) in [(0, FAR), (1, ms(1))] {
+        let key = queue.insert(drops.value(number), after).expect("room");
+        queue.cancel(&key).expect("it waits");
+        if number == 0 {
+            (0..8).for_each(|_| assert!(poll().is_pending()));
+        } else {
+            clock.advance(ms(1));
+            queue.close();
+            assert!(matches!(poll(), Poll::Ready(None)));
+        }
+        assert_eq!((drops.count(number), queue.stats().cancelled), (1, 0));
+    }
+}
+
+#[test]
+fn a_queue_that_is_cleared_gives_its_memory_back() {
+    let queue = DelayQueue::builder().shards(1).build();
+    (0..10_000).for_each(|number| assert!(queue.insert(number.to_string(), FAR).is_ok()));
+    let full = queue.stats().memory;
+    assert_eq!(queue.clear(), 10_000);
+    let memory = queue.stats().memory;
+    assert!(memory < full / 4, "{memory} of {full}");
 }
 
 #[test]

@@ -51,6 +51,34 @@ fn an_extend_by_nothing_lowers_no_deadline() {
     assert_eq!(queue.try_recv().map(|out| out.value), Ok(7));
 }
 
+/// The moment that is told is one from which on the entry comes out.
+#[test]
+fn an_extend_tells_the_deadline_as_it_is_rounded() {
+    let (clock, queue, key) = queue();
+    let (start, handle) = (clock.now(), queue.handle());
+    let guard = queue.guard(1, ms(1)).expect("room");
+    let within = |millis| start + ms(millis) + Duration::from_nanos(1);
+    assert_eq!(queue.extend_at(&key, within(20)), Ok(start + ms(21)));
+    assert_eq!(handle.extend_at(&key, within(21)), Ok(start + ms(22)));
+    assert_eq!(guard.extend_at(within(22)), Ok(start + ms(23)));
+    assert_eq!(
+        (queue.deadline(&key), guard.deadline()),
+        (Ok(start + ms(22)), Ok(start + ms(23)))
+    );
+}
+
+/// Its clock goes no further than 584 years, and the queue's ticks than 139.
+#[test]
+fn a_clock_that_is_at_its_end_stays_there() {
+    let (clock, queue, key) = queue();
+    clock.advance(Duration::MAX);
+    let end = clock.now();
+    clock.advance(FAR);
+    assert_eq!((clock.now(), queue.remove_if_due(&key)), (end, Ok(Some(7))));
+    let late = queue.insert(8, Duration::ZERO).expect("room");
+    assert_eq!(queue.try_recv().map(|out| (out.key, out.value)), Ok((late, 8)));
+}
+
 #[test]
 fn what_is_too_far_is_refused() {
     let (_clock, queue, key) = queue();
@@ -155,6 +183,20 @@ fn a_closed_queue_refuses_inserts_alone() {
     }
 }
 
+/// Also where it is to wait no longer.
+#[test]
+fn a_receive_of_a_closed_queue_says_that_it_is_closed() {
+    let (clock, queue, _) = queue();
+    queue.close();
+    let closed = Err(RecvTimeoutError::Closed);
+    for timeout in [Duration::ZERO, ms(1), Duration::MAX] {
+        assert_eq!(queue.recv_timeout(timeout).map(|out| out.value), closed);
+    }
+    for when in [clock.now() - ms(8), clock.now(), clock.now() + ms(1)] {
+        assert_eq!(queue.recv_deadline(when).map(|out| out.value), closed);
+    }
+}
+
 #[test]
 fn a_close_ends_what_waits_until_it_is_empty() {
     let (_clock, queue, _) = queue();
@@ -170,6 +212,8 @@ fn a_close_ends_what_waits_until_it_is_empty() {
 fn a_bound_of_no_entries_and_odd_numbers_of_shards_are_taken() {
     let none = DelayQueue::builder().max_entries(0).build();
     assert_eq!(none.insert(1, FAR).unwrap_err().kind(), InsertErrorKind::Full);
+    let shown = |shards| format!("{:?}", DelayQueue::<u64>::builder().shards(shards));
+    assert_eq!([0, 65].map(shown), [1, 64].map(shown));
     for shards in [0, 1, 2, 3, 64, 65, usize::MAX] {
         let queue = DelayQueue::builder().shards(shards).build();
         assert!((0..2_000).all(|number| queue.insert(number, FAR).is_ok()));

@@ -1,8 +1,9 @@
 //! A key names its entry for as long as that lives, and nothing else.
 
 use crate::kit::{ms, Drops, Value, FAR};
-use hontkhale::{DelayQueue, Handle, Key, KeyError, ManualClock, Timeout};
+use hontkhale::{DelayQueue, Handle, InsertErrorKind, Key, KeyError, ManualClock, Timeout};
 use std::cell::Cell;
+use std::cmp::Ordering;
 use std::collections::{BTreeSet, HashMap};
 use std::mem::size_of;
 use std::thread;
@@ -29,8 +30,9 @@ fn keys_of_different_entries_differ_and_those_of_one_are_equal() {
     assert_eq!(keys.iter().collect::<BTreeSet<_>>().len(), 1_000);
     let names: HashMap<Key, usize> = keys.iter().copied().zip(0..).collect();
     for (number, key) in keys.iter().enumerate() {
-        let renamed = queue.reset(key, FAR * 2).expect("it waits");
+        let renamed = queue.reset(key, FAR / 2).expect("it waits");
         assert_eq!((renamed, names[&renamed]), (*key, number));
+        assert_eq!(renamed.cmp(key), Ordering::Equal);
     }
 }
 
@@ -131,6 +133,23 @@ fn of_several_refusals_the_first_that_is_told_is_returned() {
     let key = queue.insert((), FAR).expect("room");
     queue.extend(&key, FAR).expect("it waits");
     refusals();
+    // By a lock, as it was reset: once as it waits, and once as it has ended.
+    queue.reset(&key, ms(1)).expect("it waits");
+    for _ in 0..2 {
+        assert_eq!(queue.extend(&key, Duration::MAX), Err(KeyError::TooFar));
+        let _ = queue.remove(&key);
+    }
+    let bounded = DelayQueue::builder().max_entries(0).build();
+    let kind = |after| bounded.insert((), after).map_err(|refused| refused.kind());
+    assert_eq!(
+        [kind(Duration::MAX), kind(FAR)],
+        [Err(InsertErrorKind::TooFar), Err(InsertErrorKind::Full)]
+    );
+    bounded.close();
+    assert_eq!(
+        [kind(Duration::MAX), kind(FAR)],
+        [Err(InsertErrorKind::TooFar), Err(InsertErrorKind::Closed)]
+    );
 }
 
 #[test]

@@ -149,3 +149,32 @@ fn a_key_of_a_moved_entry_reaches_no_other_one() {
         }
     }
 }
+
+/// Its slot has no stamp left at the second reset, and it goes to the one that the drain has just freed.
+#[test]
+fn a_drain_gives_what_is_moved_to_where_it_has_been() {
+    let queue = DelayQueue::builder().shards(1).last_stamp(2).build();
+    let keys = [1, 2].map(|number| queue.insert(number.to_string(), FAR).expect("room"));
+    let mut drain = queue.drain();
+    assert_eq!(drain.next().map(|(key, ..)| key), Some(keys[0]));
+    for part in [2, 3] {
+        assert_eq!(queue.reset(&keys[1], FAR / part), Ok(keys[1]));
+    }
+    assert_eq!(drain.next().map(|(key, ..)| key), Some(keys[1]));
+    assert!(drain.next().is_none() && queue.is_empty());
+}
+
+/// The first core has 64 slots. It goes with its last entry, and those behind it move up.
+#[test]
+fn a_drain_goes_on_where_a_core_has_gone() {
+    let queue = DelayQueue::builder().shards(1).build();
+    let keys: Vec<_> = (0..66)
+        .map(|number| queue.insert(number.to_string(), FAR).expect("room"))
+        .collect();
+    let mut drain = queue.drain();
+    assert!(drain.next().is_some_and(|(key, ..)| keys[64..].contains(&key)));
+    keys[..64].iter().for_each(|key| assert!(queue.remove(key).is_ok()));
+    (0..10).for_each(|_| assert!(queue.try_recv().is_err()));
+    assert!(drain.next().is_some_and(|(key, ..)| keys[64..].contains(&key)));
+    assert!(drain.next().is_none() && queue.is_empty());
+}

@@ -1,6 +1,6 @@
 //! Threads that receive: each is woken in time, and what comes out comes out once.
 
-use crate::kit::{ms, within_the_limit, FAR};
+use crate::kit::{ms, within_the_limit, Drops, FAR};
 use hontkhale::{DelayQueue, InsertErrorKind, ManualClock, RecvTimeoutError, TryRecvError};
 use std::sync::mpsc::channel;
 use std::thread;
@@ -225,4 +225,19 @@ fn a_receiver_is_told_whether_nothing_is_due_yet_or_nothing_comes_any_more() {
         (closed, Err(closed))
     );
     assert_eq!(queue.try_recv_many(&mut Vec::new(), 0), Ok(0));
+}
+
+/// The clock goes on after the look at the time, and before the thread sleeps: a value that was cancelled is dropped there.
+#[test]
+fn a_thread_whose_time_is_over_as_it_falls_asleep_sleeps_no_more() {
+    within_the_limit(|| {
+        let (clock, drops) = (ManualClock::new(), Drops::default());
+        let queue = DelayQueue::builder().clock(&clock).build();
+        let advances = clock.clone();
+        let cancelled = drops.value(0).then(move || advances.advance(ms(5)));
+        let key = queue.insert(cancelled, FAR).expect("room");
+        queue.cancel(&key).expect("it waits");
+        let received = queue.recv_timeout(ms(5)).map(|out| out.value);
+        assert_eq!((received, drops.count(0)), (Err(RecvTimeoutError::Timeout), 1));
+    });
 }

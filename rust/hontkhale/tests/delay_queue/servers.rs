@@ -143,17 +143,24 @@ fn another_queues_key_is_refused_by_each_call() {
 #[test]
 fn a_handle_says_closed_after_its_queues_end() {
     let queue = DelayQueue::new();
-    let key = queue.insert((), FAR).expect("room");
+    let [key, ended, others] =
+        [&queue, &queue, &DelayQueue::new()].map(|queue| queue.insert("a value".to_string(), FAR).expect("room"));
     let handle = queue.handle();
     handle.extend(&key, FAR).expect("it waits");
+    handle.cancel(&ended).expect("it waits");
     drop(queue.clone());
     handle.extend(&key, FAR * 2).expect("it waits");
     drop(queue);
     let closed = Some(KeyError::Closed);
-    assert_eq!(handle.extend(&key, FAR).err(), closed);
-    assert_eq!(handle.extend_at(&key, Instant::now()).err(), closed);
-    assert_eq!(handle.cancel(&key).err(), closed);
-    assert_eq!(handle.deadline(&key).err(), closed);
+    // Of an entry that had ended before, and of another queue's, too.
+    for key in [key, ended, others] {
+        assert_eq!(handle.extend(&key, FAR).err(), closed);
+        assert_eq!(handle.extend(&key, Duration::MAX).err(), closed);
+        assert_eq!(handle.extend_at(&key, Instant::now()).err(), closed);
+        assert_eq!(handle.cancel(&key).err(), closed);
+        assert_eq!(handle.deadline(&key).err(), closed);
+        assert_eq!(handle.take::<String>(&key).err(), closed);
+    }
 }
 
 #[test]

@@ -1,6 +1,6 @@
 //! Tasks that receive, in the place of threads.
 
-use crate::kit::{within_the_limit, FAR};
+use crate::kit::{within_the_limit, Drops, FAR};
 use hontkhale::{DelayQueue, Expired, ManualClock, Receiver};
 use std::panic::{catch_unwind, panic_any, AssertUnwindSafe};
 use std::sync::atomic::{AtomicUsize, Ordering::SeqCst};
@@ -521,4 +521,75 @@ fn a_thread_that_followed_another_looks_whether_a_task_leads() {
         got.sort_unstable();
         assert_eq!(got, [Some(1), Some(2)]);
     });
+}
+
+/// A task may be polled with another waker each time, as by a `select!` that has moved.
+#[test]
+fn the_waker_of_the_last_poll_is_called() {
+    let queue = DelayQueue::builder().clock(&ManualClock::new()).build();
+    let wakers = [(); 3].map(|()| Arc::<Wakes>::default());
+    let mut receiver = queue.receiver();
+    for wakes in &wakers {
+        assert!(poll(&mut receiver, wakes).is_pending());
+    }
+    queue.insert("due".to_string(), Duration::ZERO).expect("room");
+    assert_eq!(wakers.map(|wakes| wakes.take()), [0, 0, 1]);
+}
+
+/// A thread that is called runs, so nobody takes the lead from one.
+#[test]
+fn a_task_behind_a_thread_that_leads_looks_again_after_a_second() {
+    within_the_limit(|| {
+        let clock = ManualClock::new();
+        let queue = DelayQueue::builder().clock(&clock).build();
+        queue.insert("due".to_string(), SECOND / 4).expect("room");
+        let receiver = queue.clone();
+        let leads = thread::spawn(move || receiver.recv().map(|out| out.value));
+        // It sleeps by then, or the test tells nothing.
+        thread::sleep(Duration::from_millis(50));
+        let (mut task, wakes) = (queue.receiver(), Arc::<Wakes>::default());
+        for _ in 0..2 {
+            assert!(poll(&mut task, &wakes).is_pending());
+            assert_eq!(task.wake_at(), Some(clock.now() + SECOND));
+        }
+        clock.advance(SECOND);
+        assert_eq!(leads.join().expect("no panic").as_deref(), Some("due"));
+    });
+}
+
+#[test]
+fn a_clone_of_a_receiver_that_waits_has_no_place_in_line() {
+    let queue = DelayQueue::builder().clock(&ManualClock::new()).build();
+    let (receiver, wakes) = waiting(&queue, 1).pop().expect("a task");
+    drop(receiver.clone());
+    queue.insert(1, SECOND).expect("room");
+    assert_eq!(wakes.take(), 1);
+}
+
+#[test]
+fn a_task_that_was_given_an_entry_waits_for_no_moment() {
+    let (clock, wakes) = (ManualClock::new(), Arc::<Wakes>::default());
+    let queue = DelayQueue::builder().clock(&clock).build();
+    let mut receiver = queue.receiver();
+    queue.insert("due".to_string(), SECOND).expect("room");
+    assert!(poll(&mut receiver, &wakes).is_pending());
+    assert_eq!(receiver.wake_at(), Some(clock.now() + SECOND));
+    clock.advance(SECOND);
+    assert_eq!(poll(&mut receiver, &wakes), Poll::Ready(Some("due".to_string())));
+    assert_eq!(receiver.wake_at(), None);
+}
+
+/// A value that was cancelled is dropped as the task is about to sleep.
+#[test]
+fn what_comes_as_a_task_is_about_to_sleep_is_given_by_that_poll() {
+    let (drops, wakes) = (Drops::default(), Arc::<Wakes>::default());
+    let queue = DelayQueue::builder().clock(&ManualClock::new()).build();
+    let (inserts, due) = (queue.clone(), drops.value(1));
+    let cancelled = drops
+        .value(0)
+        .then(move || assert!(inserts.insert(due, Duration::ZERO).is_ok()));
+    let key = queue.insert(cancelled, FAR).expect("room");
+    queue.cancel(&key).expect("it waits");
+    let given = poll(&mut queue.receiver(), &wakes);
+    assert_eq!((given.is_ready(), drops.count(0), queue.len()), (true, 1, 0));
 }
