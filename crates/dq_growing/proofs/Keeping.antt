@@ -1,5 +1,5 @@
 -- What a store's calls leave of the ids that entries have had, and what follows over any list of calls.
-use Rattle.std.proofs.Common.{◌≡◌, ◌≢◌, ◌⊎◌, ℕ, ◌<◌, min, Bool, true, false, List, [], ◌∷◌, length, if◌then◌else◌, nat_lt, Option, Some, None, Result, Ok, Err, IfOk, IfErr, OnOk, refl, sym, ap, ◌∙◌, subst, inl, inr, ⊎_elim, arith}
+use Rattle.std.proofs.Common.{◌≡◌, ◌≢◌, ◌⊎◌, ℕ, ◌<◌, ◌≤◌, min, Bool, true, false, List, [], ◌∷◌, length, if◌then◌else◌, nat_lt, Option, Some, None, Result, Ok, Err, IfOk, IfErr, OnOk, refl, sym, ap, ◌∙◌, subst, inl, inr, ⊎_elim, arith}
 use Rattle.std.proofs.lemmas.List.{get_or-set_same, get_or-set_other}
 use Rattle.dq_ticks.specs.declared.keys.Key.{Key}
 use Rattle.dq_ticks.specs.declared.keys.EntryId.{EntryId}
@@ -465,4 +465,7 @@ pub no_core_gives_anew : (T W : Type 0) → CoresGiveNoneAnew T W
 no_core_gives_anew T W = record {
   unused = λ u s c given above number. let used = given.0 in absurd (omega (arith, above, used, number));
   drained = λ u s c t given gives number. given.1 gives.place c gives.drained.0 (sym number);
+  unfolded = λ u c d past unfolded number.
+      let P : Machine T → Type 0 = λ m. u.born ≤ (table_at m u.index).stamp in
+      subst P (sym (unfolded.4 ∙ unfolded.2)) (past (number ∙ (unfolded.3 ∙ unfolded.1)));
 }

@@ -1,5 +1,4 @@
 pub mod Aging
-pub mod Among
 pub mod Keeping
 pub mod Leasts
 pub mod Moves

@@ -1,5 +1,4 @@
 pub mod Cores
-pub mod Folds
 pub mod Moving
 pub mod Notes
 pub mod Polls

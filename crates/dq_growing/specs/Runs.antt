@@ -1,7 +1,8 @@
 -- What holds over any list of a store's calls.
 use Rattle.std.specs.Prelude.{◌≡◌, ◌≢◌, ◌⊎◌, ◌<◌, ◌≤◌, List, [], ◌∷◌, Option, Some, None}
 use Rattle.dq_ticks.specs.declared.keys.EntryId.{EntryId}
-use Rattle.dq_core.specs.Core.{Core}
+use Rattle.dq_core.specs.Core.{Core, machine}
+use Rattle.dq_core.specs.Folds.{FoldedCore, folded_machine}
 use Rattle.dq_growing.specs.Cores.{CoreRow, GivesDrained}
 use Rattle.dq_growing.specs.Notes.{ArePastBy, numbers_of}
 use Rattle.dq_growing.specs.Stands.{IsPastIn}
@@ -79,7 +80,14 @@ StoreEndedStaysEnded T W =
     (u : EntryId) (s : StoreState T W) (calls : List (StoreCall T W)) → IsUsedId s u →
     GoesByStoreCalls u s calls → NoneStandsFor s u → NoneFrom u calls
 
--- a core of an unused number, or one that has drained, gives no id anew that an entry has had
+-- a core was folded, and unfolded again: its number and its machine stayed
+abbrev pub IsUnfoldedFrom : {T W : Type 0} → Core T W → Core T W → Type 0
+IsUnfoldedFrom {T} {W} c d =
+    (f : FoldedCore W) × (f.shard ≡ c.shard) × (folded_machine f ≡ machine c)
+    × (d.shard ≡ f.shard) × (machine d ≡ folded_machine f)
+
+-- A core of an unused number gives no id anew that an entry has had, nor does one that has drained,
+-- even where it was folded and unfolded.
 pub record CoresGiveNoneAnew (T W : Type 0) : Type 0 where
   pub unused :
       (u : EntryId) (s : StoreState T W) (c : Core T W) → IsUsedId s u → s.cores.next ≤ c.shard →
@@ -87,3 +95,6 @@ pub record CoresGiveNoneAnew (T W : Type 0) : Type 0 where
   pub drained :
       (u : EntryId) (s : StoreState T W) (c : Core T W) (t : CoreRow T W) → IsUsedId s u →
       GivesDrained s.cores c t → ArePastBy (numbers_of u) c
+  pub unfolded :
+      (u : EntryId) (c d : Core T W) → ArePastBy (numbers_of u) c → IsUnfoldedFrom c d →
+      ArePastBy (numbers_of u) d

@@ -1,6 +1,7 @@
--- How a store keeps the right size.
+-- How a store keeps the right size, and the folded cores that it keeps.
 use Rattle.std.specs.Prelude.{◌≡◌, ◌≢◌, ◌⊎◌, ◌+◌, ◌-◌, ◌/◌, ◌<◌, ◌≤◌, ℕ, Bool, true, false}
-use Rattle.std.specs.Prelude.{◌++◌, ◌∷◌, [], Option, Some, None, length, nat_lt, if◌then◌else◌}
+use Rattle.std.specs.Prelude.{◌++◌, ◌∷◌, [], Option, Some, None, List, length, nat_lt, if◌then◌else◌}
+use Rattle.std.specs.Prelude.{slice_index_or, remove}
 use Rattle.dq_ticks.specs.declared.TheConstants.{CAPACITY_LIMIT}
 use Rattle.dq_ticks.specs.declared.keys.EntryId.{EntryId}
 use Rattle.dq_core.specs.declared.outcomes.Swept.{Swept}
@@ -14,6 +15,7 @@ use Rattle.dq_growing.specs.declared.sizing.Room.{Room}
 use Rattle.dq_growing.specs.declared.sizing.TheConstants.{CORES}
 use Rattle.dq_growing.specs.declared.sweeping.Sweep.{Sweep}
 use Rattle.dq_growing.specs.Store.{StoreState, TellsFirstIn}
+use Rattle.dq_core.specs.Folds.{FoldedCore}
 
 -- a way through the slots of so many cores goes on to a slot of the same core, or to the first one of
 -- the next core, and behind the last one to the first core
@@ -136,3 +138,17 @@ module _ {T W : Type 0} where
       ⊎ ((swept : Swept)
       × OnCoreAt w.place (SweepsFrom shared w.slot (w.slot + most) swept) s.cores t.cores
       × GoesOn w swept.next (length s.cores.cores) v))
+
+module _ {W : Type 0} where
+  -- a folded core of that many slots stands at a place
+  abbrev pub IsFoldedAt : List (FoldedCore W) → ℕ → ℕ → FoldedCore W → Type 0
+  IsFoldedAt fs i capacity f =
+      (i < length fs) × (slice_index_or fs i f ≡ f) × (length f.known ≡ capacity)
+
+  -- none has that many slots
+  abbrev pub NoneFoldedOf : List (FoldedCore W) → ℕ → Type 0
+  NoneFoldedOf fs capacity = (i : ℕ) (f : FoldedCore W) → ¬ IsFoldedAt fs i capacity f
+
+  -- one of that many slots is taken out, and the others stay
+  abbrev pub GivesFolded : List (FoldedCore W) → ℕ → FoldedCore W → List (FoldedCore W) → Type 0
+  GivesFolded fs capacity f gs = (i : ℕ) × IsFoldedAt fs i capacity f × (gs ≡ remove fs i)

@@ -2,7 +2,7 @@
 
 ghost use Rattle.std.specs.Prelude.{◌≡◌, ◌≢◌, ◌++◌, ◌∷◌, ℕ, [], IfErr, IfSome, IfNone, OnOk, length};
 ghost use Rattle.dq_core.specs.Folds.{FoldedCore};
-ghost use Rattle.dq_growing.specs.Folds.{GivesFolded, IsFoldedAt, NoneFoldedOf};
+ghost use Rattle.dq_growing.specs.Sizing.{GivesFolded, IsFoldedAt, NoneFoldedOf};
 
 use dq_core::{Folded, Words};
 use std::alloc::{Allocator, Global};

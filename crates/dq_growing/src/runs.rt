@@ -2,8 +2,8 @@
 //!
 //! Each call of a [`crate::Store`] but `with_value` keeps the ids that entries have had: its clause `keeps` says so. A core
 //! that comes in keeps those which it doesn't give anew: of cores of unused numbers and of drained ones `no_core_gives_anew`
-//! says that they give none anew, and a folded core has its stamps still as it is unfolded. An insert says, by `gives`,
-//! that its key is of an id that no entry has had. What a removal, a move or a poll gives out, its clauses `leaves`,
+//! says that they give none anew, folded and unfolded or not. An insert says, by `gives`, that its key is of an id that no
+//! entry has had. What a removal, a move or a poll gives out, its clauses `leaves`,
 //! `came_out` and `goes_out` tell.
 //!
 //! Each function is empty: its contract is the law, and a call of it hands the law to the prover.
@@ -22,7 +22,8 @@ pub fn ended_stays_ended<T, W>()
     ensures { StoreEndedStaysEnded T W }
 {}
 
-/// A core of an unused number gives no id anew that an entry has had, nor does one that has drained.
+/// A core of an unused number gives no id anew that an entry has had, nor does one that has drained, even where it was folded
+/// and unfolded.
 #[tactic(auto, using(crate::proofs::Keeping::no_core_gives_anew))]
 pub fn no_core_gives_anew<T, W>()
     ensures { CoresGiveNoneAnew T W }

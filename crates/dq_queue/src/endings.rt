@@ -5,7 +5,6 @@ use dq_words::endings;
 
 /// Whatever a piece of a poll of a store gives out came out of one core, as expired at its deadline in force, at a tick
 /// already noted; at no deadline before one that a call by open words promised.
-#[tactic(auto, using(crate::proofs::Outs::outs))]
 pub fn outs_are_in_force<T>()
     ensures { StoreOutsAreInForce T }
 {
@@ -14,7 +13,6 @@ pub fn outs_are_in_force<T>()
 
 /// The stamp of each key that an insert into a store answers was given once, and ended once, or was cancelled once, or its
 /// word is live.
-#[tactic(auto, using(crate::proofs::Outs::given))]
 pub fn inserts_are_given<T>()
     ensures { StoreInsertsAreGiven T }
 {

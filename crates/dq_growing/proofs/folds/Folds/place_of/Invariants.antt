@@ -1,5 +1,5 @@
 use Rattle.std.proofs.Common.{ℕ, ◌<◌}
-use Rattle.dq_growing.specs.Folds.{IsFoldedAt}
+use Rattle.dq_growing.specs.Sizing.{IsFoldedAt}
 use Rattle.dq_growing.proofs.folds.Folds.place_of.Given as goal
 
 abbrev pub invariant-loop-at : goal.invariant-loop-at

@@ -1,7 +1,7 @@
 use Rattle.std.proofs.Common.{ℕ}
 use Rattle.dq_ticks.specs.declared.keys.EntryId.{EntryId}
 use Rattle.dq_growing.specs.Notes.{ArePastBy, numbers_of}
-use Rattle.dq_growing.proofs.Among.{found_among, among_found, first_among, one_less, one_more, none_left}
+use Rattle.dq_growing.proofs.Pairing.{found_among, among_found, first_among, one_less, one_more, none_left}
 use Rattle.dq_growing.proofs.notes.PairTable.are_past_in.Goals as goal
 
 pub loop-numbers-preserved : goal.loop-numbers-preserved

@@ -1,7 +1,7 @@
 use Rattle.std.proofs.Common.{◌⊎◌, ℕ}
 use Rattle.std.specs.Map.{keys_of}
 use Rattle.dq_growing.specs.Notes.{ArePastBy}
-use Rattle.dq_growing.proofs.Among.{Among}
+use Rattle.dq_growing.proofs.Pairing.{Among}
 use Rattle.dq_growing.proofs.notes.PairTable.are_past_in.Given as goal
 
 abbrev pub invariant-loop-numbers : goal.invariant-loop-numbers
