@@ -1,5 +1,6 @@
 #!/usr/bin/env python3
-"""The gate: what the pages say, the C file's hashes, the tests of the plain Rust, `rt ci`, and the wrong bodies.
+"""The gate: what the pages say, the C file's hashes, the tests of the plain Rust and the instructions of its calls, `rt ci`, and
+the wrong bodies.
 
   .ci/run            with one wrong body for each row of crates/PROMISES.md, drawn by the commit's hash, and with all of the
                      crates that changed since the last whole run
@@ -210,14 +211,14 @@ def main():
         say("0 passed, 1 failed")
         return 1
     processors = len(os.sched_getaffinity(0))
-    tests = Beside("rust/test", "rust/test")
+    tests = [Beside("rust/test", "rust/test"), Beside("bench/count", "bench/count", "--check")]
     edits = Beside("tools/test-edits", "nice", "python3", "tools/test-edits", "--follow", "-j", str(processors), *to_try(form))
     try:
-        for it in [tests, edits] if processors > 1 else []:
+        for it in [*tests, edits] if processors > 1 else []:
             it.begin()
-        parts = [*proved(edits), tests.end()]
+        parts = [*proved(edits), *(it.end() for it in tests)]
     finally:
-        for it in (edits, tests):
+        for it in (edits, *tests):
             it.stop()
     failed = parts[0][0] or int(any(status or it[1] for status, it in parts))
     if "--store" in sys.argv and not failed:

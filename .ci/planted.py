@@ -67,7 +67,7 @@ class Repository:
 
     def __init__(self, folder):
         self.folder, self.stored = folder, folder / "bench" / "results" / "gate.tsv"
-        lay_out_gate(folder, dict.fromkeys(("rt", "tools/test-edits", "rust/test"), ("1 passed, 0 failed", 0)))
+        lay_out_gate(folder, dict.fromkeys(("rt", "tools/test-edits", "rust/test", "bench/count"), ("1 passed, 0 failed", 0)))
         (folder / "tools" / "test-edits").write_text(ASKED, encoding="utf-8")
         self.edits = {crate: [f"{crate}/wrong_{number}" for number in range(8)] for crate in ("one", "two")}
         for crate, its in self.edits.items():

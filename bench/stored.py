@@ -6,15 +6,20 @@ made of these two.
 """
 
 import datetime
+import glob
+import os
 import pathlib
 import re
+import shutil
 import statistics
 import subprocess
+import sys
 import tomllib
 
 BENCH = pathlib.Path(__file__).resolve().parent
 # The peers' programs, ours among them with all bounds checks, and without those whose bounds are proved.
 PEERS, PEERS_PROVED = (BENCH / "target" / it / "release" / "peers" for it in ("", "proved-bounds"))
+SETUP = "apt-get install -y --no-install-recommends -o DPkg::Lock::Timeout=300 librust-tokio-dev librust-tokio-util-dev librust-futures-util-dev"
 RESULTS = BENCH / "results"
 STORED, LONGEST = RESULTS / "latest.tsv", RESULTS / "latest.longest.tsv"
 
@@ -71,6 +76,25 @@ class Case:
 
     def median(self, peer):
         return statistics.median(self.samples[peer])
+
+
+def are_installed(*programs):
+    """Whether Debian's packages are there, and those programs. What lacks is installed where root asks."""
+    def are_there():
+        return all([glob.glob("/usr/share/cargo/registry/tokio-util-*"), *map(shutil.which, programs)])
+    if not are_there() and os.geteuid() == 0:
+        for command in ["apt-get", "update"], [*SETUP.split(), *programs]:
+            subprocess.run(command, stdout=subprocess.DEVNULL, stderr=subprocess.DEVNULL, check=False)
+    return are_there()
+
+
+def build_peers(*how):
+    """Builds the peers, with our own queue by its crates."""
+    if not are_installed():
+        sys.exit(f"the peers' packages aren't installed; as root: {SETUP}")
+    command = ["cargo", "--config", "../tools/debian.toml", "build", "--release", "--offline", "--locked", "--quiet", *how]
+    if subprocess.run(command, cwd=BENCH, check=False).returncode:
+        sys.exit("the peers can't be built")
 
 
 def rows_of(name):

@@ -212,7 +212,7 @@ def instructions():
 
 
 def growing():
-    """The instructions of a call of a queue of one owner that grows: a column for each number of entries that stand."""
+    """The instructions of a call of a store that grows: a column for each number of entries that stand."""
     found = {(row, entries, peer): number for row, entries, peer, number in rows_of("growing")}
     sizes = ("1000", "10000", "100000")
     names = {"life": "a life, by whole polls", "life-in-pieces": "a life, by pieces of 64 steps", "rest": "a poll with nothing due",
@@ -261,9 +261,11 @@ def idle_servers():
                 ([said[name], *figures] for name, *figures in rows_of("idle-servers")))
 
 
-def queue_instructions():
-    """What a call of `DelayQueue` takes, and took before receivers ended by themselves and entries were counted by their lateness."""
-    return grid(["Call", "Queue", "before", "now"], rows_of("queue-instructions"), 2)
+def calls():
+    """The instructions of the calls that the gate compares: a row for each, and a column for each queue."""
+    found = {(row.partition("/")[0], peer): count for peer, row, count in rows_of("calls")[1:]}
+    names, peers = (dict.fromkeys(it[at] for it in found) for at in (0, 1))
+    return grid(["Call", *(f"`{it}`" for it in peers)], ([name, *(found.get((name, it), "") for it in peers)] for name in names))
 
 
 def adapter_memory():

@@ -94,6 +94,7 @@ impl<T> Shared<T> {
     /// is left.
     #[cold]
     pub fn maintain(&self, at: usize) -> bool {
+        let mut is_moving = false;
         for _ in 0..STEPS {
             // A program's clock isn't read under a lock.
             let now = self.common.time.tick();
@@ -102,15 +103,19 @@ impl<T> Shared<T> {
             let work = store.work(now, cancels);
             let woken = self.common.ring(store.end());
             woken.unwrap_or_else(|panic| resume_unwind(panic));
+            is_moving = matches!(work, Work::Moved);
             match work {
                 Work::Fold(core) => self.fold(at, core),
                 Work::Make if self.make_ahead(at, now) => {}
-                Work::Make => return false,
-                Work::Moved => return false,
+                Work::Moved => {}
+                Work::Make | Work::Nothing => return false,
             }
         }
-        self.lock(at).sizing.note_work();
-        true
+        // What is moved is moved on by a receiver that has time.
+        if !is_moving {
+            self.lock(at).sizing.note_work();
+        }
+        !is_moving
     }
 
     /// Folds a core that has drained, and keeps it unless it is worn.

@@ -12,15 +12,17 @@ use std::time::{Duration, Instant};
 
 /// How many entries are taken out under one lock.
 const TAKEN_AT_ONCE: usize = 64;
-/// How many entries may have left a shard under a lock that is kept.
+/// How many entries may have left a shard, cancelled ones among them, under a lock that is kept.
 const FEW: usize = 2 * TAKEN_AT_ONCE;
-/// Up to how many entries of a core a thread polls as a whole. In pieces an entry takes longer, and whoever waits for the lock
-/// gets it no sooner.
+/// Up to how many entries of a core a thread polls as a whole. In pieces an entry takes longer, but the lock is held for no more
+/// steps, however many entries there are.
 const POLLED_WHOLE: usize = 8_192;
+/// How often a lock is taken, at most, before a task is polled again, or a thread drops what was freed meanwhile.
+pub(crate) const TURNS: usize = 4;
 
-/// What the steps under one lock came to.
-pub(crate) enum Step<T> {
-    Took(Expired<T>),
+/// What some steps came to.
+pub(crate) enum Step<R> {
+    Took(R),
     /// More may be due.
     Works,
     /// Nothing is due.
@@ -45,32 +47,40 @@ impl<T> Shared<T> {
     pub fn wait_for<R>(
         &self,
         until: Option<Instant>,
-        mut take: impl FnMut() -> Option<R>,
+        mut take: impl FnMut() -> Step<R>,
     ) -> Result<R, RecvTimeoutError> {
         loop {
             self.drop_deferred();
-            if let Some(taken) = take() {
+            let step = take();
+            if let Step::Took(taken) = step {
                 return Ok(taken);
             }
             if let Some(over) = self.over(until) {
                 // What was put in before a close, or was due in time, comes out.
-                return self.taken_last(take).ok_or(over);
+                return self.taken_last(over, take);
             }
-            self.maintain_all();
-            if let Some(taken) = self.wait_in_line(until, &mut take) {
-                return Ok(taken);
+            if matches!(step, Step::Rests) {
+                self.maintain_all();
+                if let Some(taken) = self.wait_in_line(until, &mut take) {
+                    return Ok(taken);
+                }
             }
         }
     }
 
-    /// What is taken by a last look. What was freed is dropped where that is nothing.
+    /// What is taken by a last look, and else why none. What was freed is dropped where nothing is taken.
     #[cold]
-    fn taken_last<R>(&self, mut take: impl FnMut() -> Option<R>) -> Option<R> {
-        let taken = take();
-        if taken.is_none() {
+    fn taken_last<R, E>(&self, over: E, mut take: impl FnMut() -> Step<R>) -> Result<R, E> {
+        loop {
+            let step = take();
+            if let Step::Took(taken) = step {
+                return Ok(taken);
+            }
             self.drop_deferred();
+            if matches!(step, Step::Rests) {
+                return Err(over);
+            }
         }
-        taken
     }
 
     /// Why a wait is over, where it is.
@@ -82,8 +92,8 @@ impl<T> Shared<T> {
         is_late.then_some(RecvTimeoutError::Timeout)
     }
 
-    /// What `take` takes; none once values are to be dropped, or the wait is over.
-    fn wait_in_line<R>(&self, until: Option<Instant>, take: &mut impl FnMut() -> Option<R>) -> Option<R> {
+    /// What `take` takes; none once it has more to do, values are to be dropped, or the wait is over.
+    fn wait_in_line<R>(&self, until: Option<Instant>, take: &mut impl FnMut() -> Step<R>) -> Option<R> {
         let mut place = Place {
             shared: self,
             seat: None,
@@ -93,9 +103,10 @@ impl<T> Shared<T> {
             if let Some(tick) = self.common.sleep(&mut place.seat, thread) {
                 self.park(self.common.time.moment_of(tick).into_iter().chain(until).min());
             }
-            let taken = take();
-            if taken.is_some() || !self.has_no_deferred() || self.over(until).is_some() {
-                return taken;
+            match take() {
+                Step::Took(taken) => return Some(taken),
+                Step::Rests if self.has_no_deferred() && self.over(until).is_none() => {}
+                _ => return None,
             }
         }
     }
@@ -128,7 +139,7 @@ impl<T> Shared<T> {
 
     /// Takes an entry out that is due, by a poll that is a whole one of cores of at most so many entries.
     #[inline(always)]
-    pub fn try_poll(&self, whole: usize) -> Step<T> {
+    pub fn try_poll(&self, whole: usize) -> Step<Expired<T>> {
         let now = self.common.time.tick();
         let Some(at) = self.most_due(now) else {
             return Step::Rests;
@@ -147,51 +158,67 @@ impl<T> Shared<T> {
         })
     }
 
-    /// An entry that is due.
-    pub fn take_one(&self) -> Option<Expired<T>> {
-        loop {
+    /// An entry that is due, where some turns find one.
+    pub fn take_one(&self) -> Step<Expired<T>> {
+        for _ in 0..TURNS {
             match self.try_poll(POLLED_WHOLE) {
-                Step::Took(out) => return Some(out),
                 Step::Works => {}
-                Step::Rests => return None,
+                step => return step,
             }
         }
+        Step::Works
     }
 
-    /// Takes entries that are due, at most so many, and tells how many; none where none is.
-    fn take_some(&self, row: &mut Vec<Expired<T>>, most: usize) -> Option<usize> {
+    /// Takes entries that are due, at most so many, and tells how many. It ends where some turns found none.
+    fn take_some(&self, row: &mut Vec<Expired<T>>, most: usize) -> Step<usize> {
         let now = self.common.time.tick();
-        let before = row.len();
+        let (before, mut turns) = (row.len(), 0);
         while row.len() - before < most {
             let Some(at) = self.most_due(now) else {
                 break;
             };
-            let first = row.len();
-            let room = TAKEN_AT_ONCE.min(most - (first - before));
-            row.reserve(room);
-            let mut store = self.lock(at);
-            let is_whole = store.is_small(POLLED_WHOLE);
-            let linked = store.linked();
-            let mut is_next = false;
-            while row.len() < first + room {
-                match store.poll(now, is_whole) {
-                    Polled::Out(key, tick, value) => {
-                        is_next = false;
-                        let deadline = self.common.time.moment(tick);
-                        row.push(Expired { key, deadline, value });
-                    }
-                    // Another core is next. The lock is kept for one that has nothing to give, while few cancelled entries were
-                    // reaped under it.
-                    Polled::Works if is_whole && !is_next && linked - store.linked() <= FEW => is_next = true,
-                    Polled::Works | Polled::Rests => break,
-                }
+            let left = most - (row.len() - before);
+            self.take_under_lock(at, now, row, left);
+            turns += 1;
+            if row.len() == before && turns == TURNS {
+                return Step::Works;
             }
-            if row.len() == first + room {
-                store.note_next();
-            }
-            self.leave(store, row.len() - first);
         }
-        Some(row.len() - before).filter(|taken| *taken > 0)
+        match row.len() - before {
+            0 => Step::Rests,
+            taken => Step::Took(taken),
+        }
+    }
+
+    /// The same of a shard, under one lock.
+    fn take_under_lock(&self, at: usize, now: u64, row: &mut Vec<Expired<T>>, most: usize) {
+        let first = row.len();
+        let room = TAKEN_AT_ONCE.min(most);
+        row.reserve(room);
+        let mut store = self.lock(at);
+        let is_whole = store.is_small(POLLED_WHOLE);
+        let linked = store.linked();
+        let mut is_next = false;
+        while row.len() < first + room {
+            match store.poll(now, is_whole) {
+                Polled::Out(key, tick, value) => {
+                    is_next = false;
+                    let deadline = self.common.time.moment(tick);
+                    row.push(Expired { key, deadline, value });
+                    if !is_whole && linked - store.linked() > FEW {
+                        break;
+                    }
+                }
+                // Another core is next. The lock is kept for one that has nothing to give, while few cancelled entries were
+                // reaped under it.
+                Polled::Works if is_whole && !is_next && linked - store.linked() <= FEW => is_next = true,
+                Polled::Works | Polled::Rests => break,
+            }
+        }
+        if row.len() == first + room {
+            store.note_next();
+        }
+        self.leave(store, row.len() - first);
     }
 }
 
@@ -217,29 +244,32 @@ impl<T> Shared<T> {
     }
 
     pub fn try_receive(&self) -> Result<Expired<T>, TryRecvError> {
-        self.drop_deferred();
-        self.take_one()
-            .map_or_else(|| self.nothing_taken(|| self.take_one()), Ok)
+        self.taken_now(|| self.take_one())
     }
 
     pub fn try_receive_many(&self, row: &mut Vec<Expired<T>>, most: usize) -> Result<usize, TryRecvError> {
         if most == 0 {
             return Ok(0);
         }
-        self.drop_deferred();
-        self.take_some(row, most)
-            .map_or_else(|| self.nothing_taken(|| self.take_some(row, most)), Ok)
+        self.taken_now(|| self.take_some(row, most))
     }
 
-    /// Why nothing is taken where nothing was due; or what was put in since, just before a close.
-    fn nothing_taken<R>(&self, take: impl FnOnce() -> Option<R>) -> Result<R, TryRecvError> {
-        // What was freed is dropped while nothing is in hand.
-        self.maintain_all();
-        if self.common.is_closed() {
-            take().ok_or(TryRecvError::Closed)
-        } else {
-            Err(TryRecvError::Empty)
+    /// What is taken, or why nothing where nothing is due. What was freed is dropped while nothing is in hand.
+    fn taken_now<R>(&self, mut take: impl FnMut() -> Step<R>) -> Result<R, TryRecvError> {
+        loop {
+            self.drop_deferred();
+            match take() {
+                Step::Took(taken) => return Ok(taken),
+                Step::Works => {}
+                Step::Rests => break,
+            }
         }
+        self.maintain_all();
+        if !self.common.is_closed() {
+            return Err(TryRecvError::Empty);
+        }
+        // It may have been put in just before the close.
+        self.taken_last(TryRecvError::Closed, take)
     }
 }
 
@@ -364,22 +394,88 @@ impl<T> fmt::Debug for Drain<'_, T> {
 
 #[cfg(test)]
 mod tests {
+    use super::{Step, FEW, POLLED_WHOLE};
     use crate::locks::taken;
     use crate::{DelayQueue, ManualClock};
     use std::panic::catch_unwind;
     use std::time::Duration;
+
+    /// More than the turns of a look come to, in cores that aren't polled as a whole.
+    const MANY: usize = 4 * (POLLED_WHOLE + 1_024);
+
+    /// A queue of one shard in which many entries are due, all but each so many cancelled, and then another one.
+    fn cancelled(but: usize) -> DelayQueue<String> {
+        let clock = ManualClock::new();
+        let queue = DelayQueue::builder().shards(1).clock(&clock).build();
+        let insert = |value: String, after| queue.insert(value, Duration::from_millis(after)).expect("room");
+        let keys: Vec<_> = (0..MANY).map(|number| insert(number.to_string(), 1)).collect();
+        insert("due".to_string(), 2);
+        let ends = keys.iter().enumerate().filter(|(number, _)| (number + 1) % but != 0);
+        ends.for_each(|(_, key)| _ = queue.cancel(key).expect("it waits"));
+        clock.advance(Duration::from_millis(2));
+        queue
+    }
+
+    /// What is linked in the shard.
+    fn linked(queue: &DelayQueue<String>) -> usize {
+        queue.shared.lock(0).linked()
+    }
+
+    #[test]
+    fn few_entries_are_freed_under_one_lock() {
+        let (queue, mut row) = (cancelled(100), Vec::new());
+        while linked(&queue) > 0 {
+            let before = linked(&queue);
+            queue.shared.take_under_lock(0, queue.shared.common.time.tick(), &mut row, 64);
+            assert!(before - linked(&queue) <= FEW + POLLED_WHOLE);
+        }
+        assert_eq!(row.len(), MANY / 100 + 1);
+        let queue = cancelled(MANY + 1);
+        loop {
+            let before = linked(&queue);
+            let step = queue.shared.try_poll(POLLED_WHOLE);
+            assert!(before - linked(&queue) <= POLLED_WHOLE);
+            if let Step::Took(expired) = step {
+                break assert_eq!(expired.value, "due");
+            }
+        }
+    }
+
+    /// No clock goes on, so a receiver that sleeps never wakes.
+    #[test]
+    fn no_receive_ends_while_more_may_be_due() {
+        let receives: [fn(&DelayQueue<String>) -> Option<String>; 4] = [
+            |queue| queue.recv().map(|expired| expired.value),
+            |queue| queue.try_recv().ok().map(|expired| expired.value),
+            |queue| queue.recv_timeout(Duration::ZERO).ok().map(|expired| expired.value),
+            |queue| {
+                let mut row = Vec::new();
+                queue.recv_many(&mut row, 64);
+                row.pop().map(|expired| expired.value)
+            },
+        ];
+        for (receive, is_closed) in receives.iter().flat_map(|receive| [(receive, false), (receive, true)]) {
+            let queue = cancelled(MANY + 1);
+            if is_closed {
+                queue.close();
+            }
+            assert_eq!(receive(&queue).as_deref(), Some("due"));
+        }
+        let queue = cancelled(MANY + 1);
+        assert!(matches!(queue.shared.take_one(), Step::Works) && linked(&queue) > 1);
+    }
 
     #[test]
     fn what_was_put_in_just_before_the_close_comes_out() {
         let queue = DelayQueue::new();
         let mut is_first = true;
         let received = queue.shared.wait_for(None, || {
-            let taken = queue.shared.take_one();
+            let step = queue.shared.take_one();
             if std::mem::take(&mut is_first) {
                 queue.insert("due", Duration::ZERO).expect("room");
                 queue.close();
             }
-            taken
+            step
         });
         assert_eq!(received.map(|expired| expired.value), Ok("due"));
         assert!(queue.recv().is_none());

@@ -2,7 +2,7 @@
 //! poll it again. A task joins the line of receivers where it has nothing to take, and leaves it with what it takes.
 
 use crate::delay_queue::errors::{RecvTimeoutError, TryRecvError};
-use crate::delay_queue::receive::Step;
+use crate::delay_queue::receive::{Step, TURNS};
 use crate::delay_queue::shared::Shared;
 use crate::delay_queue::waking::{Seat, Wakes};
 use crate::delay_queue::{DelayQueue, Expired, Iter, TryIter};
@@ -10,9 +10,6 @@ use std::fmt;
 use std::sync::Arc;
 use std::task::{Context, Poll, Waker};
 use std::time::{Duration, Instant};
-
-/// How often a poll takes a shard's lock, at most.
-const TURNS: usize = 4;
 
 /// Receives from a [`DelayQueue`], in a thread or in a task, and ends by itself.
 ///

@@ -23,8 +23,6 @@ pub(crate) const POWERS: usize = 12;
 /// How many steps of a poll, and how many slots, are looked at under one lock.
 const STEPS: u32 = 256;
 const SLOTS: usize = 256;
-/// How many entries of a core that drains are moved at once.
-const MOVED_AT_ONCE: usize = 16;
 /// Each so many inserts a shard is looked after.
 const INSERTS: u64 = 1_024;
 /// What the wheel and the words take of each slot, what the words alone take, and what a core takes besides.
@@ -96,8 +94,10 @@ pub(crate) enum Work<T> {
     Fold(Core<T>),
     /// A core is to be made.
     Make,
-    /// A few entries were moved.
+    /// An entry was moved out of a core that drains.
     Moved,
+    /// Nothing.
+    Nothing,
 }
 
 impl<T> ShardStore<T> {
@@ -433,10 +433,8 @@ impl<T> ShardStore<T> {
         match self.sizing.take_needless(&mut self.store) {
             Some(core) => Work::Fold(core),
             None if self.wanted(cancels).is_some() => Work::Make,
-            None => {
-                self.move_stragglers(now);
-                Work::Moved
-            }
+            None if self.move_straggler(now) => Work::Moved,
+            None => Work::Nothing,
         }
     }
 
@@ -475,26 +473,22 @@ impl<T> ShardStore<T> {
         entries.saturating_sub(self.slots())
     }
 
-    /// Moves a few of the last entries of cores that drain, which aren't due, into the open one.
-    fn move_stragglers(&mut self, now: u64) {
-        for _ in 0..MOVED_AT_ONCE {
-            let Some(entry) = self.sizing.straggler(&self.store) else {
-                break;
-            };
-            match self.store.deadline(&entry) {
-                Ok(deadline) if deadline > now => {
-                    if self.relocate(&entry).is_err() {
-                        break;
-                    }
-                }
-                // It comes out without being moved.
-                Ok(_) => break,
-                Err(_) => {
-                    let _ = self.store.reap(&entry);
-                    self.may_have_deferred = true;
-                    // A receiver is to come, and to drop the value.
-                    self.hint = 0;
-                }
+    /// Moves one of the last entries of cores that drain, which isn't due, into the open one, and tells whether it did. To find
+    /// it, many may be looked at.
+    fn move_straggler(&mut self, now: u64) -> bool {
+        let Some(entry) = self.sizing.straggler(&self.store) else {
+            return false;
+        };
+        match self.store.deadline(&entry) {
+            Ok(deadline) if deadline > now => self.relocate(&entry).is_ok(),
+            // It comes out without being moved.
+            Ok(_) => false,
+            Err(_) => {
+                let _ = self.store.reap(&entry);
+                self.may_have_deferred = true;
+                // A receiver is to come, and to drop the value.
+                self.hint = 0;
+                true
             }
         }
     }
