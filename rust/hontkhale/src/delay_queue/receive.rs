@@ -426,7 +426,9 @@ mod tests {
         let (queue, mut row) = (cancelled(100), Vec::new());
         while linked(&queue) > 0 {
             let before = linked(&queue);
-            queue.shared.take_under_lock(0, queue.shared.common.time.tick(), &mut row, 64);
+            queue
+                .shared
+                .take_under_lock(0, queue.shared.common.time.tick(), &mut row, 64);
             assert!(before - linked(&queue) <= FEW + POLLED_WHOLE);
         }
         assert_eq!(row.len(), MANY / 100 + 1);
