@@ -511,7 +511,7 @@ mod tests {
         }
         let mut row = Vec::new();
         assert_eq!(queue.try_recv_many(&mut row, 2), Ok(2));
-        let (is_empty, locks) = taken::by(|| queue.shared.take_one().is_none());
+        let (is_empty, locks) = taken::by(|| matches!(queue.shared.take_one(), Step::Rests));
         assert_eq!((is_empty, locks), (true, 0));
     }
 

@@ -164,7 +164,7 @@ impl<T> Receiver<T> {
     fn poll_by(
         &mut self,
         cx: &mut Context<'_>,
-        mut take: impl FnMut(&Shared<T>) -> Step<T>,
+        mut take: impl FnMut(&Shared<T>) -> Step<Expired<T>>,
     ) -> Poll<Option<Expired<T>>> {
         self.wake_at = None;
         for _ in 0..TURNS {
