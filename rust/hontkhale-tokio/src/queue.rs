@@ -294,12 +294,9 @@ impl<T> DelayQueue<T> {
     /// Whether the task that waits goes on waiting: nothing was changed that it waits for, and its timer hasn't fired.
     #[inline]
     fn waits_on(&mut self, cx: &mut Context<'_>) -> bool {
+        // It was given nothing since it waits, so there is no row to end.
         let is_as_it_was = !self.has_changes && !self.entries.has_news() && self.waits_as(cx.waker());
-        let waits = is_as_it_was && self.timer.poll_again(cx).is_pending();
-        if waits {
-            self.streak.end();
-        }
-        waits
+        is_as_it_was && self.timer.poll_again(cx).is_pending()
     }
 
     /// Drops what handles cancelled, as each poll does, and lets other tasks have their turn.

@@ -153,6 +153,39 @@ fn handles_serve_entries_of_later_wheels_and_moved_ones() {
     });
 }
 
+/// Each reset to a sooner deadline gives its entry another stamp.
+#[test]
+fn a_handle_finds_what_was_reset_before_it_was_made() {
+    ends(|| {
+        paused().block_on(async {
+            let mut queue = DelayQueue::new();
+            let keys = [1, 2].map(|_| queue.insert("a value".to_string(), ms(60_000)));
+            keys.iter().for_each(|key| queue.reset(key, ms(30_000)));
+            let handle = queue.handle();
+            let deadline = handle.extend(&keys[0], ms(90_000));
+            assert_eq!(deadline, Ok(queue.deadline(&keys[0])));
+            assert!(handle.cancel(&keys[1]).is_ok());
+            assert_eq!(next(&mut queue).await.as_deref(), Some("a value"));
+            assert!(deadline.is_ok_and(|deadline| deadline <= Instant::now()) && next(&mut queue).await.is_none());
+        });
+    });
+}
+
+/// The slot of one that has ended is the next one's.
+#[test]
+fn a_key_tells_no_deadline_of_the_entry_that_has_its_slot_by_now() {
+    ends(|| {
+        paused().block_on(async {
+            let mut queue = DelayQueue::with_capacity(1);
+            let first = queue.insert("first".to_string(), ms(10));
+            assert_eq!(queue.remove(&first).into_inner(), "first");
+            let second = queue.insert("second".to_string(), ms(20));
+            assert_eq!((queue.try_deadline(&first), queue.capacity()), (None, 1));
+            assert!(queue.try_deadline(&second).is_some());
+        });
+    });
+}
+
 #[test]
 fn many_threads_at_once() {
     ends(|| {

@@ -6,6 +6,7 @@ use common::{ends, ms, paused, Wakes};
 use hontkhale_tokio::DelayQueue;
 use std::sync::Arc;
 use std::task::{Context, Poll, Waker};
+use tokio::time::advance;
 
 #[test]
 fn a_remove_that_leaves_only_cancelled_entries_wakes_the_task() {
@@ -65,6 +66,56 @@ fn a_clear_wakes_the_task() {
             assert!(matches!(queue.poll_expired(&mut cx), Poll::Ready(None)));
             queue.clear();
             assert_eq!(wakes.take(), 0, "there was no entry");
+        });
+    });
+}
+
+/// It polls once more, for another reason, and then waits for what comes first by now.
+#[test]
+fn a_task_that_polled_after_a_reset_or_a_remove_is_not_woken_for_what_was_first() {
+    ends(|| {
+        paused().block_on(async {
+            for removes in [false, true] {
+                let wakes = Arc::<Wakes>::default();
+                let waker = Waker::from(wakes.clone());
+                let mut cx = Context::from_waker(&waker);
+                let mut queue = DelayQueue::new();
+                let [first, _] = [10_000, 30_000].map(|after| queue.insert("a value".to_string(), ms(after)));
+                assert!(queue.poll_expired(&mut cx).is_pending());
+                if removes {
+                    queue.remove(&first);
+                } else {
+                    queue.reset(&first, ms(40_000));
+                }
+                assert!(queue.poll_expired(&mut cx).is_pending());
+                wakes.take();
+                advance(ms(20_000)).await;
+                assert_eq!(wakes.take(), 0);
+                advance(ms(10_000)).await;
+                assert_eq!(wakes.take(), 1);
+                assert!(queue.poll_expired(&mut cx).is_ready());
+            }
+        });
+    });
+}
+
+#[test]
+fn a_task_that_gives_way_is_woken_once() {
+    ends(|| {
+        paused().block_on(async {
+            let wakes = Arc::<Wakes>::default();
+            let waker = Waker::from(wakes.clone());
+            let mut cx = Context::from_waker(&waker);
+            let mut queue = DelayQueue::new();
+            queue.set_budget(1);
+            let handle = queue.handle();
+            let keys = [10_000, 20_000, 30_000].map(|after| queue.insert("a value".to_string(), ms(after)));
+            while queue.poll_expired(&mut cx).is_pending() && wakes.take() > 0 {}
+            keys[1..].iter().for_each(|key| assert!(handle.cancel(key).is_ok()));
+            assert!(queue.poll_expired(&mut cx).is_pending());
+            assert_eq!(wakes.take(), 1, "it has one more to free");
+            queue.insert("sooner".to_string(), ms(1_000));
+            assert_eq!(wakes.take(), 0, "it was woken already");
         });
     });
 }

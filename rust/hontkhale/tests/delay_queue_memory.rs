@@ -278,10 +278,10 @@ fn a_thread_that_extended_and_idles_keeps_nothing() {
 fn a_refused_insert_gives_its_value_back_and_changes_nothing() {
     let _alone = alone();
     let mut refusals = 0;
-    // In an empty queue, and in one in which each slot is taken.
+    // In an empty queue, and in one in which each slot is taken. One more may come, and may come yet.
     for before in [0_usize, 128] {
         for grants in 0.. {
-            let queue = DelayQueue::builder().shards(2).build();
+            let queue = DelayQueue::builder().shards(2).max_entries(before + 1).build();
             assert!((0..before).all(|_| queue.insert(Box::new(0), FAR).is_ok()));
             let (value, memory) = (Box::new(7), queue.stats().memory);
             GRANTS.with(|left| left.set(Some(grants)));
@@ -305,6 +305,19 @@ fn a_refused_insert_gives_its_value_back_and_changes_nothing() {
         }
     }
     assert!(refusals > 5, "{refusals}");
+}
+
+/// Each of the two has 64 slots, and these threads go to both.
+#[test]
+fn an_insert_finds_room_in_another_shard_where_memory_is_refused() {
+    let _alone = alone();
+    let queue = DelayQueue::builder().shards(2).build();
+    let inserts = || assert!(queue.insert(0_u64, FAR).is_ok());
+    thread::scope(|scope| (0..8).for_each(|_| drop(scope.spawn(inserts))));
+    REFUSALS.set(u64::MAX);
+    let inserted = (0..200).take_while(|number| queue.insert(*number, FAR).is_ok()).count();
+    REFUSALS.set(0);
+    assert_eq!((inserted, queue.len()), (120, 128));
 }
 
 /// With every allocation refused: as many entries go in as were told, again and again, and the memory stays.
