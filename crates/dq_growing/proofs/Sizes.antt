@@ -19,7 +19,7 @@ use Rattle.dq_growing.specs.Cores.{CoreRow, AreCores, IsCoreAt, OnCoreAt, Sweeps
 use Rattle.dq_growing.specs.declared.sizing.Room.{Room}
 use Rattle.dq_growing.specs.Notes.{Book}
 use Rattle.dq_growing.specs.Moving.{HasOpenRoom}
-use Rattle.dq_growing.specs.Sizing.{AllWere, ComesInto, GoesOn, HasClearAt, HasNoneToOpen, IsNearlyDrained, IsRoomAt, IsRoomier, IsRoomiest, NoStraggler, OnlyOpens, OpensIf, OpensWanted, StaysOpen, SweepsNext, TellsStraggler, WasBeside, clear_in}
+use Rattle.dq_growing.specs.Sizing.{AllWere, ComesInto, WayGoesOn, HasClearAt, HasNoneToOpen, IsNearlyDrained, IsRoomAt, IsRoomier, IsRoomiest, NoStraggler, OnlyOpens, OpensIf, OpensWanted, StaysOpen, SweepsNext, TellsStraggler, WasBeside, clear_slots}
 use Rattle.dq_growing.specs.Stands.{HasEntry, IsThere, SameStand}
 use Rattle.dq_growing.specs.Store.{StoreState, StandsFor, TellsFirstIn, entry_told}
 use Rattle.dq_growing.proofs.Leasts.{some_not_none}
@@ -125,49 +125,49 @@ module _ {T W : Type 0} where
   pub clear_room : (s : CoreRow T W) → HasClearAt s s.opened → HasOpenRoom s
   clear_room s is = let some = is.2 in (is.0, is.1, omega (arith, some))
 
-  pub is_clear : (s : CoreRow T W) (i k n : ℕ) (b : Core T W) → IsCoreAt s.cores k b → n ≡ clear_in b → k ≡ i → 0 < n → HasClearAt s i
+  pub is_clear : (s : CoreRow T W) (i k n : ℕ) (b : Core T W) → IsCoreAt s.cores k b → n ≡ clear_slots b → k ≡ i → 0 < n → HasClearAt s i
   is_clear s i k n b at same e some =
       let P : ℕ → Type 0 = λ j. HasClearAt s j in
       subst P e (b, at, omega (arith, same, some))
 
-  pub not_clear : (s : CoreRow T W) (i k n : ℕ) (b : Core T W) → IsCoreAt s.cores k b → n ≡ clear_in b → k ≡ i → n ≤ 0 → ¬ HasClearAt s i
+  pub not_clear : (s : CoreRow T W) (i k n : ℕ) (b : Core T W) → IsCoreAt s.cores k b → n ≡ clear_slots b → k ≡ i → n ≤ 0 → ¬ HasClearAt s i
   not_clear s i k n b at same e none x =
       let P : ℕ → Type 0 = λ j. HasClearAt s j in
       let y = subst P (sym e) x in
-      let C : Core T W → ℕ = λ d. clear_in d in
+      let C : Core T W → ℕ = λ d. clear_slots d in
       let both = ap C (one_at s.cores k b y.0 at y.1) in
       let some = y.2 in
       omega (arith, none, same, both, some)
 
-  pub roomier_there : (s : CoreRow T W) (any : Bool) (found : Room) (i n : ℕ) (b : Core T W) → IsCoreAt s.cores i b → n ≡ clear_in b → found.free ≤ n
+  pub roomier_there : (s : CoreRow T W) (any : Bool) (found : Room) (i n : ℕ) (b : Core T W) → IsCoreAt s.cores i b → n ≡ clear_slots b → found.free ≤ n
       → IsRoomier s any found i (record { place = i; free = n })
   roomier_there s any found i n b at same le = record {
     one = inr (b, at, sym same);
     before = le;
-    here = λ c x may. let C : Core T W → ℕ = λ d. clear_in d in let both = ap C (one_at s.cores i b c at x) in omega (arith, both, same);
+    here = λ c x may. let C : Core T W → ℕ = λ d. clear_slots d in let both = ap C (one_at s.cores i b c at x) in omega (arith, both, same);
   }
 
-  pub roomier_less : (s : CoreRow T W) (any : Bool) (found : Room) (i n : ℕ) (b : Core T W) → IsCoreAt s.cores i b → n ≡ clear_in b → n ≤ found.free
+  pub roomier_less : (s : CoreRow T W) (any : Bool) (found : Room) (i n : ℕ) (b : Core T W) → IsCoreAt s.cores i b → n ≡ clear_slots b → n ≤ found.free
       → IsRoomier s any found i found
   roomier_less s any found i n b at same le = record {
     one = inl refl;
     before = omega arith;
-    here = λ c x may. let C : Core T W → ℕ = λ d. clear_in d in let both = ap C (one_at s.cores i b c at x) in omega (arith, both, same, le);
+    here = λ c x may. let C : Core T W → ℕ = λ d. clear_slots d in let both = ap C (one_at s.cores i b c at x) in omega (arith, both, same, le);
   }
 
-  pub roomier_shut : (s : CoreRow T W) (any : Bool) (found : Room) (i n m : ℕ) (b : Core T W) → IsCoreAt s.cores i b → n ≡ clear_in b → m ≡ length b.slots.rows
+  pub roomier_shut : (s : CoreRow T W) (any : Bool) (found : Room) (i n m : ℕ) (b : Core T W) → IsCoreAt s.cores i b → n ≡ clear_slots b → m ≡ length b.slots.rows
       → any ≡ false → n < m / 2 → IsRoomier s any found i found
   roomier_shut s any found i n m b at same size shut less = record {
     one = inl refl;
     before = omega arith;
     here = λ c x may.
-        let C : Core T W → ℕ = λ d. clear_in d in
+        let C : Core T W → ℕ = λ d. clear_slots d in
         let L : Core T W → ℕ = λ d. length d.slots.rows in
         let both = ap C (one_at s.cores i b c at x) in
         let long = ap L (one_at s.cores i b c at x) in
         ⊎_elim
         (λ (y : any ≡ true). absurd (both_ways any shut y))
-        (λ (y : length c.slots.rows / 2 ≤ clear_in c). absurd (omega (arith, both, same, long, size, less, y)))
+        (λ (y : length c.slots.rows / 2 ≤ clear_slots c). absurd (omega (arith, both, same, long, size, less, y)))
         may;
   }
 
@@ -341,15 +341,15 @@ module _ {T W : Type 0} where
   pub sweeps_next : (shared : Bool) (s t : StoreState T W) (w v : Sweep) (r : Option Swept) (next : Option ℕ) (n : ℕ)
       → MatchOption r ((length s.cores.cores ≤ w.place) × (t.cores ≡ s.cores))
       (λ swept. OnCoreAt w.place (SweepsFrom shared w.slot (w.slot + 256) swept) s.cores t.cores)
-      → MatchOption r (next ≡ None) (λ swept. next ≡ swept.next) → t.notes ≡ s.notes → n ≡ length s.cores.cores → GoesOn w next n v
+      → MatchOption r (next ≡ None) (λ swept. next ≡ swept.next) → t.notes ≡ s.notes → n ≡ length s.cores.cores → WayGoesOn w next n v
       → SweepsNext shared 256 w s v t
   sweeps_next shared s t w v None next n did told notes many goes =
-      let P : Option ℕ → Type 0 = λ o. GoesOn w o n v in
-      let Q : ℕ → Type 0 = λ k. GoesOn w None k v in
+      let P : Option ℕ → Type 0 = λ o. WayGoesOn w o n v in
+      let Q : ℕ → Type 0 = λ k. WayGoesOn w None k v in
       (notes, inl ((λ c at. let inside = at.0 in let past = did.0 in absurd (omega (arith, inside, past))), did.1, subst Q many (subst P told goes)))
   sweeps_next shared s t w v (Some swept) next n did told notes many goes =
-      let P : Option ℕ → Type 0 = λ o. GoesOn w o n v in
-      let Q : ℕ → Type 0 = λ k. GoesOn w swept.next k v in
+      let P : Option ℕ → Type 0 = λ o. WayGoesOn w o n v in
+      let Q : ℕ → Type 0 = λ k. WayGoesOn w swept.next k v in
       (notes, inr (swept, did, subst Q many (subst P told goes)))
 
   -- a core that came in, and may be open

@@ -19,10 +19,10 @@ use Rattle.dq_core.specs.Folds.{FoldedCore}
 
 -- a way through the slots of so many cores goes on to a slot of the same core, or to the first one of
 -- the next core, and behind the last one to the first core
-abbrev pub GoesOn : Sweep → Option ℕ → ℕ → Sweep → Type 0
-GoesOn w None cores v =
+abbrev pub WayGoesOn : Sweep → Option ℕ → ℕ → Sweep → Type 0
+WayGoesOn w None cores v =
     (v.place ≡ (if nat_lt (w.place + 1) cores then w.place + 1 else 0)) × (v.slot ≡ 0)
-GoesOn w (Some slot) cores v = (v.place ≡ w.place) × (v.slot ≡ slot)
+WayGoesOn w (Some slot) cores v = (v.place ≡ w.place) × (v.slot ≡ slot)
 
 -- up to where the slots of a core were looked at
 abbrev pub end_of : Option ℕ → ℕ → ℕ
@@ -32,20 +32,20 @@ end_of (Some slot) capacity = slot
 module _ {T W : Type 0} where
   -- how many slots are free in which no value waits for its drop, at least: one that waits in a worn
   -- slot counts as if it waited in a free one
-  abbrev pub clear_in : Core T W → ℕ
-  clear_in c = length c.slots.rows - (linked_in c + worn_in c) - waiting_in c.deferred
+  abbrev pub clear_slots : Core T W → ℕ
+  clear_slots c = length c.slots.rows - (linked_in c + worn_in c) - waiting_in c.deferred
 
   -- such a slot is in the core at a place
   abbrev pub HasClearAt : CoreRow T W → ℕ → Type 0
-  HasClearAt s i = (c : Core T W) × IsCoreAt s.cores i c × (0 < clear_in c)
+  HasClearAt s i = (c : Core T W) × IsCoreAt s.cores i c × (0 < clear_slots c)
 
   -- a core may be opened for an insert: half of it is free, or any will do
   abbrev pub MayOpen : Bool → Core T W → Type 0
-  MayOpen any c = (any ≡ true) ⊎ (length c.slots.rows / 2 ≤ clear_in c)
+  MayOpen any c = (any ≡ true) ⊎ (length c.slots.rows / 2 ≤ clear_slots c)
 
   -- so many slots are free in the core at a place
   abbrev pub IsRoomAt : CoreRow T W → Room → Type 0
-  IsRoomAt s r = (c : Core T W) × IsCoreAt s.cores r.place c × (clear_in c ≡ r.free)
+  IsRoomAt s r = (c : Core T W) × IsCoreAt s.cores r.place c × (clear_slots c ≡ r.free)
 
   -- as many slots are free as in one core that was found, and as in the core at a place, if that may be
   -- opened
@@ -53,19 +53,19 @@ module _ {T W : Type 0} where
     where
       pub one : (r ≡ found) ⊎ IsRoomAt s r
       pub before : found.free ≤ r.free
-      pub here : (c : Core T W) → IsCoreAt s.cores i c → MayOpen any c → clear_in c ≤ r.free
+      pub here : (c : Core T W) → IsCoreAt s.cores i c → MayOpen any c → clear_slots c ≤ r.free
 
   -- of the first n cores that may be opened none has more free slots
   pub record IsRoomiest (s : CoreRow T W) (n : ℕ) (any : Bool) (r : Room) : Type 0 where
     pub some : 0 < r.free → IsRoomAt s r
     pub most :
         (i : ℕ) (c : Core T W) → i < n → IsCoreAt s.cores i c → MayOpen any c →
-        clear_in c ≤ r.free
+        clear_slots c ≤ r.free
 
   -- no core that may be opened has a free slot
   abbrev pub HasNoneToOpen : Bool → CoreRow T W → Type 0
   HasNoneToOpen any s =
-      (i : ℕ) (c : Core T W) → IsCoreAt s.cores i c → MayOpen any c → clear_in c ≡ 0
+      (i : ℕ) (c : Core T W) → IsCoreAt s.cores i c → MayOpen any c → clear_slots c ≡ 0
 
   -- nor does the open one
   abbrev pub HasNoRoom : Bool → CoreRow T W → Type 0
@@ -134,10 +134,10 @@ module _ {T W : Type 0} where
   SweepsNext shared most w s v t =
       (t.notes ≡ s.notes)
       × ((((c : Core T W) → IsCoreAt s.cores.cores w.place c → linked_in c ≡ 0)
-      × (t.cores ≡ s.cores) × GoesOn w None (length s.cores.cores) v)
+      × (t.cores ≡ s.cores) × WayGoesOn w None (length s.cores.cores) v)
       ⊎ ((swept : Swept)
       × OnCoreAt w.place (SweepsFrom shared w.slot (w.slot + most) swept) s.cores t.cores
-      × GoesOn w swept.next (length s.cores.cores) v))
+      × WayGoesOn w swept.next (length s.cores.cores) v))
 
 module _ {W : Type 0} where
   -- a folded core of that many slots stands at a place

@@ -12,7 +12,7 @@ ghost use Rattle.std.specs.Prelude.{◌≡◌, ◌≤◌, max, true, false, leng
 ghost use Rattle.dq_core.specs.Core.{Core};
 ghost use Rattle.dq_core.specs.Folds.{IsFoldable};
 ghost use Rattle.dq_growing.specs.Moving.{HasOpenRoom};
-ghost use Rattle.dq_growing.specs.Sizing.{clear_in, HasClearAt, IsRoomier, IsRoomiest, HasNoneToOpen, HasNoRoom, OnlyOpens, ComesInto, OpensIf, OpensWanted, StaysOpen, WasBeside, AllWere, IsNearlyDrained, TellsStraggler, IsStraggler, NoStraggler, MayMake};
+ghost use Rattle.dq_growing.specs.Sizing.{clear_slots, HasClearAt, IsRoomier, IsRoomiest, HasNoneToOpen, HasNoRoom, OnlyOpens, ComesInto, OpensIf, OpensWanted, StaysOpen, WasBeside, AllWere, IsNearlyDrained, TellsStraggler, IsStraggler, NoStraggler, MayMake};
 ghost use Rattle.dq_growing.specs.declared.sizing.TheConstants.{CORES};
 ghost use Rattle.dq_ticks.specs.declared.TheConstants.{CAPACITY_LIMIT};
 ghost use Rattle.dq_growing.specs.Stands.{SameStand};
@@ -54,7 +54,7 @@ pub struct Sizing {
 #[inline(always)]
 #[tactic(auto, using(crate::proofs::Standing::within))]
 fn free<T, W: Words, A: Allocator>(core: &DelayCore<T, W, A>) -> usize
-    ensures { result ≡ clear_in core.now }
+    ensures { result ≡ clear_slots core.now }
 {
     core.law();
     let unused = core.capacity() - core.len() - core.worn();

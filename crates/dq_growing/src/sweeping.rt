@@ -1,7 +1,7 @@
 //! How cancelled entries are freed where there is time: a few slots of a core at once, round and round.
 
 ghost use Rattle.std.specs.Prelude.{◌≡◌, ◌≤◌, ◌+◌, ◌-◌, max, true, false, MatchOption, None};
-ghost use Rattle.dq_growing.specs.Sizing.{GoesOn, SweepsNext, end_of};
+ghost use Rattle.dq_growing.specs.Sizing.{WayGoesOn, SweepsNext, end_of};
 
 use crate::NEVER;
 use crate::sizing::{Sizing, slots};
@@ -51,7 +51,7 @@ impl Sweep {
 
     // Goes on to a slot of the core of that many slots, or to the next core, of which there are so many.
     fn go_on(&mut self, next: Option<usize>, capacity: usize, cores: usize)
-        ensures goes_on { GoesOn self.old next cores self.new }
+        ensures goes_on { WayGoesOn self.old next cores self.new }
 
         // No more slots are taken off than were looked at; but a core of none counts as one.
         ensures left { self.old.left ≤ self.new.left + max (end_of next capacity - self.old.slot) 1 }
