@@ -446,7 +446,8 @@ mod tests {
     /// No clock goes on, so a receiver that sleeps never wakes.
     #[test]
     fn no_receive_ends_while_more_may_be_due() {
-        let receives: [fn(&DelayQueue<String>) -> Option<String>; 4] = [
+        type Receive = fn(&DelayQueue<String>) -> Option<String>;
+        let receives: [Receive; 4] = [
             |queue| queue.recv().map(|expired| expired.value),
             |queue| queue.try_recv().ok().map(|expired| expired.value),
             |queue| queue.recv_timeout(Duration::ZERO).ok().map(|expired| expired.value),
