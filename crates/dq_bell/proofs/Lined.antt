@@ -39,7 +39,7 @@ pub hands_on : (l : LeaderSeat) (c : CloserSeat) (r r2 : RollState) (s : List Bo
     → LeavesRoll r i r2 → IsAwakeAt s i → first_in r ≡ Some i → first_in r2 ≡ Some f → called ≡ get_or s f false
     → LeavesLine (line_of l c r s) i called (line_of l c r2 (set s f false))
 hands_on l c r r2 s i f called left awake first next is_called = record {
-  bell = (refl, refl, refl);
+  leader = refl;
   closer = refl;
   is_out = left.is_out;
   awake = elim (one_or_not i f) [ inl e ↦ rw e (awake_there s f) | inr n ↦ get_or-set_other s f i false false n ∙ awake ];

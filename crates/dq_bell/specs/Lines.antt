@@ -3,7 +3,7 @@
 use Rattle.std.specs.Prelude.{◌≡◌, ◌≢◌, ◌⊎◌, ℕ, ◌+◌, ◌<◌, ◌≤◌, Bool, true, false, List, length}
 use Rattle.std.specs.Prelude.{slice_index_or, Option, None, Some}
 use Rattle.dq_bell.specs.Seats.{LeaderSeat, CloserSeat, AtSameBell}
-use Rattle.dq_bell.specs.Rolls.{RollState, StandsInLine, first_in, OthersStayInLine}
+use Rattle.dq_bell.specs.Rolls.{RollState, StandsInLine, first_in, OthersStayInLine, GrowsIfFull}
 
 -- who leads, who closes, who is in line, and who sleeps
 pub record LineState : Type 0 where
@@ -37,12 +37,18 @@ CallsOne old new = (i : ℕ) × SleepsAt old i × IsAwakeAt new i × OthersSleep
 abbrev pub HasLooked : LeaderSeat → Type 0
 HasLooked s = s.seen ≡ s.places
 
+-- it closes the bell that this one leads, by the hint of its first place
+abbrev pub ClosesBellOf : LeaderSeat → CloserSeat → Type 0
+ClosesBellOf leader closer =
+    (closer.hint.table ≡ leader.table) × (closer.hint.places ≡ leader.places) × (closer.hint.place ≡ 0)
+
 -- Who sleeps is in line. The first in line sleeps only where the leader has looked at all hints.
 pub record IsLine
     (leader : LeaderSeat) (closer : CloserSeat) (roll : RollState) (sleeps : List Bool) : Type 0 where
   pub in_line : (i : ℕ) → SleepsAt sleeps i → StandsInLine roll i
   pub led : (i : ℕ) → first_in roll ≡ Some i → SleepsAt sleeps i → HasLooked leader
   pub room : closer.is_closed ≡ false → length roll.places ≤ length sleeps
+  pub bell : ClosesBellOf leader closer
 
 -- Wherever anybody sleeps, somebody leads, who is awake or has looked at all hints.
 abbrev pub IsLed : LineState → Type 0
@@ -78,6 +84,7 @@ pub record Joins (old : LineState) (i : ℕ) (new : LineState) : Type 0 where
   pub closer : new.closer ≡ old.closer
   pub was_out : ¬ StandsInLine old.roll i
   pub is_in : StandsInLine new.roll i
+  pub room : GrowsIfFull old.roll new.roll
   pub stay : OthersStayInLine old.roll i new.roll
   pub awake : IsAwakeAt new.sleeps i
   pub others : OthersSleepOn old.sleeps i new.sleeps
@@ -93,6 +100,7 @@ pub record FallsAsleep (old : LineState) (i until : ℕ) (new : LineState) : Typ
   pub sleeps : SleepsAt new.sleeps i
   pub others : OthersSleepOn old.sleeps i new.sleeps
   pub leads : first_in old.roll ≡ Some i → (new.leader.until ≡ until) × HasLooked new.leader
+  pub follows : first_in old.roll ≢ Some i → new.leader ≡ old.leader
 
 -- why one may not fall asleep
 abbrev pub MayNotSleep : LineState → ℕ → LineState → Type 0
@@ -104,6 +112,7 @@ MayNotSleep old i new =
 pub record StaysAwake (old : LineState) (i : ℕ) (new : LineState) : Type 0 where
   pub stays : StaysInLine old new
   pub sleeps : new.sleeps ≡ old.sleeps
+  pub follows : first_in old.roll ≢ Some i → new.leader ≡ old.leader
   pub reason : MayNotSleep old i new
 
 -- one is awake from now on
@@ -115,7 +124,7 @@ pub record IsCalled (old : LineState) (i : ℕ) (new : LineState) : Type 0 where
 -- One left the line, awake. Where it led, the one that leads now is awake, and was called if it
 -- slept; else the same one leads. All others sleep on.
 pub record LeavesLine (old : LineState) (i : ℕ) (called : Bool) (new : LineState) : Type 0 where
-  pub bell : AtSameBell old.leader new.leader
+  pub leader : new.leader ≡ old.leader
   pub closer : new.closer ≡ old.closer
   pub is_out : ¬ StandsInLine new.roll i
   pub awake : IsAwakeAt new.sleeps i
@@ -130,6 +139,7 @@ pub record LeavesLine (old : LineState) (i : ℕ) (called : Bool) (new : LineSta
 -- called if it slept.
 pub record HearsRung (old : LineState) (rung called : Bool) (new : LineState) : Type 0 where
   pub stays : StaysInLine old new
+  pub until : new.leader ≡ old.leader
   pub nobody : rung ≡ false → (new.sleeps ≡ old.sleeps) × (called ≡ false)
   pub leader : rung ≡ true → (f : ℕ) → first_in old.roll ≡ Some f →
       IsCalled old f new × (called ≡ slice_index_or old.sleeps f false)

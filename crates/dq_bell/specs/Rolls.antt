@@ -31,6 +31,10 @@ abbrev pub OthersStayInLine : RollState → ℕ → RollState → Type 0
 OthersStayInLine old i new =
     (j : ℕ) → j ≢ i → (StandsInLine old j → StandsInLine new j) × (StandsInLine new j → StandsInLine old j)
 
+-- an index is made only where none was free
+abbrev pub GrowsIfFull : RollState → RollState → Type 0
+GrowsIfFull old new = old.count < length old.places → length new.places ≡ length old.places
+
 -- one index more, which isn't in line
 pub record GrowsByOne (old new : RollState) : Type 0 where
   pub size : length new.places ≡ length old.places + 1

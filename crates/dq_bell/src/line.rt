@@ -5,9 +5,9 @@
 //! leaves a `W` in the line, such as a thread or a task's waker; a call takes it out, and whoever has the [`Call`] wakes it once
 //! the lock is released. No code of `W` runs under the lock.
 ghost use Rattle.std.specs.Prelude.{◌≡◌, ◌≢◌, ℕ, ◌+◌, ◌<◌, false, is_some, slice_index_or, IfOk, IfErr, Some, length};
-ghost use Rattle.dq_bell.specs.Lines.{IsFreshLine, IsLed, IsSameLine, Joins, FallsAsleep, StaysAwake, LeavesLine, IsCalled, HearsRung, ClosesLine, IsAwakeAt};
+ghost use Rattle.dq_bell.specs.Lines.{ClosesBellOf, IsFreshLine, IsLed, IsSameLine, Joins, FallsAsleep, StaysAwake, LeavesLine, IsCalled, HearsRung, ClosesLine, IsAwakeAt};
 ghost use Rattle.dq_bell.specs.Seats.{DealsHint, is_leader_rung};
-ghost use Rattle.dq_bell.specs.Rolls.{StandsInLine, first_in};
+ghost use Rattle.dq_bell.specs.Rolls.{StandsInLine, first_in, GrowsIfFull};
 
 use crate::closer::Closer;
 use crate::hint::Hint;
@@ -98,9 +98,10 @@ impl<W, A: Allocator> Line<W, A> {
         self.roll.first()
     }
 
-    /// Wherever anybody sleeps, somebody leads, who is awake or has looked at all hints.
+    /// Wherever anybody sleeps, somebody leads, who is awake or has looked at all hints. A close closes this bell.
     pub fn law(&self)
-        ensures { IsLed self.now }
+        ensures led { IsLed self.now }
+        ensures closes { ClosesBellOf self.now.leader self.now.closer }
     {
         let _ = &self.sleepers;
     }
@@ -109,6 +110,7 @@ impl<W, A: Allocator> Line<W, A> {
     pub fn rise(&mut self, at: usize) -> Option<W>
         ensures awake { IsCalled self.old at self.new }
         ensures told { first_in self.old.roll ≡ Some at → self.new.leader.until ≡ 0 }
+        ensures follows { first_in self.old.roll ≢ Some at → self.new.leader ≡ self.old.leader }
         ensures own { is_some result ≡ slice_index_or self.old.sleeps at false }
     {
         if !self.roll.is_first(at) {
@@ -155,6 +157,7 @@ impl<W: Drop, A: Allocator> Line<W, A> {
     // Room for one more in line.
     fn make_room(&mut self) -> Result<(), AllocError>
         ensures room { IfOk result (λ _. self.new.roll.count < length self.new.roll.places) }
+        ensures grows { GrowsIfFull self.old.roll self.new.roll }
         ensures same { IsSameLine self.old self.new }
     {
         if self.roll.has_free() {

@@ -94,7 +94,8 @@ impl<A: Allocator> Roll<A> {
 
     /// Whether there is an index that isn't in line.
     pub fn has_free(&self) -> bool
-        ensures { result ≡ true → self.now.count < length self.now.places }
+        ensures yes { result ≡ true → self.now.count < length self.now.places }
+        ensures no { result ≡ false → length self.now.places ≤ self.now.count }
     {
         self.count < self.places.len()
     }
