@@ -14,7 +14,7 @@ use Rattle.dq_core.specs.declared.errors.CoreError.TheVariants.{Missing, WasCanc
 use Rattle.dq_core.specs.declared.outcomes.Removed.{Removed}
 use Rattle.dq_core.specs.declared.slots.Held.{Held}
 use Rattle.dq_core.specs.AtTheCall.{HoldsValue, OthersStay, KeepsSlots, linked_in}
-use Rattle.dq_core.specs.Calls.{IsInserted, Inserts, IsRemoved, Removes, TellsDeadline, FindRefused, IsFound, IsMissing, base_for}
+use Rattle.dq_core.specs.Calls.{IsInserted, Inserts, IsRemoved, Removes, RemovesIfDue, TellsDeadline, FindRefused, IsFound, IsMissing, base_for}
 use Rattle.dq_core.specs.Core.{Core, IsLawfulCore, machine, entry_of, due_by}
 use Rattle.dq_core.specs.Machine.{Entry, Machine, Event, Extend, Cancel, Step, Run, Callers, IsCallers, Has, table_at, put, born_with, with_due}
 use Rattle.dq_core.specs.Slots.{row_at, unused, vacated_row}
@@ -494,3 +494,32 @@ module _ {T W : Type 0} where
     pub look_same : (d : ℕ) → OnCoreOr id.shard (λ b c. TellsDeadline shared b id (Ok d) c) R s t → SameStand (HasEntry s) (HasEntry t)
     look_same d (inl on) = same_on on.place on.before on.after on.at.0 on.rest on.did.looked.shard on.did.looked.callers
     look_same d (inr y) = let P : CoreRow T W → Type 0 = λ k. SameStand (HasEntry s) (HasEntry k) in subst P (sym y.2) (all_same s)
+
+  -- so of a removal of what is due, by its answer
+  module _ (shared : Bool) (s t : CoreRow T W) (id : EntryId) (tick : ℕ) (law : AreCores s) where
+    abbrev Dues : Result (Option (Removed T)) CoreError → Type 0
+    Dues r = OnCoreOr id.shard (λ b c. RemovesIfDue shared b id tick r c) (r ≡ Err Missing) s t
+
+    pub dues_leave : (r : Result (Option (Removed T)) CoreError) → Dues r → IfOk r (λ found. IfSome found (λ x. OneLeaves (HasEntry s) (HasEntry t) id x.value))
+    dues_leave (Ok (Some x)) (inl on) =
+        removes_leaves shared s t id ⊥ law x (inl (record { place = on.place; before = on.before; after = on.after; at = on.at; did = on.did.1; rest = on.rest }))
+    dues_leave (Ok (Some x)) (inr y) = let told = y.0 in absurd (cc)
+    dues_leave (Ok None) did = tt {0}
+    dues_leave (Err e) did = tt {0}
+
+    pub dues_stay : (r : Result (Option (Removed T)) CoreError) → Dues r → IfOk r (λ found. IfNone found (SameStand (HasEntry s) (HasEntry t)))
+    dues_stay (Ok (Some x)) did = tt {0}
+    dues_stay (Ok None) (inl on) = same_on shared s t id ⊥ law on.place on.before on.after on.at.0 on.rest on.did.2.looked.shard on.did.2.looked.callers
+    dues_stay (Ok None) (inr y) = let told = y.0 in absurd (cc)
+    dues_stay (Err e) did = tt {0}
+
+    pub dues_refused : (r : Result (Option (Removed T)) CoreError) → Dues r → OnErr r (SameStand (HasEntry s) (HasEntry t))
+    dues_refused (Ok x) did = tt {0}
+    dues_refused (Err e) (inl on) = refused_on shared s t id ⊥ law on.place on.before on.after e on.at.0 on.rest on.did
+    dues_refused (Err e) (inr y) = let P : CoreRow T W → Type 0 = λ k. SameStand (HasEntry s) (HasEntry k) in subst P (sym y.2) (all_same s)
+
+    pub dues_by : (r : Result (Option (Removed T)) CoreError) → Dues r → IfOk r (λ found. IfSome found (λ x. x.deadline ≤ tick))
+    dues_by (Ok (Some x)) (inl on) = on.did.0
+    dues_by (Ok (Some x)) (inr y) = let told = y.0 in absurd (cc)
+    dues_by (Ok None) did = tt {0}
+    dues_by (Err e) did = tt {0}
