@@ -1,7 +1,8 @@
 -- What stands in a core that a call changes, and in a store of which one core changes.
-use Rattle.std.proofs.Common.{◌≡◌, ◌≢◌, ◌⊎◌, ℕ, ◌<◌, ◌≤◌, ◌+◌, Bool, List, length, get_or, set, Option, Some, None, Result, Ok, Err, IfOk, OnOk, OnErr, IfSome, IfNone, refl, sym, ap, ◌∙◌, subst, inl, inr, ⊎_elim, arith}
+use Rattle.std.proofs.Common.{◌≡◌, ◌≢◌, ◌⊎◌, ℕ, ◌<◌, ◌≤◌, ◌+◌, Bool, max, List, [], ◌∷◌, length, get_or, set, Option, Some, None, Result, Ok, Err, IfOk, OnOk, OnErr, IfSome, IfNone, refl, sym, ap, ◌∙◌, subst, inl, inr, ⊎_elim, arith}
 use mathlib.Core.Logic.{dite}
 use native.Mathlib.Decide.{ℕ_discrete}
+use Rattle.std.specs.List.{AllByRecursion}
 use Rattle.std.proofs.lemmas.List.{length-set, set-get_or, get_or-set_same, get_or-set_other}
 use Rattle.dq_ticks.specs.declared.TheConstants.{LAST_TICK}
 use Rattle.dq_ticks.specs.declared.words.Parts.{Parts}
@@ -9,23 +10,25 @@ use Rattle.dq_ticks.specs.declared.words.Mark.TheVariants.{LiveMark, CancelledMa
 use Rattle.dq_ticks.specs.declared.keys.Key.{Key}
 use Rattle.dq_ticks.specs.declared.keys.EntryId.{EntryId}
 use Rattle.dq_core.specs.declared.errors.CoreError.{CoreError}
+use Rattle.dq_core.specs.declared.errors.CoreError.TheVariants.{Missing, WasCancelled}
 use Rattle.dq_core.specs.declared.outcomes.Removed.{Removed}
 use Rattle.dq_core.specs.declared.slots.Held.{Held}
 use Rattle.dq_core.specs.AtTheCall.{HoldsValue, OthersStay, KeepsSlots, linked_in}
-use Rattle.dq_core.specs.Calls.{IsInserted, Inserts, IsRemoved, Removes, IsFound, IsMissing, base_for}
+use Rattle.dq_core.specs.Calls.{IsInserted, Inserts, IsRemoved, Removes, RemovesIfDue, TellsDeadline, FindRefused, IsFound, IsMissing, base_for}
 use Rattle.dq_core.specs.Core.{Core, IsLawfulCore, machine, entry_of, due_by}
-use Rattle.dq_core.specs.Machine.{Entry, table_at, born_with}
+use Rattle.dq_core.specs.Machine.{Entry, Machine, Event, Extend, Cancel, Step, Run, Callers, IsCallers, Has, table_at, put, born_with, with_due}
 use Rattle.dq_core.specs.Slots.{row_at, unused, vacated_row}
 use Rattle.dq_core.specs.Values.{ChangesEntry, ChangesValue}
 use Rattle.dq_core.specs.Words.{IsInForce, StillBegun, live, word_at}
-use Rattle.dq_core.proofs.CallWords.{inserted_live, inserted_others}
+use Rattle.dq_core.proofs.CallWords.{inserted_live, inserted_others, removed_gone, removed_others}
 use Rattle.dq_core.proofs.Finds.{found_force}
 use Rattle.dq_core.proofs.Law.{force_learned, held_filed}
+use Rattle.dq_core.proofs.RunsKept.{Holds}
 use Rattle.dq_core.proofs.RunsMoves.{put_same, put_other}
 use Rattle.dq_core.proofs.SlotRows.{parted}
 use Rattle.dq_core.proofs.Slotwise.{held_inside}
 use Rattle.dq_core.proofs.Ways.{table_row_is}
-use Rattle.dq_growing.specs.Cores.{CoreRow, AreCores, IsCoreAt, HasAt, IsMissingIn, with_core}
+use Rattle.dq_growing.specs.Cores.{CoreRow, AreCores, IsCoreAt, HasAt, OnCoreOr, IsMissingIn, with_core}
 use Rattle.dq_growing.specs.Moving.{worn_in}
 use Rattle.dq_growing.specs.Stands.{IsThere, IsPastAt, IsPastIn, HasEntry, OthersStand, SameStand, OneChanges, OneLeaves, OneComes, KeepsWords}
 use Rattle.dq_growing.proofs.Leasts.{some_not_none}
@@ -55,6 +58,57 @@ low s t d (pos, inl (is, after, small)) = small
 low s t d (pos, inr is) =
     let mark : LiveMark ≡ CancelledMark = ap (λ p. p.mark) is in
     absurd (cc)
+
+-- where an entry gets another deadline, each stands with its value as before, and there is no other
+module _ {T : Type 0} (m n : Machine T) (i s : ℕ) (e : Entry T) (d : Option ℕ) (has : Has m i e) (is : n ≡ put m i s (with_due e d)) where
+  now_due : (table_at n i).entry ≡ with_due e d
+  now_due = ap (λ r. r.entry) (put_same m n i s (with_due e d) has.0 is)
+
+  due_on : (j : ℕ) (x : Entry T) → (table_at m j).entry ≡ Some x → Holds (table_at n j) x
+  due_on j x at =
+      dite (ℕ_discrete j i)
+      (λ here. let P : ℕ → Type 0 = λ k. (table_at m k).entry ≡ Some x in
+      let Q : ℕ → Type 0 = λ k. Holds (table_at n k) x in
+      let same = some_is e x (sym has.1 ∙ subst P here at) in
+      subst Q (sym here) (record { born = e.born; value = e.value; due = d }, now_due, ap (λ z. z.born) same, ap (λ z. z.value) same))
+      (λ ne. (x, ap (λ r. r.entry) (put_other m n j i s (with_due e d) ne is) ∙ at, refl, refl))
+
+  due_back : (j : ℕ) (x : Entry T) → (table_at n j).entry ≡ Some x → Holds (table_at m j) x
+  due_back j x at =
+      dite (ℕ_discrete j i)
+      (λ here. let P : ℕ → Type 0 = λ k. (table_at n k).entry ≡ Some x in
+      let Q : ℕ → Type 0 = λ k. Holds (table_at m k) x in
+      let same = some_is (record { born = e.born; value = e.value; due = d }) x (sym now_due ∙ subst P here at) in
+      subst Q (sym here) (e, has.1, ap (λ z. z.born) same, ap (λ z. z.value) same))
+      (λ ne. (x, sym (ap (λ r. r.entry) (put_other m n j i s (with_due e d) ne is)) ∙ at, refl, refl))
+
+-- so of the steps of callers
+abbrev Alike : {T : Type 0} → Machine T → Machine T → Type 0
+Alike {T} m n =
+    ((j : ℕ) (x : Entry T) → (table_at m j).entry ≡ Some x → Holds (table_at n j) x)
+    × ((j : ℕ) (x : Entry T) → (table_at n j).entry ≡ Some x → Holds (table_at m j) x)
+
+then_holds : {T : Type 0} (m k n : Machine T) → ((j : ℕ) (x : Entry T) → (table_at m j).entry ≡ Some x → Holds (table_at k j) x)
+    → ((j : ℕ) (x : Entry T) → (table_at k j).entry ≡ Some x → Holds (table_at n j) x) → (j : ℕ) (x : Entry T) → (table_at m j).entry ≡ Some x → Holds (table_at n j) x
+then_holds m k n one two j x at = let f = one j x at in let g = two j f.0 f.1 in (g.0, g.1, g.2 ∙ f.2, g.3 ∙ f.3)
+
+caller_step : {T : Type 0} (shared : Bool) (last : ℕ) (m n : Machine T) (e : Event T) → IsCallers shared e → Step last m e n → Alike m n
+caller_step shared last m n (Extend i s when) its step =
+    let due = Some (max when step.1) in (due_on m n i s step.0 due step.2 step.5, due_back m n i s step.0 due step.2 step.5)
+caller_step shared last m n (Cancel i s) its step = (due_on m n i s step.0 None step.2 step.5, due_back m n i s step.0 None step.2 step.5)
+caller_step shared last m n e its step = absurd its
+
+callers_run : {T : Type 0} (shared : Bool) (last : ℕ) (m n : Machine T) (es : List (Event T)) → AllByRecursion (IsCallers shared) es → Run last m es n → Alike m n
+callers_run {T} shared last m n [] all run =
+    let P : Machine T → Type 0 = λ k. Alike m k in
+    subst P (sym run) ((λ j x at. (x, at, refl, refl)), (λ j x at. (x, at, refl, refl)))
+callers_run shared last m n (e ∷ es) all (k, step, run) =
+    let one = caller_step shared last m k e all.0 step in
+    let rest = callers_run shared last k n es all.1 run in
+    (then_holds m k n one.0 rest.0, then_holds n k m rest.1 one.1)
+
+callers_alike : {T : Type 0} (shared : Bool) (last : ℕ) (m n : Machine T) → Callers shared last m n → Alike m n
+callers_alike shared last m n way = callers_run shared last m n way.0 way.1 way.2
 
 -- all that is held or worn are some of the slots
 pub within : {T W : Type 0} (c : Core T W) → linked_in c + worn_in c ≤ length c.slots.rows
@@ -98,18 +152,34 @@ module _ {T W : Type 0} where
         let P : ℕ → Type 0 = λ j. (table_at (machine k) j).entry ≡ Some e in
         some_not_none e (sym (subst P at y.linked) ∙ none)
 
+    leaves_by : (id : EntryId) (v : T) → (e : Entry T) × IsThere b id e × (e.value ≡ v) → (table_at (machine c) id.index).entry ≡ None → OthersStay b c id.index
+        → OneLeaves (IsThere b) (IsThere c) id v
+    leaves_by id v was gone others = record {
+      was = was;
+      gone = λ e y. none_there c id.index id e gone y refl;
+      others = (
+        (λ o e ne x. dite (ℕ_discrete o.index id.index) (λ at. absurd (ne (one_there b id o was.0 e was.1 x at))) (λ n. stays id.index others o e n x)),
+        (λ o e ne y. dite (ℕ_discrete o.index id.index) (λ at. absurd (none_there c id.index o e gone y at)) (λ n. stayed id.index others o e n y)),
+      );
+    }
+
     pub leaves_there : (id : EntryId) (v : T) → IsLawfulCore b → HoldsValue b id v → (table_at (machine c) id.index).entry ≡ None → OthersStay b c id.index
         → OneLeaves (IsThere b) (IsThere c) id v
-    leaves_there id v law held gone others =
-        let was = held_there b id v law held in
-        record {
-          was = was;
-          gone = λ e y. none_there c id.index id e gone y refl;
-          others = (
-            (λ o e ne x. dite (ℕ_discrete o.index id.index) (λ at. absurd (ne (one_there b id o was.0 e was.1 x at))) (λ n. stays id.index others o e n x)),
-            (λ o e ne y. dite (ℕ_discrete o.index id.index) (λ at. absurd (none_there c id.index o e gone y at)) (λ n. stayed id.index others o e n y)),
-          );
-        }
+    leaves_there id v law held gone others = leaves_by id v (held_there b id v law held) gone others
+
+    -- what the exact relations say of what stands
+    removed_leaves : (shared : Bool) (id : EntryId) (x : Removed T) → IsRemoved shared b id x c → OneLeaves (IsThere b) (IsThere c) id x.value
+    removed_leaves shared id x r =
+        let way = callers_alike shared b.slots.last_stamp (machine b) r.run.0 r.run.1 in
+        let was = way.1 id.index (record { born = id.born; value = x.value; due = Some x.deadline }) r.run.3.1 in
+        leaves_by id x.value (was.0, record { shard = r.shard; linked = was.1; born = was.2 }, was.3) (removed_gone r) (removed_others r)
+
+    callers_same : (shared : Bool) → Callers shared b.slots.last_stamp (machine b) (machine c) → SameStand (IsThere b) (IsThere c)
+    callers_same shared way =
+        let alike = callers_alike shared b.slots.last_stamp (machine b) (machine c) way in (
+          (λ o e x. let f = alike.0 o.index e x.linked in (f.0, record { shard = x.shard ∙ sym same; linked = f.1; born = f.2 ∙ x.born }, f.3)),
+          (λ o e x. let f = alike.1 o.index e x.linked in (f.0, record { shard = x.shard ∙ same; linked = f.1; born = f.2 ∙ x.born }, f.3)),
+        )
 
     pub comes_there : (k : Key) (v : T) (d : ℕ) → IsInserted b v d k c → OneComes (IsThere b) (IsThere c) k.entry v (base_for b d)
     comes_there k v d x =
@@ -394,3 +464,62 @@ module _ {T W : Type 0} where
           ap (λ k. with_core s i k) did.1 ∙ ap S (ap (λ k. set s.cores i k) is ∙ set-get_or s.cores i b),
         )
     found_missing {R} Makes (Some a) did = tt {0}
+
+  -- what the exact relations of a removal and of a look say of what stands in the store
+  module _ (shared : Bool) (s t : CoreRow T W) (id : EntryId) (R : Type 0) (law : AreCores s) where
+    pub removes_leaves : (x : Removed T) → OnCoreOr id.shard (λ b c. Removes shared b id (Ok x) c) (◌≡◌ {A = Result (Removed T) CoreError} (Ok x) (Err Missing)) s t
+        → OneLeaves (HasEntry s) (HasEntry t) id x.value
+    removes_leaves x (inl on) =
+        let P : CoreRow T W → Type 0 = λ k. OneLeaves (HasEntry s) (HasEntry k) id x.value in
+        let same = on.did.same_shard in
+        subst P (sym on.rest) (leaves_in s on.place on.before on.after law on.at.0 same id x.value (removed_leaves on.before on.after same shared id x on.did))
+    removes_leaves x (inr y) = let told = y.0 in absurd (cc)
+
+    same_on : (i : ℕ) (b c : Core T W) → IsCoreAt s.cores i b → t ≡ with_core s i c → c.shard ≡ b.shard → Callers shared b.slots.last_stamp (machine b) (machine c)
+        → SameStand (HasEntry s) (HasEntry t)
+    same_on i b c at rest same way =
+        let P : CoreRow T W → Type 0 = λ k. SameStand (HasEntry s) (HasEntry k) in
+        subst P (sym rest) (same_in s i b c law at same (callers_same b c same shared way))
+
+    refused_on : (i : ℕ) (b c : Core T W) (e : CoreError) → IsCoreAt s.cores i b → t ≡ with_core s i c → FindRefused shared b id e c → SameStand (HasEntry s) (HasEntry t)
+    refused_on i b c Missing at rest did =
+        same_on i b c at rest (ap (λ k. k.shard) did.1) ([], tt, ap machine did.1)
+    refused_on i b c WasCancelled at rest did = same_on i b c at rest did.looked.shard did.looked.callers
+    refused_on i b c e at rest did = absurd did
+
+    pub refusal_same : (e : CoreError) → OnCoreOr id.shard (λ b c. Removes shared b id (Err e) c) R s t → SameStand (HasEntry s) (HasEntry t)
+    refusal_same e (inl on) = refused_on on.place on.before on.after e on.at.0 on.rest on.did
+    refusal_same e (inr y) = let P : CoreRow T W → Type 0 = λ k. SameStand (HasEntry s) (HasEntry k) in subst P (sym y.2) (all_same s)
+
+    pub look_same : (d : ℕ) → OnCoreOr id.shard (λ b c. TellsDeadline shared b id (Ok d) c) R s t → SameStand (HasEntry s) (HasEntry t)
+    look_same d (inl on) = same_on on.place on.before on.after on.at.0 on.rest on.did.looked.shard on.did.looked.callers
+    look_same d (inr y) = let P : CoreRow T W → Type 0 = λ k. SameStand (HasEntry s) (HasEntry k) in subst P (sym y.2) (all_same s)
+
+  -- so of a removal of what is due, by its answer
+  module _ (shared : Bool) (s t : CoreRow T W) (id : EntryId) (tick : ℕ) (law : AreCores s) where
+    abbrev Dues : Result (Option (Removed T)) CoreError → Type 0
+    Dues r = OnCoreOr id.shard (λ b c. RemovesIfDue shared b id tick r c) (r ≡ Err Missing) s t
+
+    pub dues_leave : (r : Result (Option (Removed T)) CoreError) → Dues r → IfOk r (λ found. IfSome found (λ x. OneLeaves (HasEntry s) (HasEntry t) id x.value))
+    dues_leave (Ok (Some x)) (inl on) =
+        removes_leaves shared s t id ⊥ law x (inl (record { place = on.place; before = on.before; after = on.after; at = on.at; did = on.did.1; rest = on.rest }))
+    dues_leave (Ok (Some x)) (inr y) = let told = y.0 in absurd (cc)
+    dues_leave (Ok None) did = tt {0}
+    dues_leave (Err e) did = tt {0}
+
+    pub dues_stay : (r : Result (Option (Removed T)) CoreError) → Dues r → IfOk r (λ found. IfNone found (SameStand (HasEntry s) (HasEntry t)))
+    dues_stay (Ok (Some x)) did = tt {0}
+    dues_stay (Ok None) (inl on) = same_on shared s t id ⊥ law on.place on.before on.after on.at.0 on.rest on.did.2.looked.shard on.did.2.looked.callers
+    dues_stay (Ok None) (inr y) = let told = y.0 in absurd (cc)
+    dues_stay (Err e) did = tt {0}
+
+    pub dues_refused : (r : Result (Option (Removed T)) CoreError) → Dues r → OnErr r (SameStand (HasEntry s) (HasEntry t))
+    dues_refused (Ok x) did = tt {0}
+    dues_refused (Err e) (inl on) = refused_on shared s t id ⊥ law on.place on.before on.after e on.at.0 on.rest on.did
+    dues_refused (Err e) (inr y) = let P : CoreRow T W → Type 0 = λ k. SameStand (HasEntry s) (HasEntry k) in subst P (sym y.2) (all_same s)
+
+    pub dues_by : (r : Result (Option (Removed T)) CoreError) → Dues r → IfOk r (λ found. IfSome found (λ x. x.deadline ≤ tick))
+    dues_by (Ok (Some x)) (inl on) = on.did.0
+    dues_by (Ok (Some x)) (inr y) = let told = y.0 in absurd (cc)
+    dues_by (Ok None) did = tt {0}
+    dues_by (Err e) did = tt {0}

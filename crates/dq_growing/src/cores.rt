@@ -275,6 +275,15 @@ impl<T, W: Words, A: Allocator> Cores<T, W, A> {
         entry: &EntryId,
         tick: u64,
     ) -> Result<Option<Removed<T>>, CoreError>
+        // That entry leaves with its value, and no other; its deadline isn't after the tick. None leaves
+        // where it is later, or where the call is refused.
+        ensures leaves { IfOk result (λ found. IfSome found
+            (λ x. OneLeaves (HasEntry self.old) (HasEntry self.new) entry.now x.value)) }
+        ensures due { IfOk result (λ found. IfSome found (λ x. x.deadline ≤ tick)) }
+        ensures stays { IfOk result
+            (λ found. IfNone found (SameStand (HasEntry self.old) (HasEntry self.new))) }
+        ensures refused { OnErr result (SameStand (HasEntry self.old) (HasEntry self.new)) }
+
         // Exactly: a remove of what is due in the core of that number, and nothing else changes.
         ensures removes { OnCoreOr entry.now.shard
             (λ b c. RemovesIfDue W.shared b entry.now tick result c)

@@ -1,7 +1,7 @@
 //! A store as its users see it: they know an entry by the id that it came in with, wherever it is.
 
 ghost use Rattle.dq_core.specs.declared.errors.CoreError.TheVariants.{Worn};
-ghost use Rattle.std.specs.Prelude.{◌≡◌, ◌↔◌, IsTrue, IfSome, IfNone, IfErr, IfOk, OnOk, OnErr, Ok, Err, None, Some};
+ghost use Rattle.std.specs.Prelude.{◌≡◌, ◌≤◌, ◌↔◌, IsTrue, IfSome, IfNone, IfErr, IfOk, OnOk, OnErr, Ok, Err, None, Some};
 ghost use Rattle.dq_growing.specs.Cores.{InsertsIn, TakesIn, GivesDrained, NoneDrained};
 ghost use Rattle.dq_growing.specs.Runs.{GivesId, KeepsIds, KeepsIdsBeside};
 ghost use Rattle.dq_ticks.specs.Keys.{EntryName};
@@ -267,9 +267,20 @@ impl<T, W: Words, A: Allocator + Clone> Store<T, W, A> {
         entry: &EntryId,
         tick: u64,
     ) -> Result<Option<Removed<T>>, CoreError>
+        // That entry leaves with its value, and no other; its deadline isn't after the tick. None leaves
+        // where it is later, or where the call is refused.
+        ensures leaves { IfOk result (λ found. IfSome found
+            (λ x. OneLeaves (StandsFor self.old) (StandsFor self.new) entry.now x.value)) }
+        ensures key { IfOk result (λ found. IfSome found (λ x. x.key.entry ≡ entry.now)) }
+        ensures due { IfOk result (λ found. IfSome found (λ x. x.deadline ≤ tick)) }
+        ensures stays { IfOk result
+            (λ found. IfNone found (SameStand (StandsFor self.old) (StandsFor self.new))) }
+        ensures refused { OnErr result (SameStand (StandsFor self.old) (StandsFor self.new)) }
+
         // Exactly: a removal of an entry that is due, or a look at a deadline that is after the tick.
         ensures removes { RemovesIfDueFor W.shared self.old entry.now tick result self.new }
         ensures words { KeepsWords W.origin W.begun self.old.cores self.new.cores }
+        ensures keeps { KeepsIds self.old self.new }
     {
         let Some(place) = self.notes.place(entry) else {
             return Err(CoreError::Missing);

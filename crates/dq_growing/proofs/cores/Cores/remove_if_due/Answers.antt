@@ -2,7 +2,7 @@ use Rattle.std.proofs.Common.{sym, arith}
 use Rattle.dq_growing.specs.Cores.{CoreRow, IsCoreAt}
 use Rattle.dq_growing.proofs.Quiet.{turns_after, dues_noted, dues_late}
 use Rattle.dq_growing.proofs.Rows.{keeps_law, on_found}
-use Rattle.dq_growing.proofs.Standing.{found_at, words_in}
+use Rattle.dq_growing.proofs.Standing.{dues_by, dues_leave, dues_stay, dues_refused, found_at, words_in}
 use Rattle.dq_growing.proofs.cores.Cores.remove_if_due.Goals as goal
 
 pub returns-clause-removes : goal.returns-clause-removes
@@ -29,3 +29,34 @@ returns-clause-words g c =
     let at = found_at _ c.in-Some.at c.args.entry.now c.index_mut.result.now r.new.self c.self.invariant.0 found c.index_mut.ensures.value r.ensures.same.0 in
     rw (← c.self.view_is)
     (words_in _ c.in-Some.at c.index_mut.result.now r.new.self c.self.invariant.0 at r.ensures.same.0 g.W.Words.origin g.W.Words.begun r.ensures.origin r.ensures.begun)
+
+pub returns-clause-leaves : goal.returns-clause-leaves
+returns-clause-leaves g c =
+    let r = c.remove_if_due-answer in
+    rw (← c.self.view_is)
+    (dues_leave g.W.Words.shared _ _ c.args.entry.now c.args.tick c.self.invariant.0 r.result
+    (on_found _ c.in-Some.at _ _ _ c.index_mut.result.now r.new.self
+    (rw (c.shard.ensures, ← c.self.view_is) at c.in-Some.ensures.found) c.index_mut.ensures.value r.ensures.removes))
+
+pub returns-clause-due : goal.returns-clause-due
+returns-clause-due g c =
+    let r = c.remove_if_due-answer in
+    dues_by g.W.Words.shared _ _ c.args.entry.now c.args.tick c.self.invariant.0 r.result
+    (on_found _ c.in-Some.at _ _ _ c.index_mut.result.now r.new.self
+    (rw (c.shard.ensures, ← c.self.view_is) at c.in-Some.ensures.found) c.index_mut.ensures.value r.ensures.removes)
+
+pub returns-clause-stays : goal.returns-clause-stays
+returns-clause-stays g c =
+    let r = c.remove_if_due-answer in
+    rw (← c.self.view_is)
+    (dues_stay g.W.Words.shared _ _ c.args.entry.now c.args.tick c.self.invariant.0 r.result
+    (on_found _ c.in-Some.at _ _ _ c.index_mut.result.now r.new.self
+    (rw (c.shard.ensures, ← c.self.view_is) at c.in-Some.ensures.found) c.index_mut.ensures.value r.ensures.removes))
+
+pub returns-clause-refused : goal.returns-clause-refused
+returns-clause-refused g c =
+    let r = c.remove_if_due-answer in
+    rw (← c.self.view_is)
+    (dues_refused g.W.Words.shared _ _ c.args.entry.now c.args.tick c.self.invariant.0 r.result
+    (on_found _ c.in-Some.at _ _ _ c.index_mut.result.now r.new.self
+    (rw (c.shard.ensures, ← c.self.view_is) at c.in-Some.ensures.found) c.index_mut.ensures.value r.ensures.removes))

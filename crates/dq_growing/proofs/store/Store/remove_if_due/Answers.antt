@@ -1,6 +1,8 @@
 use Rattle.std.proofs.Common.{Ok, Err, inl, refl, sym, ◌∙◌}
 use Rattle.dq_growing.proofs.Aging.{removes_age, tells_age}
-use Rattle.dq_growing.proofs.Stored.{stored, law_same_notes, law_forgets, removes_for, removal_refused, due_taken, due_later, due_refused}
+use Rattle.dq_growing.proofs.Stored.{stored, law_same_notes, law_forgets, leaves_for, same_for, removes_for, removal_refused, due_taken, due_later, due_refused}
+use Rattle.dq_growing.proofs.Keeping.{keeps_noted, keeps_forgotten}
+use Rattle.dq_growing.proofs.Standing.{removes_leaves, refusal_same, look_same}
 use Rattle.dq_growing.proofs.store.Store.remove_if_due.Goals as goal
 
 pub invariant_of-self : goal.invariant_of-self
@@ -55,3 +57,57 @@ returns-clause-removes g c =
 
 pub returns-clause-words : goal.returns-clause-words
 returns-clause-words g c = rw (← c.self.view_is) c.remove_if_due.ensures.words
+
+pub returns-in-Ok-None-clause-stays : goal.returns-in-Ok-None-clause-stays
+returns-in-Ok-None-clause-stays g c =
+    let i = c.self.inside in
+    let due = due_later g.W.Words.shared i.cores c.remove_if_due.new.self c.in-Some.place c.args.tick _ c.in-Ok-None.field-0-is c.in-Ok-None.ensures.removes in
+    rw (← c.self.view_is)
+    (same_for (stored i.cores i.notes) c.remove_if_due.new.self (look_same g.W.Words.shared i.cores c.remove_if_due.new.self c.in-Some.place _ c.law.ensures due.0 due.2))
+
+pub returns-in-Ok-None-clause-keeps : goal.returns-in-Ok-None-clause-keeps
+returns-in-Ok-None-clause-keeps g c =
+    let i = c.self.inside in
+    let due = due_later g.W.Words.shared i.cores c.remove_if_due.new.self c.in-Some.place c.args.tick _ c.in-Ok-None.field-0-is c.in-Ok-None.ensures.removes in
+    rw (← c.self.view_is)
+    (keeps_noted (stored i.cores i.notes) c.remove_if_due.new.self c.self.invariant
+    (tells_age g.W.Words.shared i.cores c.remove_if_due.new.self c.in-Some.place (Ok due.0) _ c.law.ensures due.2))
+
+pub returns-in-Err-clause-refused : goal.returns-in-Err-clause-refused
+returns-in-Err-clause-refused g c =
+    let i = c.self.inside in
+    rw (← c.self.view_is)
+    (same_for (stored i.cores i.notes) c.remove_if_due.new.self
+    (refusal_same g.W.Words.shared i.cores c.remove_if_due.new.self c.in-Some.place _ c.law.ensures c.in-Err.error
+    (due_refused g.W.Words.shared i.cores c.remove_if_due.new.self c.in-Some.place c.args.tick c.in-Err.error c.in-Err.ensures.removes)))
+
+pub returns-in-Err-clause-keeps : goal.returns-in-Err-clause-keeps
+returns-in-Err-clause-keeps g c =
+    let i = c.self.inside in
+    rw (← c.self.view_is)
+    (keeps_noted (stored i.cores i.notes) c.remove_if_due.new.self c.self.invariant
+    (removes_age g.W.Words.shared i.cores c.remove_if_due.new.self c.in-Some.place (Err c.in-Err.error) _ c.law.ensures
+    (due_refused g.W.Words.shared i.cores c.remove_if_due.new.self c.in-Some.place c.args.tick c.in-Err.error c.in-Err.ensures.removes)))
+
+pub returns-clause-leaves : goal.returns-clause-leaves
+returns-clause-leaves g c =
+    let i = c.self.inside in
+    let due = due_taken g.W.Words.shared i.cores c.remove_if_due.new.self c.in-Some.place c.args.tick _ c.in-Ok-Some.removed c.in-Ok-Some.field-0-is c.in-Ok-Some.ensures.removes in
+    rw (c.removed_as.ensures, ← c.self.view_is)
+    (leaves_for (stored i.cores i.notes) (stored c.remove_if_due.new.self c.forget.new.self) c.args.entry.now c.in-Some.place c.forget.result c.in-Ok-Some.removed.value
+    c.self.invariant (sym c.place.ensures ∙ c.in-Some.is) (removes_leaves g.W.Words.shared i.cores c.remove_if_due.new.self c.in-Some.place ⊥ c.law.ensures c.in-Ok-Some.removed due.1) c.forget.ensures)
+
+pub returns-clause-due : goal.returns-clause-due
+returns-clause-due g c =
+    let i = c.self.inside in
+    let due = due_taken g.W.Words.shared i.cores c.remove_if_due.new.self c.in-Some.place c.args.tick _ c.in-Ok-Some.removed c.in-Ok-Some.field-0-is c.in-Ok-Some.ensures.removes in
+    rw (c.removed_as.ensures) due.0
+
+pub returns-clause-keeps : goal.returns-clause-keeps
+returns-clause-keeps g c =
+    let i = c.self.inside in
+    let due = due_taken g.W.Words.shared i.cores c.remove_if_due.new.self c.in-Some.place c.args.tick _ c.in-Ok-Some.removed c.in-Ok-Some.field-0-is c.in-Ok-Some.ensures.removes in
+    rw (← c.self.view_is)
+    (keeps_forgotten (stored i.cores i.notes) (stored c.remove_if_due.new.self c.forget.new.self) c.in-Some.place c.forget.result c.self.invariant
+    (removes_age g.W.Words.shared i.cores c.remove_if_due.new.self c.in-Some.place (Ok c.in-Ok-Some.removed) _ c.law.ensures due.1) c.forget.ensures
+    (removes_leaves g.W.Words.shared i.cores c.remove_if_due.new.self c.in-Some.place ⊥ c.law.ensures c.in-Ok-Some.removed due.1).gone)
