@@ -1,5 +1,4 @@
 mod cases;
-mod handles;
 mod keys;
 mod makings;
 mod memory;

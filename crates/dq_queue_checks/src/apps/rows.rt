@@ -3,13 +3,11 @@
 use super::same;
 use crate::apps::calls::Call::{Get, Len, Moment, NextDeadline, Purge, Put, Renew, Take};
 use crate::apps::calls::{Letters, each_answers, plays_up_to};
-use dq_apps::{IdleSessions, Name, TtlCache};
-use dq_core::{CallError, CoreError, Look, Turn};
-use dq_shards::{Handle, QueueConfig, QueueError};
-use dq_ticks::{Key, LAST_STAMP};
+use dq_apps::TtlCache;
+use dq_core::CoreError;
+use dq_ticks::LAST_STAMP;
 use std::alloc::Global;
 use std::process::Abort;
-use std::sync::Wait;
 use std::test::Fail;
 
 // The last tick, as the tables of the rows have it.
@@ -131,107 +129,5 @@ fn out_of_range(rt: &impl Abort, cache: &mut Letters) {
 #[test]
 fn put_out_of_range(rt: HostRuntime) -> Result<(), Fail> {
     out_of_range(&rt, &mut TtlCache::new(rt.alloc(), 1, LAST_STAMP)?);
-    Ok(())
-}
-
-// A call of sessions or of a handle of theirs, with its answer. Keys count from 0, in the order of logins.
-#[derive(Clone, Copy)]
-enum Visit {
-    /// Of that name at that tick, and why it is refused, if it is.
-    Login(&'static str, u64, Option<QueueError>),
-    Touch(usize, u64, Result<u64, CallError>),
-    Logout(usize, Result<u64, CallError>),
-    /// At that tick a session comes out, which ended then.
-    Ends(u64, &'static str),
-    /// At that tick none comes out, and the next wake.
-    Waits(u64, u64),
-}
-
-#[derive(Drop)]
-struct Door {
-    sessions: IdleSessions,
-    handle: Handle,
-    keys: Vec<Key>,
-}
-
-// A poll of the one shard. What it promises isn't passed on, here and in the call below: a test sees for itself.
-fn poll<R: Wait>(rt: &R, sessions: &IdleSessions, now: u64) -> Result<Turn<Name>, QueueError> {
-    sessions.next_idle(rt, 0, now)
-}
-
-fn login<R: Wait>(
-    rt: &R,
-    sessions: &IdleSessions,
-    name: &str,
-    now: u64,
-) -> Result<Key, QueueError> {
-    sessions.login(rt, 0, name, now)
-}
-
-impl Door {
-    fn new<R: Wait>(rt: &R, alloc: Global, idle: u64) -> Result<Door, QueueError> {
-        let sessions = IdleSessions::new(alloc, QueueConfig::of(1, 4), idle)?;
-        let handle = sessions.handle(rt)?;
-        Ok(Door {
-            sessions,
-            handle,
-            keys: Vec::new(alloc),
-        })
-    }
-
-    // Whether a call answers as it has to; none where no key was given at the place that it names.
-    fn takes<R: Wait>(&mut self, rt: &R, visit: Visit) -> Option<bool> {
-        Some(match visit {
-            Visit::Login(name, now, refused) => {
-                self.is_let_in(login(rt, &self.sessions, name, now), refused)
-            }
-            Visit::Touch(at, now, answer) => {
-                let key = *self.keys.get(at)?;
-                self.sessions.touch(&mut self.handle, &key, now) == answer
-            }
-            Visit::Logout(at, answer) => {
-                let key = *self.keys.get(at)?;
-                self.sessions.logout(&mut self.handle, &key) == answer
-            }
-            Visit::Ends(now, name) => match poll(rt, &self.sessions, now) {
-                Ok(Turn::Out(ended)) => (ended.value.text(), ended.deadline) == (name, now),
-                _ => false,
-            },
-            Visit::Waits(now, tick) => {
-                matches!(poll(rt, &self.sessions, now), Ok(Turn::Waiting { next }) if next == tick)
-            }
-        })
-    }
-
-    fn is_let_in(&mut self, answer: Result<Key, QueueError>, refused: Option<QueueError>) -> bool {
-        match answer {
-            Ok(key) => refused.is_none() && self.keys.push(key).is_ok(),
-            Err(error) => Some(error) == refused,
-        }
-    }
-}
-
-const ENDED: CallError = CallError::Ended {
-    how: Look::LookExpired(150),
-};
-
-const VISITS: &[Visit] = &[
-    Visit::Login("ann", 0, None),
-    Visit::Touch(0, 50, Ok(150)),
-    Visit::Waits(100, 128),
-    Visit::Ends(150, "ann"),
-    Visit::Touch(0, 151, Err(ENDED)),
-    Visit::Login("bob", 4398046511100, Some(QueueError::Core(TOO_FAR))),
-    Visit::Login("cy", 150, None),
-    Visit::Logout(1, Ok(250)),
-];
-
-// promise: sessions.login-queue sessions.into-queue-queue
-#[test]
-fn sessions_walk(rt: HostRuntime) -> Result<(), Fail> {
-    let mut door = Door::new(&rt, rt.alloc(), 100)?;
-    for (number, visit) in VISITS.iter().enumerate() {
-        same(&rt, number, door.takes(&rt, *visit), Some(true));
-    }
     Ok(())
 }
