@@ -1,4 +1,5 @@
 mod cases;
+mod handles;
 mod keys;
 mod makings;
 mod memory;

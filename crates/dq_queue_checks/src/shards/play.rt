@@ -36,25 +36,28 @@ impl Play {
     /// Makes a call, and answers as it does; none where no key was given at the place that it names.
     pub fn answer<R: Wait>(&mut self, rt: &R, way: Way, call: Call) -> Option<Answer> {
         match (call, way) {
-            (Call::Extend(..) | Call::Cancel(_) | Call::LookAt(_), _) => self.by_handle(call),
+            (Call::Extend(..) | Call::Cancel(_) | Call::LookAt(_), _) => {
+                by_handle(&mut self.handle, &self.keys, call)
+            }
             (Call::Len(_) | Call::PlaceOf(_) | Call::FiledAt(_), _) | (_, Way::ByLend) => {
                 by_lend(rt, &self.queue, &mut self.keys, call)
             }
             (_, Way::ByName) => by_name(rt, &self.queue, &mut self.keys, call),
         }
     }
+}
 
-    fn by_handle(&mut self, call: Call) -> Option<Answer> {
-        Some(match call {
-            Call::Extend(named, when) => until(self.handle.extend(&self.keys.named(named)?, when)),
-            Call::Cancel(named) => until(self.handle.cancel(&self.keys.named(named)?)),
-            Call::LookAt(named) => match self.handle.look(&self.keys.named(named)?) {
-                Ok(look) => Answer::Seen(look),
-                Err(error) => Answer::NotDone(error),
-            },
-            _ => return None,
-        })
-    }
+/// A call of a handle.
+pub fn by_handle(handle: &mut Handle, keys: &Keys, call: Call) -> Option<Answer> {
+    Some(match call {
+        Call::Extend(named, when) => until(handle.extend(&keys.named(named)?, when)),
+        Call::Cancel(named) => until(handle.cancel(&keys.named(named)?)),
+        Call::LookAt(named) => match handle.look(&keys.named(named)?) {
+            Ok(look) => Answer::Seen(look),
+            Err(error) => Answer::NotDone(error),
+        },
+        _ => return None,
+    })
 }
 
 // The answer of a handle's call that answers a deadline.
@@ -65,7 +68,8 @@ fn until(answer: Result<u64, CallError>) -> Answer {
     }
 }
 
-fn by_name<R: Wait>(rt: &R, queue: &Letters, keys: &mut Keys, call: Call) -> Option<Answer> {
+/// A call of the queue by name.
+pub fn by_name<R: Wait>(rt: &R, queue: &Letters, keys: &mut Keys, call: Call) -> Option<Answer> {
     Some(match call {
         Call::Insert(route, value, when) => {
             keys.inserted(value, queue.insert(rt, route, value, when))
