@@ -82,7 +82,7 @@ def are_installed(*programs):
     """Whether Debian's packages are there, and those programs. What lacks is installed where root asks."""
     def are_there():
         return all([glob.glob("/usr/share/cargo/registry/tokio-util-*"), *map(shutil.which, programs)])
-    if not are_there() and os.geteuid() == 0:
+    if not are_there() and os.geteuid() == 0 and shutil.which("apt-get"):
         for command in ["apt-get", "update"], [*SETUP.split(), *programs]:
             subprocess.run(command, stdout=subprocess.DEVNULL, stderr=subprocess.DEVNULL, check=False)
     return are_there()

@@ -91,7 +91,7 @@ impl<T> Shared<T> {
     }
 
     /// A bounded part of what keeps a shard of the right size. Where memory is refused it is done later. It tells whether more
-    /// is left.
+    /// is left, but for entries that are to be moved.
     #[cold]
     pub fn maintain(&self, at: usize) -> bool {
         let mut is_moving = false;
