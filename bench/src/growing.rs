@@ -96,7 +96,8 @@ impl<P: Fn(&mut Growing<u64>, u64) -> Result<Turn<u64>, CoreError>> Poll for P {
 /// A row: what is timed, and how many calls that is.
 type Row = (&'static str, fn(usize) -> (Duration, usize));
 
-const ROWS: [Row; 6] = [
+const ROWS: [Row; 7] = [
+    ("loop", loops),
     ("life", |entries| lives(entries, |queue, tick| queue.poll(tick))),
     ("life-in-pieces", |entries| lives(entries, |queue, tick| queue.poll_in_pieces(tick, PIECE))),
     ("rest", rests),
@@ -130,6 +131,25 @@ fn lives(entries: usize, poll: impl Poll) -> (Duration, usize) {
     load.live(entries, 3 * entries, &poll);
     let count = entries.max(CALLS);
     timed(count, || load.live(entries, count, poll))
+}
+
+/// What the program itself takes of a life: the same loop over no queue, in which two entries in `SPAN` come out a tick.
+fn loops(entries: usize) -> (Duration, usize) {
+    let mut load = Load::new();
+    let step = (SPAN / entries as u64).max(1);
+    let due = (2 * step as usize * entries / SPAN as usize).max(1);
+    let count = entries.max(CALLS);
+    timed(count, || {
+        for _ in 0..count / due {
+            load.now += step;
+            for expired in 0..black_box(due) {
+                black_box(expired);
+            }
+            for _ in 0..black_box(due) {
+                black_box((1, load.when(), load.drawn.is_multiple_of(MAINTAINED)));
+            }
+        }
+    })
 }
 
 /// Polls with nothing due, in the cores that growing has left.
