@@ -216,7 +216,8 @@ def growing():
     found = {(row, entries, peer): number for row, entries, peer, number in rows_of("growing")}
     sizes = ("1000", "10000", "100000")
     names = {"loop": "the program's own loop of a life alone", "life": "a life, by whole polls",
-             "life-in-pieces": "a life, by pieces of 64 steps", "rest": "a poll with nothing due", "insert": "an insert", "reset": "a reset", "remove": "a remove"}
+             "life-in-pieces": "a life, by pieces of 64 steps", "rest": "a poll with nothing due",
+             "insert": "an insert", "reset": "a reset", "remove": "a remove"}
     return grid(["Call", *(f"{int(size):,} stand" for size in sizes)],
                 ([name, *(" / ".join(found[row, size, peer] for peer in ("rust", "rust-checked")) for size in sizes)]
                  for row, name in names.items()))
