@@ -1,8 +1,11 @@
 -- What stands in a store whose cores come and go.
-use Rattle.std.proofs.Common.{◌≡◌, ◌≢◌, ℕ, suc, ◌<◌, ◌≤◌, ◌+◌, ◌-◌, ◌/◌, List, [], ◌∷◌, ◌++◌, length, get_or, remove, Bool, true, false, if◌then◌else◌, Option, Some, None, MatchOption, Result, Ok, Err, OnOk, refl, sym, ap, ◌∙◌, subst, inl, inr, ⊎_elim, arith}
-use Rattle.std.proofs.lemmas.Bool.{both_ways, cases_eq, lt-ltb, le-ltb}
+use Rattle.std.proofs.Common.{◌≡◌, ◌≢◌, ℕ, suc, ◌<◌, ◌≤◌, ◌+◌, ◌-◌, ◌/◌, ◌^◌, List, [], ◌∷◌, ◌++◌, length, get_or, remove, map, take, min, Bool, true, false, if◌then◌else◌, Option, Some, None, MatchOption, Result, Ok, Err, OnOk, refl, sym, ap, ◌∙◌, subst, inl, inr, ⊎_elim, arith}
+use Rattle.std.proofs.lemmas.Bool.{both_ways, cases_eq, lt-ltb, le-ltb, eq-eqb, ne_eqb}
 use mathlib.Core.Logic.{dite}
 use native.Mathlib.Decide.{ℕ_discrete}
+use Rattle.std.proofs.lemmas.List.{get_or-map, get_or_past, length-map, take_all}
+use Rattle.std.proofs.lemmas.List.Sums.{sum_by_more}
+use Rattle.std.specs.List.{sum_by}
 use Rattle.std.proofs.lemmas.List.Edits.{length-remove, get_or-remove_below, get_or-remove_above}
 use Rattle.dq_ticks.specs.declared.keys.EntryId.{EntryId}
 use Rattle.dq_wheel.proofs.Links.{nat_le_or_lt}
@@ -19,7 +22,7 @@ use Rattle.dq_growing.specs.Cores.{CoreRow, AreCores, IsCoreAt, OnCoreAt, Sweeps
 use Rattle.dq_growing.specs.declared.sizing.Room.{Room}
 use Rattle.dq_growing.specs.Notes.{Book}
 use Rattle.dq_growing.specs.Moving.{HasOpenRoom}
-use Rattle.dq_growing.specs.Sizing.{AllWere, ComesInto, WayGoesOn, HasClearAt, HasNoneToOpen, IsNearlyDrained, IsRoomAt, IsRoomier, IsRoomiest, NoStraggler, OnlyOpens, OpensIf, OpensWanted, StaysOpen, SweepsNext, TellsStraggler, WasBeside, clear_slots}
+use Rattle.dq_growing.specs.Sizing.{AllWere, ComesInto, GoesOnBehind, TakesOff, WayGoesOn, slots_at, slots_in, way_for, HasClearAt, HasNoneToOpen, IsNearlyDrained, IsRoomAt, IsRoomier, IsRoomiest, NoStraggler, OnlyOpens, OpensIf, OpensWanted, StaysOpen, SweepsNext, TellsStraggler, WasBeside, clear_slots}
 use Rattle.dq_growing.specs.Stands.{HasEntry, IsThere, SameStand}
 use Rattle.dq_growing.specs.Store.{StoreState, StandsFor, TellsFirstIn, entry_told}
 use Rattle.dq_growing.proofs.Leasts.{some_not_none}
@@ -337,20 +340,66 @@ module _ {T W : Type 0} where
       (λ (ne : i ≢ n). all i (omega (arith, below, ne)))
       (cases_eq i n)
 
+  -- how many slots there are
+  abbrev pub slots_below : CoreRow T W → ℕ → ℕ
+  slots_below s i = min (sum_by (λ c. length c.slots.rows) (take i s.cores)) (2 ^ 64 - 1)
+
+  pub slots_more : (s : CoreRow T W) (i n k : ℕ) (c : Core T W) → IsCoreAt s.cores i c → k ≡ length c.slots.rows → n ≡ slots_below s i
+      → min (n + k) (2 ^ 64 - 1) ≡ slots_below s (i + 1)
+  slots_more s i n k c at size is =
+      let F : Core T W → ℕ = λ d. length d.slots.rows in
+      let more = sum_by_more F s.cores i c at.0 in
+      let here = ap F at.1 in
+      omega (arith, more, here, size, is)
+
+  pub slots_all : (s : CoreRow T W) (i n : ℕ) → i ≡ length s.cores → n ≡ slots_below s i → n ≡ slots_in s
+  slots_all s i n all is =
+      let F : List (Core T W) → ℕ = λ l. min (sum_by (λ c. length c.slots.rows) l) (2 ^ 64 - 1) in
+      is ∙ ap F (take_all i s.cores (omega (arith, all)))
+
+  pub slots_there : (s : CoreRow T W) (i k : ℕ) (c : Core T W) → IsCoreAt s.cores i c → k ≡ length c.slots.rows → k ≡ slots_at s i
+  slots_there s i k c at size =
+      let F : Core T W → ℕ = λ d. length d.slots.rows in
+      size ∙ sym (get_or-map F s.cores i c 0 at.0 ∙ ap F at.1)
+
+  pub no_slots : (s : CoreRow T W) (i : ℕ) → length s.cores ≤ i → 0 ≡ slots_at s i
+  no_slots s i past =
+      let F : Core T W → ℕ = λ d. length d.slots.rows in
+      let long = length-map s.cores F in
+      sym (get_or_past (map F s.cores) i 0 (omega (arith, long, past)))
+
+  -- a way by the cancels that are told
+  pub begins_anew : (s : CoreRow T W) (w : Sweep) (cancels n : ℕ) → w.cancels ≢ cancels → n ≡ slots_in s → record w { cancels = cancels; left = n } ≡ way_for w cancels s
+  begins_anew s w cancels n ne is =
+      let with : ℕ → Sweep = λ k. record w { cancels = cancels; left = k } in
+      let P : Bool → Type 0 = λ b. with n ≡ with (if b then w.left else slots_in s) in
+      subst P (sym (ne_eqb w.cancels cancels ne)) (ap with is)
+
+  pub stays_way : (s : CoreRow T W) (w : Sweep) (cancels : ℕ) → w.cancels ≡ cancels → w ≡ way_for w cancels s
+  stays_way s w cancels same =
+      let with : ℕ → ℕ → Sweep = λ k n. record w { cancels = k; left = n } in
+      let P : Bool → Type 0 = λ b. with w.cancels w.left ≡ with cancels (if b then w.left else slots_in s) in
+      subst P (sym (eq-eqb w.cancels cancels same)) (ap (λ k. with k w.left) same)
+
   -- the next slots are swept
-  pub sweeps_next : (shared : Bool) (s t : StoreState T W) (w v : Sweep) (r : Option Swept) (next : Option ℕ) (n : ℕ)
+  pub goes_behind : (s : CoreRow T W) (w v : Sweep) (next told : Option ℕ) (n k : ℕ) → next ≡ told → n ≡ length s.cores → k ≡ slots_at s w.place
+      → WayGoesOn w next n v → TakesOff w next k v → GoesOnBehind w told s v
+  goes_behind s w v next told n k same many size goes off =
+      let P : Option ℕ → Type 0 = λ o. WayGoesOn w o n v in
+      let Q : ℕ → Type 0 = λ j. WayGoesOn w told j v in
+      let R : Option ℕ → Type 0 = λ o. TakesOff w o k v in
+      let S : ℕ → Type 0 = λ j. TakesOff w told j v in
+      (subst Q many (subst P same goes), subst S size (subst R same off))
+
+  pub sweeps_next : (shared : Bool) (s t : StoreState T W) (w v : Sweep) (r : Option Swept) (next : Option ℕ) (n k : ℕ)
       → MatchOption r ((length s.cores.cores ≤ w.place) × (t.cores ≡ s.cores))
       (λ swept. OnCoreAt w.place (SweepsFrom shared w.slot (w.slot + 256) swept) s.cores t.cores)
-      → MatchOption r (next ≡ None) (λ swept. next ≡ swept.next) → t.notes ≡ s.notes → n ≡ length s.cores.cores → WayGoesOn w next n v
-      → SweepsNext shared 256 w s v t
-  sweeps_next shared s t w v None next n did told notes many goes =
-      let P : Option ℕ → Type 0 = λ o. WayGoesOn w o n v in
-      let Q : ℕ → Type 0 = λ k. WayGoesOn w None k v in
-      (notes, inl ((λ c at. let inside = at.0 in let past = did.0 in absurd (omega (arith, inside, past))), did.1, subst Q many (subst P told goes)))
-  sweeps_next shared s t w v (Some swept) next n did told notes many goes =
-      let P : Option ℕ → Type 0 = λ o. WayGoesOn w o n v in
-      let Q : ℕ → Type 0 = λ k. WayGoesOn w swept.next k v in
-      (notes, inr (swept, did, subst Q many (subst P told goes)))
+      → MatchOption r (next ≡ None) (λ swept. next ≡ swept.next) → t.notes ≡ s.notes → n ≡ length s.cores.cores → k ≡ slots_at s.cores w.place
+      → WayGoesOn w next n v → TakesOff w next k v → SweepsNext shared 256 w s v t
+  sweeps_next shared s t w v None next n k did told notes many size goes off =
+      (notes, inl ((λ c at. let inside = at.0 in let past = did.0 in absurd (omega (arith, inside, past))), did.1, goes_behind s.cores w v next None n k told many size goes off))
+  sweeps_next shared s t w v (Some swept) next n k did told notes many size goes off =
+      (notes, inr (swept, did, goes_behind s.cores w v next swept.next n k told many size goes off))
 
   -- a core that came in, and may be open
   pub comes_into : (s m t : StoreState T W) (c : Core T W) → TakesIn s.cores c m.cores → m.notes ≡ s.notes → OnlyOpens m t → ComesInto s c t

@@ -1,7 +1,8 @@
 -- How a store keeps the right size, and the folded cores that it keeps.
 use Rattle.std.specs.Prelude.{◌≡◌, ◌≢◌, ◌⊎◌, ◌+◌, ◌-◌, ◌/◌, ◌<◌, ◌≤◌, ℕ, Bool, true, false}
-use Rattle.std.specs.Prelude.{◌++◌, ◌∷◌, [], Option, Some, None, List, length, nat_lt, if◌then◌else◌}
-use Rattle.std.specs.Prelude.{slice_index_or, remove}
+use Rattle.std.specs.Prelude.{◌++◌, ◌∷◌, [], Option, Some, None, List, length, nat_lt, nat_eq}
+use Rattle.std.specs.Prelude.{if◌then◌else◌, slice_index_or, remove, map, min, max, ◌^◌}
+use Rattle.std.specs.List.{sum_by}
 use Rattle.dq_ticks.specs.declared.TheConstants.{CAPACITY_LIMIT}
 use Rattle.dq_ticks.specs.declared.keys.EntryId.{EntryId}
 use Rattle.dq_core.specs.declared.outcomes.Swept.{Swept}
@@ -11,7 +12,9 @@ use Rattle.dq_core.specs.Core.{Core, machine}
 use Rattle.dq_core.specs.Machine.{NoneLinked}
 use Rattle.dq_growing.specs.Cores.{CoreRow, IsCoreAt, OnCoreAt, SweepsFrom}
 use Rattle.dq_growing.specs.Moving.{worn_in}
+use Rattle.dq_growing.specs.declared.TheConstants.{NEVER}
 use Rattle.dq_growing.specs.declared.sizing.Room.{Room}
+use Rattle.dq_growing.specs.declared.sizing.Sizing.{Sizing}
 use Rattle.dq_growing.specs.declared.sizing.TheConstants.{CORES}
 use Rattle.dq_growing.specs.declared.sweeping.Sweep.{Sweep}
 use Rattle.dq_growing.specs.Store.{StoreState, TellsFirstIn}
@@ -29,7 +32,29 @@ abbrev pub end_of : Option ℕ → ℕ → ℕ
 end_of None capacity = capacity
 end_of (Some slot) capacity = slot
 
+-- as many slots fewer are left on a way as were looked at in a core of so many, where none counts as
+-- one; the cancels of the way stay
+abbrev pub TakesOff : Sweep → Option ℕ → ℕ → Sweep → Type 0
+TakesOff w next capacity v =
+    (v.left ≡ w.left - max (end_of next capacity - w.slot) 1) × (v.cancels ≡ w.cancels)
+
+-- it is noted that there may be something to do, and that there is no quiet
+abbrev pub with_work : Sizing → Sizing
+with_work z = record z { has_work = true; quiet_since = NEVER }
+
+-- so, or no more than that there is no quiet, or nothing
+abbrev pub MayNoteWork : Sizing → Sizing → Type 0
+MayNoteWork z y = (y ≡ with_work z) ⊎ (y ≡ record z { quiet_since = NEVER }) ⊎ (y ≡ z)
+
 module _ {T W : Type 0} where
+  -- how many slots the cores have, as far as a word counts
+  abbrev pub slots_in : CoreRow T W → ℕ
+  slots_in s = min (sum_by (λ c. length c.slots.rows) s.cores) (2 ^ 64 - 1)
+
+  -- how many slots the core at a place has, 0 where there is none
+  abbrev pub slots_at : CoreRow T W → ℕ → ℕ
+  slots_at s i = slice_index_or (map (λ c. length c.slots.rows) s.cores) i 0
+
   -- how many slots are free in which no value waits for its drop, at least: one that waits in a worn
   -- slot counts as if it waited in a free one
   abbrev pub clear_slots : Core T W → ℕ
@@ -128,16 +153,45 @@ module _ {T W : Type 0} where
   abbrev pub NoStraggler : StoreState T W → ℕ → Type 0
   NoStraggler s n = (i : ℕ) → i < n → TellsStraggler s i None
 
+  -- a way begins anew at the first slot, and the slots of all cores are on it
+  abbrev pub anew : Sweep → CoreRow T W → Sweep
+  anew w s = record w { place = 0; slot = 0; left = slots_in s }
+
+  -- a way by the cancels that are told: if others were accepted, the slots of all cores are on it
+  -- again, from where it is
+  abbrev pub way_for : Sweep → ℕ → CoreRow T W → Sweep
+  way_for w cancels s =
+      record w {
+        cancels = cancels;
+        left = if nat_eq w.cancels cancels then w.left else slots_in s;
+      }
+
+  -- a way goes on behind the slots that were looked at in a core, and these are taken off
+  abbrev pub GoesOnBehind : Sweep → Option ℕ → CoreRow T W → Sweep → Type 0
+  GoesOnBehind w next s v =
+      WayGoesOn w next (length s.cores) v × TakesOff w next (slots_at s w.place) v
+
+  -- no work is noted, and no entry is to be moved
+  abbrev pub HasNoWork : Sizing → StoreState T W → Type 0
+  HasNoWork z s = (z.has_work ≡ false) × NoStraggler s (length s.cores.cores)
+
+  -- there is quiet since so many cancels, or none: and quiet only if no slot is left on the way, and
+  -- there is no work; whether some core isn't needed is a policy, and isn't said
+  abbrev pub TellsQuiet : Sizing → ℕ → StoreState T W → Type 0
+  TellsQuiet z cancels s =
+      (z.quiet_since ≡ NEVER)
+      ⊎ ((z.quiet_since ≡ cancels) × (z.sweep.left ≡ 0) × HasNoWork z s)
+
   -- the next slots of a way are swept, so many at most, and it goes on behind them; where nothing is
   -- linked in the core there, or there is no such core, it goes on to the next one
   abbrev pub SweepsNext : Bool → ℕ → Sweep → StoreState T W → Sweep → StoreState T W → Type 0
   SweepsNext shared most w s v t =
       (t.notes ≡ s.notes)
       × ((((c : Core T W) → IsCoreAt s.cores.cores w.place c → linked_in c ≡ 0)
-      × (t.cores ≡ s.cores) × WayGoesOn w None (length s.cores.cores) v)
+      × (t.cores ≡ s.cores) × GoesOnBehind w None s.cores v)
       ⊎ ((swept : Swept)
       × OnCoreAt w.place (SweepsFrom shared w.slot (w.slot + most) swept) s.cores t.cores
-      × WayGoesOn w swept.next (length s.cores.cores) v))
+      × GoesOnBehind w swept.next s.cores v))
 
 module _ {W : Type 0} where
   -- a folded core of that many slots stands at a place

@@ -8,11 +8,12 @@
 //!
 //! The numbers here are a policy: any others would keep what the calls of a [`Store`] promise.
 
-ghost use Rattle.std.specs.Prelude.{◌≡◌, ◌≤◌, max, true, false, length, IfSome, IfNone, IfErr, OnOk};
+ghost use Rattle.std.specs.Prelude.{◌≡◌, ◌≤◌, ◌⊎◌, max, true, false, length, IfSome, IfNone, IfErr, OnOk, OnSome};
 ghost use Rattle.dq_core.specs.Core.{Core};
 ghost use Rattle.dq_core.specs.Folds.{IsFoldable};
 ghost use Rattle.dq_growing.specs.Moving.{HasOpenRoom};
-ghost use Rattle.dq_growing.specs.Sizing.{clear_slots, HasClearAt, IsRoomier, IsRoomiest, HasNoneToOpen, HasNoRoom, OnlyOpens, ComesInto, OpensIf, OpensWanted, StaysOpen, WasBeside, AllWere, IsNearlyDrained, TellsStraggler, IsStraggler, NoStraggler, MayMake};
+ghost use Rattle.dq_growing.specs.Sizing.{anew, clear_slots, slots_in, with_work, HasNoWork, MayNoteWork, HasClearAt, IsRoomier, IsRoomiest, HasNoneToOpen, HasNoRoom, OnlyOpens, ComesInto, OpensIf, OpensWanted, StaysOpen, WasBeside, AllWere, IsNearlyDrained, TellsStraggler, IsStraggler, NoStraggler, MayMake};
+ghost use Rattle.dq_growing.specs.declared.TheConstants.{NEVER};
 ghost use Rattle.dq_growing.specs.declared.sizing.TheConstants.{CORES};
 ghost use Rattle.dq_ticks.specs.declared.TheConstants.{CAPACITY_LIMIT};
 ghost use Rattle.dq_growing.specs.Stands.{SameStand};
@@ -124,7 +125,9 @@ fn is_small<T, W: Words, A: Allocator>(core: &DelayCore<T, W, A>) -> bool {
 }
 
 // How many slots there are, worn ones among them.
-pub(crate) fn slots<T, W: Words, A: Allocator>(cores: &Cores<T, W, A>) -> usize {
+pub(crate) fn slots<T, W: Words, A: Allocator>(cores: &Cores<T, W, A>) -> usize
+    ensures { result ≡ slots_in cores.now }
+{
     let mut slots = 0usize;
     for at in 0..cores.count() {
         if let Some(core) = cores.get(at) {
@@ -211,19 +214,25 @@ impl Sizing {
 
     /// The number of cancels since which there is nothing to do, and else `u64::MAX`.
     #[inline(always)]
-    pub fn quiet_since(&self) -> u64 {
+    pub fn quiet_since(&self) -> u64
+        ensures { result ≡ self.now.quiet_since }
+    {
         self.quiet_since
     }
 
     /// Whether there may be something to do.
     #[inline(always)]
-    pub fn has_work(&self) -> bool {
+    pub fn has_work(&self) -> bool
+        ensures { result ≡ self.now.has_work }
+    {
         self.has_work
     }
 
     /// Notes that there may be something to do.
     #[cold]
-    pub fn note_work(&mut self) {
+    pub fn note_work(&mut self)
+        ensures { self.new ≡ with_work self.old }
+    {
         self.has_work = true;
         self.quiet_since = NEVER;
     }
@@ -245,6 +254,7 @@ impl Sizing {
 
         // No more changes than which core is open.
         ensures opens { OnlyOpens store.old store.new }
+        ensures notes { MayNoteWork self.old self.new }
     {
         if has_open_room(store.cores()) {
             return true;
@@ -261,6 +271,7 @@ impl Sizing {
         ensures clear { result ≡ true → HasClearAt store.new.cores store.new.cores.opened }
         ensures none { result ≡ false → HasNoneToOpen any_will_do store.old.cores }
         ensures opens { OnlyOpens store.old store.new }
+        ensures notes { MayNoteWork self.old self.new }
     {
         let room = roomiest(store.cores(), any_will_do);
         if room.free == 0 {
@@ -344,6 +355,10 @@ impl Sizing {
         ensures opens { OnOk result (OpensWanted store.old.cores store.new.cores) }
         ensures stands { SameStand (StandsFor store.old) (StandsFor store.new) }
         ensures back { IfErr result (λ c. (c ≡ core) × (store.new.cores ≡ store.old.cores)) }
+
+        // The way of the sweeps begins anew, and it is noted that there may be something to do.
+        ensures notes { self.new
+            ≡ with_work (record self.old { sweep = anew self.old.sweep store.new.cores }) }
     {
         let is_needed = !has_open_room(store.cores()) || self.is_to_be_exchanged(store.cores());
         let taken = take_in(store, core, is_needed);
@@ -406,6 +421,12 @@ impl Sizing {
         ensures drained { IfSome result (λ c. IsFoldable c × WasBeside store.old.cores c) }
         ensures opens { StaysOpen store.old.cores store.new.cores }
         ensures stands { SameStand (StandsFor store.old) (StandsFor store.new) }
+
+        // The way of the sweeps begins anew, unless the store is as it was. No work is noted any more.
+        ensures anew { OnSome result (self.new.sweep ≡ anew self.old.sweep store.old.cores) }
+        ensures stays { IfNone result ((self.new.sweep ≡ anew self.old.sweep store.old.cores)
+            ⊎ ((self.new.sweep ≡ self.old.sweep) × (store.new ≡ store.old))) }
+        ensures work { self.new ≡ record self.old { has_work = false; sweep = self.new.sweep } }
     {
         self.has_work = false;
         if !self.has_needless(store.cores()) {
@@ -465,7 +486,10 @@ impl Sizing {
     }
 
     /// Whether something is to be done, beside a sweep.
-    pub fn is_busy<T, W: Words, A: Allocator + Clone>(&self, store: &Store<T, W, A>) -> bool {
+    pub fn is_busy<T, W: Words, A: Allocator + Clone>(&self, store: &Store<T, W, A>) -> bool
+        // Whether some core isn't needed is a policy without a contract.
+        ensures { result ≡ false → HasNoWork self.now store.now }
+    {
         self.has_work || self.straggler(store).is_some() || self.has_needless(store.cores())
     }
 
@@ -475,7 +499,9 @@ impl Sizing {
         &mut self,
         store: &Store<T, W, A>,
         left: u64,
-    ) {
+    )
+        ensures { MayNoteWork self.old self.new }
+    {
         let looks = left < LAST || left % LOOKS == 0;
         if looks && may_shrink(store.cores()) {
             self.look_after(store);
@@ -483,7 +509,13 @@ impl Sizing {
     }
 
     #[cold]
-    fn look_after<T, W: Words, A: Allocator + Clone>(&mut self, store: &Store<T, W, A>) {
+    fn look_after<T, W: Words, A: Allocator + Clone>(&mut self, store: &Store<T, W, A>)
+        ensures notes { MayNoteWork self.old self.new }
+
+        // There is no quiet while an entry is to be moved.
+        ensures quiet { (self.new.quiet_since ≡ NEVER)
+            ⊎ NoStraggler store.now (length store.now.cores.cores) }
+    {
         if self.is_too_large(store.cores()) || self.has_needless(store.cores()) {
             self.note_work();
         } else if self.quiet_since != NEVER && self.straggler(store).is_some() {

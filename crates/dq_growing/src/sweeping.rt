@@ -1,7 +1,7 @@
 //! How cancelled entries are freed where there is time: a few slots of a core at once, round and round.
 
-ghost use Rattle.std.specs.Prelude.{◌≡◌, ◌≤◌, ◌+◌, ◌-◌, max, true, false, MatchOption, None};
-ghost use Rattle.dq_growing.specs.Sizing.{WayGoesOn, SweepsNext, end_of};
+ghost use Rattle.std.specs.Prelude.{◌≡◌, ◌<◌, ◌↔◌, true, false, MatchOption, None, IsTrue};
+ghost use Rattle.dq_growing.specs.Sizing.{WayGoesOn, TakesOff, SweepsNext, TellsQuiet, way_for};
 
 use crate::NEVER;
 use crate::sizing::{Sizing, slots};
@@ -43,7 +43,9 @@ impl Sweep {
     }
 
     // Begins the way anew, on which so many slots are.
-    pub fn restart(&mut self, slots: usize) {
+    pub fn restart(&mut self, slots: usize)
+        ensures { self.new ≡ record self.old { place = 0; slot = 0; left = slots } }
+    {
         self.place = 0;
         self.slot = 0;
         self.left = slots;
@@ -53,8 +55,8 @@ impl Sweep {
     fn go_on(&mut self, next: Option<usize>, capacity: usize, cores: usize)
         ensures goes_on { WayGoesOn self.old next cores self.new }
 
-        // No more slots are taken off than were looked at; but a core of none counts as one.
-        ensures left { self.old.left ≤ self.new.left + max (end_of next capacity - self.old.slot) 1 }
+        // The slots that were looked at are taken off; but a core of none counts as one.
+        ensures left { TakesOff self.old next capacity self.new }
     {
         let end = next.unwrap_or(capacity);
         let looked_at = end.saturating_sub(self.slot).max(1);
@@ -75,14 +77,22 @@ impl Sizing {
         store: &mut Store<T, W, A>,
         cancels: u64,
     ) -> bool
-        // The next slots of its way are swept, and it goes on behind them.
-        ensures sweeps { result ≡ true
-            → SweepsNext W.shared 256 self.old.sweep store.old self.new.sweep store.new }
+        // The next slots of its way are swept, and it goes on behind them. If other cancels are told than
+        // before, all slots are on it again.
+        ensures sweeps { result ≡ true → SweepsNext W.shared 256
+            (way_for self.old.sweep cancels store.old.cores) store.old self.new.sweep store.new }
 
-        // Else nothing changes; and where there are as many cancels as before, no slot was left.
+        // Else nothing changes: that is exactly if no slot is left on the way.
         ensures rests { result ≡ false → store.new ≡ store.old }
-        ensures left { result ≡ false
-            → self.old.sweep.cancels ≡ cancels → self.old.sweep.left ≡ 0 }
+        ensures stays { result ≡ false
+            → self.new.sweep ≡ way_for self.old.sweep cancels store.old.cores }
+        ensures left { IsTrue result ↔ (0 < (way_for self.old.sweep cancels store.old.cores).left) }
+        ensures noted { self.new.sweep.cancels ≡ cancels }
+
+        // If there is quiet since these cancels, no slot is left and there is no work.
+        ensures quiet { TellsQuiet self.new cancels store.new }
+        ensures rest { self.new
+            ≡ record self.old { quiet_since = self.new.quiet_since; sweep = self.new.sweep } }
     {
         if self.sweep.cancels != cancels {
             self.sweep.cancels = cancels;
@@ -103,14 +113,17 @@ impl Sizing {
         store: &Store<T, W, A>,
         cancels: u64,
     )
-        ensures { self.new.sweep ≡ self.old.sweep }
+        ensures quiet { TellsQuiet self.new cancels store.now }
+        ensures rest { self.new ≡ record self.old { quiet_since = self.new.quiet_since } }
     {
         let is_quiet = self.sweep.left == 0 && !self.is_busy(store);
         self.quiet_since = if is_quiet { cancels } else { NEVER };
     }
 
     fn sweep_some<T, W: Words, A: Allocator + Clone>(&mut self, store: &mut Store<T, W, A>)
-        ensures { SweepsNext W.shared 256 self.old.sweep store.old self.new.sweep store.new }
+        ensures sweeps { SweepsNext W.shared 256
+            self.old.sweep store.old self.new.sweep store.new }
+        ensures rest { self.new ≡ record self.old { sweep = self.new.sweep } }
     {
         let cores = store.cores().count();
         let Some(core) = store.cores().get(self.sweep.place) else {
