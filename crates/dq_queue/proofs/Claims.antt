@@ -1,5 +1,5 @@
 -- The words of a shard's cores stay claimed.
-use Rattle.std.proofs.Common.{true, ◌≡◌, ◌⊎◌, ℕ, ◌<◌, ◌≤◌, ◌+◌, Bool, List, [], ◌∷◌, ◌++◌, length, get_or, sym, refl, ap, ◌∙◌, subst, inl, inr, ⊎_elim, length-set, arith, Option, Some, None, Result, Ok, Err, OnOk, IfSome, IfNone, remove}
+use Rattle.std.proofs.Common.{true, ◌≡◌, ◌⊎◌, ℕ, ◌<◌, ◌≤◌, ◌+◌, List, [], ◌∷◌, ◌++◌, length, get_or, sym, ap, ◌∙◌, subst, inl, inr, ⊎_elim, length-set, arith, Option, Some, None, Result, Ok, Err, OnOk}
 use Rattle.std.proofs.lemmas.List.{get_or_default}
 use mathlib.Core.Logic.{dite}
 use native.Mathlib.Decide.{ℕ_discrete}
@@ -19,16 +19,16 @@ use Rattle.dq_growing.specs.declared.moving.Moved.{Moved}
 use Rattle.dq_growing.specs.declared.moving.Moved.TheVariants.{To, Out}
 use Rattle.dq_growing.specs.declared.moving.NextDeadline.{NextDeadline}
 use Rattle.dq_growing.specs.declared.moving.NextDeadline.TheVariants.{At}
-use Rattle.dq_growing.specs.Cores.{CoreRow, IsCoreAt, HasAt, EachOf, OnCore, OnCoreAt, OnCoreOr, InsertsIn, TakesIn, GivesDrained}
+use Rattle.dq_growing.specs.Cores.{CoreRow, IsCoreAt, OnCore, OnCoreAt, OnCoreOr, InsertsIn, GivesDrained}
 use Rattle.dq_growing.specs.Moving.{GoesTo, Relocates}
 use Rattle.dq_growing.specs.Polls.{PollsRow, DoesPiece}
 use Rattle.dq_growing.specs.Stands.{KeepsWords}
-use Rattle.dq_growing.specs.Store.{StoreState, AfterReset, RelocatesFor, RelocatesAt, RemovesAt}
+use Rattle.dq_growing.specs.Store.{StoreState, AfterReset, PollsFor, ReapsFor, RelocatesFor, RemovesAt, RemovesFor, ResetsFor, TellsFor}
 use Rattle.dq_growing.proofs.Rows.{one_at, at_snoc, removed_at, snoc_long, snoc_before, snoc_last}
 use Rattle.dq_words.specs.KeeperCalls.{HasBegun}
 use Rattle.dq_words.specs.OpenCalls.{Open}
 use Rattle.dq_words.specs.Seats.{Sat}
-use Rattle.dq_queue.specs.Calls.{StoreInserts, StoreRemoves, StoreResets, StoreTells, StorePollsSome, StoreTakesIn, StoreGives, StoreRelocates, StoreReaps}
+use Rattle.dq_queue.specs.Calls.{StoreTakesIn, StoreGives}
 use Rattle.dq_queue.specs.Claims.{IsClaimAt, AreClaimsOf, HasClaim, AgreeWith, ClaimsWords, AreClaimed, KeepsClaims, IsOfItsWords}
 use Rattle.dq_queue.specs.Words.{PromiseView, IsPromiseOf}
 
@@ -79,23 +79,23 @@ module _ {T : Type 0} where
   same_store : (s t : StoreState T Sat) → t ≡ s → SameLength s.cores t.cores
   same_store s t e = ap (λ (r : StoreState T Sat). length r.cores.cores) e
 
-  pub inserts_long : (s t : StoreState T Sat) (v : T) (when : ℕ) (r : Result Key (CoreError × T) × Option T) → StoreInserts v when r s t → SameLength s.cores t.cores
-  inserts_long s t v when r (inl on, notes) = at_long s.cores t.cores s.cores.opened _ on
-  inserts_long s t v when r (inr y, notes) = same_row s.cores t.cores y.2
+  pub inserts_long : (s t : StoreState T Sat) (v : T) (when : ℕ) (r : Result Key (CoreError × T) × Option T) → InsertsIn s.cores v when r t.cores → SameLength s.cores t.cores
+  inserts_long s t v when r (inl on) = at_long s.cores t.cores s.cores.opened _ on
+  inserts_long s t v when r (inr y) = same_row s.cores t.cores y.2
 
   removes_at : (s t : StoreState T Sat) (u p : EntryId) (r : Result (Removed T) CoreError) → RemovesAt true s u r t p → SameLength s.cores t.cores
   removes_at s t u p (Ok x) did = on_long s.cores t.cores p.shard _ did.1
   removes_at s t u p (Err e) did = or_long s.cores t.cores p.shard _ _ did.0
 
-  pub removes_long : (s t : StoreState T Sat) (u : EntryId) (r : Result (Removed T) CoreError) → StoreRemoves u r s t → SameLength s.cores t.cores
+  pub removes_long : (s t : StoreState T Sat) (u : EntryId) (r : Result (Removed T) CoreError) → RemovesFor true s u r t → SameLength s.cores t.cores
   removes_long s t u r (inl y) = removes_at s t u y.0 r y.2
   removes_long s t u r (inr y) = same_store s t y.1.1
 
-  pub tells_long : (s t : StoreState T Sat) (u : EntryId) (r : Result ℕ CoreError) → StoreTells u r s t → SameLength s.cores t.cores
+  pub tells_long : (s t : StoreState T Sat) (u : EntryId) (r : Result ℕ CoreError) → TellsFor true s u r t → SameLength s.cores t.cores
   tells_long s t u r (inl y) = or_long s.cores t.cores _ _ _ y.2.0
   tells_long s t u r (inr y) = same_store s t y.1.1
 
-  pub reaps_long : (s t : StoreState T Sat) (u : EntryId) (r : Result (Unit {0}) ReapError) → StoreReaps u r s t → SameLength s.cores t.cores
+  pub reaps_long : (s t : StoreState T Sat) (u : EntryId) (r : Result (Unit {0}) ReapError) → ReapsFor true s u r t → SameLength s.cores t.cores
   reaps_long s t u r (inl y) = or_long s.cores t.cores _ _ _ y.2.0
   reaps_long s t u r (inr y) = same_store s t y.1.1
 
@@ -104,7 +104,7 @@ module _ {T : Type 0} where
   polls_row s t tick most (Ok p) (small, inr core) = at_long _ t core.place _ core.did
   polls_row s t tick most (Err e) y = same_row s t y.2
 
-  pub polls_long : (s t : StoreState T Sat) (tick most : ℕ) (r : Result (Piece T) CoreError) → StorePollsSome tick most r s t → SameLength s.cores t.cores
+  pub polls_long : (s t : StoreState T Sat) (tick most : ℕ) (r : Result (Piece T) CoreError) → PollsFor (DoesPiece true most) s tick r t → SameLength s.cores t.cores
   polls_long s t tick most r y = polls_row s.cores t.cores tick most y.0 y.1
 
   goes_long : (m t : CoreRow T Sat) (x : Removed T) (next : NextDeadline) (moved : Moved T) (beside : Option T) → GoesTo m x next moved beside t → SameLength m t
@@ -124,7 +124,7 @@ module _ {T : Type 0} where
   moves_long s t p next (Err BadConfig) beside y = or_long s t p.shard _ _ y.3
   moves_long s t p next (Err NoMemory) beside y = or_long s t p.shard _ _ y.3
 
-  pub relocates_long : (s t : StoreState T Sat) (u : EntryId) (next : NextDeadline) (r : Result (Moved T) CoreError × Option T) → StoreRelocates u next r s t → SameLength s.cores t.cores
+  pub relocates_long : (s t : StoreState T Sat) (u : EntryId) (next : NextDeadline) (r : Result (Moved T) CoreError × Option T) → RelocatesFor true s u next r t → SameLength s.cores t.cores
   relocates_long s t u next r (inl (p, meant, inl y)) = same_row s.cores t.cores y.1
   relocates_long s t u next r (inl (p, meant, inr y)) = moves_long s.cores t.cores p next y.0 r.1 y.1
   relocates_long s t u next r (inr y) = same_store s t y.1.1
@@ -134,7 +134,7 @@ module _ {T : Type 0} where
   after_long m t u when (Err e) r beside (inl y) = relocates_long m t u (At when) (y.1.0, beside) y.1.1
   after_long m t u when (Err e) r beside (inr y) = same_store m t y.3
 
-  pub resets_long : (s t : StoreState T Sat) (u : EntryId) (when : ℕ) (r : Result Key CoreError) (beside : Option T) → StoreResets u when (r, beside) s t → SameLength s.cores t.cores
+  pub resets_long : (s t : StoreState T Sat) (u : EntryId) (when : ℕ) (r : Result Key CoreError) (beside : Option T) → ResetsFor true s u when (r, beside) t → SameLength s.cores t.cores
   resets_long s t u when r beside (inl (p, meant, (made, m, on, after))) = after_long _ t u when made r beside after ∙ or_long s.cores m p.shard _ _ on
   resets_long s t u when r beside (inr y) = same_store s t y.1.1
 

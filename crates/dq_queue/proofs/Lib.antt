@@ -1,3 +1,4 @@
 pub mod Claims
 pub mod Histories
 pub mod Outs
+pub mod Runs

@@ -1,5 +1,5 @@
 -- What a store's answers say of the true words.
-use Rattle.std.proofs.Common.{true, ◌≡◌, ◌⊎◌, ℕ, zero, suc, ◌+◌, ◌<◌, ◌≤◌, List, [], ◌∷◌, length, get_or, set, min, sym, refl, ap, ◌∙◌, subst, ⊎_elim, length-set, get_or-set_same, arith, Option, Some, None, Result, Ok, Err, IfOk}
+use Rattle.std.proofs.Common.{true, ◌≡◌, ℕ, zero, suc, ◌+◌, ◌<◌, ◌≤◌, List, [], ◌∷◌, length, get_or, set, min, sym, refl, ap, ◌∙◌, subst, ⊎_elim, length-set, get_or-set_same, arith, Option, Some, None, Result, Ok, Err, IfOk}
 use Rattle.atomic_table.specs.Table.{State}
 use mathlib.Core.Option.{some, some-injective, some-ne-none}
 use lib.ListN.{get_elem?}
@@ -21,7 +21,7 @@ use Rattle.dq_growing.specs.Cores.{CoreRow, IsCoreAt, HasAt, EachOf, OnCoreAt, I
 use Rattle.dq_growing.specs.Notes.{with_id, or_own, user_at, place_by, meant_place}
 use Rattle.dq_growing.specs.Stands.{HasEntry, KeepsWords}
 use Rattle.dq_growing.specs.Polls.{PollsRow, PollsCore, DoesPiece, IfPieceOut, noting_in}
-use Rattle.dq_growing.specs.Store.{StoreState, IsStore, expired_as, piece_as}
+use Rattle.dq_growing.specs.Store.{StoreState, IsStore, PollsFor, expired_as, piece_as}
 use Rattle.dq_growing.proofs.Keeping.{told_out, way_stood}
 use Rattle.dq_growing.proofs.Rows.{one_at}
 use Rattle.dq_growing.proofs.Standing.{some_is}
@@ -35,7 +35,7 @@ use Rattle.dq_words.specs.KeeperCalls.{HasBegun}
 use Rattle.dq_words.specs.Plays.{Covers}
 use Rattle.dq_words.specs.Seats.{Sat}
 use Rattle.dq_words.specs.Together.{IsBeside}
-use Rattle.dq_queue.specs.Calls.{KeepsPromise, StorePollsSome}
+use Rattle.dq_queue.specs.Calls.{KeepsPromise}
 use Rattle.dq_queue.specs.Endings.{InEachTable, EndsInForce, WasGivenOnce, IsKeptCore, CameInForce, KeepsWhatItShowed, CameOutOf, StoreOutsAreInForce, StoreInsertsAreGiven}
 use Rattle.dq_queue.specs.Words.{PromiseView}
 use Rattle.dq_queue.proofs.Claims.{table_by}
@@ -217,7 +217,7 @@ module _ {T : Type 0} where
 
   -- what came out of a core that the promise's words are of keeps the promise
   pub keeps_promise : StoreOutsAreInForce T → (s t : StoreState T Sat) (tick most : ℕ) (r : Result (Piece T) CoreError) (p : PromiseView)
-      → IsStore s → StorePollsSome tick most r s t → KeepsWords table_by HasBegun s.cores t.cores → EachOf t.cores p.claim.number (λ c. IsBeside c.words p.receipt)
+      → IsStore s → PollsFor (DoesPiece true most) s tick r t → KeepsWords table_by HasBegun s.cores t.cores → EachOf t.cores p.claim.number (λ c. IsBeside c.words p.receipt)
       → EachOf t.cores p.claim.number (λ c. IsLawfulCore c × (c.known ≡ parts_row c.words.view.seen)) → IfPieceOut r (KeepsPromise s.notes p)
   keeps_promise outs s t tick most (Ok (Answer (Out x))) p law polled words beside lawful = λ place meant number.
       let o = outs s t tick most (Ok (Answer (Out x))) polled in
@@ -269,4 +269,4 @@ given T once s t value when k beside inserted = ⊎_elim
     (on.after, on_core s.cores t.cores s.cores.opened _ on, given_at T once on.before on.after value when k on.did.0))
     (λ (closed : IsClosed s.cores × ((Ok k, beside) ≡ (Err (closed_error when, value), None)) × (t.cores ≡ s.cores)).
     absurd (ok_not_err _ _ (ap (λ p. p.0) closed.1)))
-    inserted.0
+    inserted

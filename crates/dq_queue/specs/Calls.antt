@@ -1,5 +1,5 @@
--- What one call does to what lies behind a shard's lock.
-use Rattle.std.specs.Prelude.{◌≡◌, ◌⊎◌, ℕ, true, Option, Some, Result, IfErr, IfSome, IfNone, OnOk}
+-- What one call does to what lies behind a shard's lock. Each keeps the ids that entries have had.
+use Rattle.std.specs.Prelude.{◌≡◌, ◌⊎◌, ℕ, true, Option, Some, Result, IfOk, IfErr, IfSome, IfNone, OnOk}
 use Rattle.dq_ticks.specs.declared.keys.Key.{Key}
 use Rattle.dq_ticks.specs.declared.keys.EntryId.{EntryId}
 use Rattle.dq_core.specs.declared.errors.CoreError.{CoreError}
@@ -10,11 +10,13 @@ use Rattle.dq_core.specs.Core.{Core}
 use Rattle.dq_growing.specs.declared.cores.TakeError.{TakeError}
 use Rattle.dq_growing.specs.Cores.{InsertsIn, TakesIn, GivesDrained, NoneDrained}
 use Rattle.dq_growing.specs.Notes.{Book, meant_place}
-use Rattle.dq_growing.specs.Polls.{PollsRow, DoesPiece, IfPieceOut}
+use Rattle.dq_growing.specs.Moving.{IfCameOut}
+use Rattle.dq_growing.specs.Polls.{DoesPiece, IfPieceOut}
+use Rattle.dq_growing.specs.Runs.{KeepsIds, KeepsIdsBeside, GivesId}
 use Rattle.dq_core.specs.declared.errors.ReapError.{ReapError}
 use Rattle.dq_growing.specs.declared.moving.Moved.{Moved}
 use Rattle.dq_growing.specs.declared.moving.NextDeadline.{NextDeadline}
-use Rattle.dq_growing.specs.Store.{StoreState, RemovesFor, TellsFor, ResetsFor, RelocatesFor, ReapsFor, piece_as, NotesAfter}
+use Rattle.dq_growing.specs.Store.{StoreState, RemovesFor, TellsFor, ResetsFor, RelocatesFor, ReapsFor, PollsFor, HasFor, HasOneValue, GoesOut}
 use Rattle.dq_words.specs.Plays.{Covers}
 use Rattle.dq_words.specs.Seats.{Sat}
 use Rattle.dq_queue.specs.Words.{PromiseView}
@@ -28,32 +30,42 @@ module _ {T : Type 0} where
       (place : EntryId) → meant_place n x.key.entry ≡ Some place → place.shard ≡ p.claim.number →
       Covers p.receipt.view.calls place.index x.key.stamp x.deadline
 
-  -- a value comes in at a deadline, and the notes stay
+  -- under an id an entry stands with that value, and what stands there has no other
+  abbrev pub HasOnly : StoreState T Sat → EntryId → T → Type 0
+  HasOnly s u v = HasFor s u v × HasOneValue s u
+
+  -- an entry stands with that value under an id that none had had
+  abbrev pub ComesNew : StoreState T Sat → EntryId → T → StoreState T Sat → Type 0
+  ComesNew s u v t = GivesId s u t × HasOnly t u v
+
+  -- a value comes in at a deadline, under an id that no entry has had, and the notes stay
   abbrev pub StoreInserts : T → ℕ → Result Key (CoreError × T) × Option T → StoreState T Sat →
       StoreState T Sat → Type 0
-  StoreInserts v when r s t = InsertsIn s.cores v when r t.cores × (t.notes ≡ s.notes)
+  StoreInserts v when r s t =
+      InsertsIn s.cores v when r t.cores × (t.notes ≡ s.notes) × KeepsIds s t
+      × IfOk r.0 (λ k. ComesNew s k.entry v t)
 
-  -- an entry is taken out
+  -- an entry is taken out, and leaves with its value
   abbrev pub StoreRemoves : EntryId → Result (Removed T) CoreError → StoreState T Sat →
       StoreState T Sat → Type 0
-  StoreRemoves id r s t = RemovesFor true s id r t
+  StoreRemoves id r s t =
+      RemovesFor true s id r t × KeepsIds s t × IfOk r (λ x. GoesOut s id x.value t)
 
   -- an entry gets another deadline
   abbrev pub StoreResets : EntryId → ℕ → Result Key CoreError × Option T → StoreState T Sat →
       StoreState T Sat → Type 0
-  StoreResets id when r s t = ResetsFor true s id when r t
+  StoreResets id when r s t = ResetsFor true s id when r t × KeepsIds s t
 
   -- an entry's deadline is told
   abbrev pub StoreTells : EntryId → Result ℕ CoreError → StoreState T Sat → StoreState T Sat → Type 0
-  StoreTells id r s t = TellsFor true s id r t
+  StoreTells id r s t = TellsFor true s id r t × KeepsIds s t
 
-  -- a tick is noted, and a piece of a poll is done
+  -- a tick is noted, and a piece of a poll is done; what comes out leaves with its value
   abbrev pub StorePollsSome : ℕ → ℕ → Result (Piece T) CoreError → StoreState T Sat →
       StoreState T Sat → Type 0
   StorePollsSome tick most r s t =
-      (made : Result (Piece T) CoreError)
-      × PollsRow (DoesPiece true most) s.cores tick made t.cores
-      × (r ≡ piece_as s.notes made) × NotesAfter s.notes made t.notes
+      PollsFor (DoesPiece true most) s tick r t × KeepsIds s t
+      × IfPieceOut r (λ x. GoesOut s x.key.entry x.value t)
 
   -- a piece of a poll, of which what comes out keeps what a call promised
   abbrev pub StorePollsBeside : PromiseView → ℕ → ℕ → Result (Piece T) CoreError →
@@ -61,28 +73,32 @@ module _ {T : Type 0} where
   StorePollsBeside p tick most r s t =
       StorePollsSome tick most r s t × IfPieceOut r (KeepsPromise s.notes p)
 
-  -- a core comes in, which is open from then on; or it comes back, and the store stays
+  -- a core comes in, which is open from then on; or it comes back, and the store stays. It keeps the
+  -- ids that it doesn't give anew
   abbrev pub StoreTakesIn : Core T Sat → Result (Unit {0}) (TakeError × Core T Sat) →
       StoreState T Sat → StoreState T Sat → Type 0
   StoreTakesIn c r s t =
       OnOk r (TakesIn s.cores c t.cores) × IfErr r (λ e. (e.1 ≡ c) × (t.cores ≡ s.cores))
-      × (t.notes ≡ s.notes)
+      × (t.notes ≡ s.notes) × KeepsIdsBeside c s t
 
   -- a core that has drained is taken out; none is exactly where none has
   abbrev pub StoreGives : Option (Core T Sat) → StoreState T Sat → StoreState T Sat → Type 0
   StoreGives r s t =
       IfSome r (λ c. GivesDrained s.cores c t.cores)
       × IfNone r (NoneDrained s.cores × (t.cores ≡ s.cores)) × (t.notes ≡ s.notes)
+      × KeepsIds s t
 
-  -- an entry goes on in the open core
+  -- an entry goes on in the open core, or leaves with its value
   abbrev pub StoreRelocates : EntryId → NextDeadline → Result (Moved T) CoreError × Option T →
       StoreState T Sat → StoreState T Sat → Type 0
-  StoreRelocates id next r s t = RelocatesFor true s id next r t
+  StoreRelocates id next r s t =
+      RelocatesFor true s id next r t × KeepsIds s t
+      × IfOk r.0 (λ moved. IfCameOut moved (λ x. GoesOut s id x.value t))
 
   -- a cancelled entry is freed
   abbrev pub StoreReaps : EntryId → Result (Unit {0}) ReapError → StoreState T Sat →
       StoreState T Sat → Type 0
-  StoreReaps id r s t = ReapsFor true s id r t
+  StoreReaps id r s t = ReapsFor true s id r t × KeepsIds s t
 
   -- one call took a store from one state to another
   abbrev pub IsStoreCall : StoreState T Sat → StoreState T Sat → Type 0

@@ -1,5 +1,5 @@
 -- How the entries of a store over keepers' words end.
-use Rattle.std.specs.Prelude.{◌≡◌, ℕ, ◌+◌, ◌≤◌, Option, Result, Ok, length, slice_index}
+use Rattle.std.specs.Prelude.{◌≡◌, true, ℕ, ◌+◌, ◌≤◌, Option, Result, Ok, length, slice_index}
 use Rattle.atomic_table.specs.Table.{State}
 use mathlib.Core.Option.{some}
 use lib.ListN.{get_elem?}
@@ -9,11 +9,11 @@ use Rattle.dq_core.specs.Machine.{Entry}
 use Rattle.dq_core.specs.declared.errors.CoreError.{CoreError}
 use Rattle.dq_core.specs.declared.outcomes.Expired.{Expired}
 use Rattle.dq_core.specs.declared.outcomes.Piece.{Piece}
-use Rattle.dq_growing.specs.Cores.{IsCoreAt}
+use Rattle.dq_growing.specs.Cores.{IsCoreAt, InsertsIn}
 use Rattle.dq_growing.specs.Notes.{user_at}
-use Rattle.dq_growing.specs.Polls.{IfPieceOut}
+use Rattle.dq_growing.specs.Polls.{DoesPiece, IfPieceOut}
 use Rattle.dq_growing.specs.Stands.{HasEntry}
-use Rattle.dq_growing.specs.Store.{StoreState, expired_as}
+use Rattle.dq_growing.specs.Store.{StoreState, PollsFor, expired_as}
 use Rattle.dq_words.specs.declared.views.View.{View}
 use Rattle.dq_words.specs.Endings.{lives_at}
 use Rattle.dq_words.specs.Files.{File, file, IsIn, IsDeadline}
@@ -22,7 +22,6 @@ use Rattle.dq_words.specs.Rule.{Ruled}
 use Rattle.dq_words.specs.Seats.{Sat}
 use Rattle.dq_words.specs.Together.{IsBeside}
 use Rattle.dq_words.specs.Word.{parts_row}
-use Rattle.dq_queue.specs.Calls.{StoreInserts, StorePollsSome}
 
 -- It holds whatever the table of the words is, where it meets the rule and the keeper has this
 -- view. The true table of that moment is one of them.
@@ -88,13 +87,13 @@ module _ {T : Type 0} where
 abbrev pub StoreOutsAreInForce : Type 0 → Type 0
 StoreOutsAreInForce T =
     (s t : StoreState T Sat) (tick most : ℕ) (r : Result (Piece T) CoreError)
-    → StorePollsSome tick most r s t → IfPieceOut r (λ x. CameOutOf s x t)
+    → PollsFor (DoesPiece true most) s tick r t → IfPieceOut r (λ x. CameOutOf s x t)
 
 -- Whatever key an insert into a store answers is of its open core, and its stamp was given once, by
 -- what that core keeps.
 abbrev pub StoreInsertsAreGiven : Type 0 → Type 0
 StoreInsertsAreGiven T =
     (s t : StoreState T Sat) (value : T) (when : ℕ) (k : Key) (beside : Option T)
-    → StoreInserts value when (Ok k, beside) s t
+    → InsertsIn s.cores value when (Ok k, beside) t.cores
     → (c : Core T Sat) × IsCoreAt t.cores.cores s.cores.opened c
     × (IsKeptCore c → InEachTable c.words.view (WasGivenOnce k))

@@ -1,5 +1,6 @@
 pub mod Calls
 pub mod Claims
 pub mod Endings
+pub mod Runs
 pub mod Shards
 pub mod Words

@@ -1,5 +1,7 @@
-//! How the entries of a queue end: each as its words tell, whoever extended or cancelled it meanwhile.
+//! How the entries of a queue end: each as its words tell, whoever extended or cancelled it meanwhile, and each once, whoever
+//! called.
 ghost use Rattle.dq_queue.specs.Endings.{StoreInsertsAreGiven, StoreOutsAreInForce};
+ghost use Rattle.dq_queue.specs.Runs.{ShardEndedStaysEnded, ShardEntriesLeaveOnce};
 
 use dq_words::endings;
 
@@ -18,3 +20,16 @@ pub fn inserts_are_given<T>()
 {
     endings::stamps_end_once();
 }
+
+/// In a shard's history each entry leaves at most once, whatever calls are made by whatever threads, and has its value until
+/// then. The call by which it left alone may give it out, with that value. From then on none stands under its id, no entry
+/// is given the id, and nothing goes out under it. It is said of each id that no core which comes in gives anew.
+pub fn entries_leave_once<T>()
+    ensures { ShardEntriesLeaveOnce T }
+{}
+
+/// In a shard's history none ever stands again under an id whose entry has left, no entry is given the id, and nothing goes
+/// out under it. It is said of each id that no core which comes in gives anew.
+pub fn ended_stays_ended<T>()
+    ensures { ShardEndedStaysEnded T }
+{}

@@ -1,11 +1,24 @@
 use Rattle.std.proofs.Common.{subst}
+use Rattle.dq_queue.specs.Calls.{StoreInserts}
 use Rattle.dq_queue.specs.Claims.{KeepsClaims}
 use Rattle.dq_queue.specs.Shards.{Held}
 use Rattle.dq_queue.proofs.Claims.{stay_claimed, inserts_long}
+use Rattle.dq_queue.proofs.Runs.{came_new}
 use Rattle.dq_queue.proofs.shard.Held.insert.Goals as goal
 
 pub returns-clause-claims : goal.returns-clause-claims
 returns-clause-claims g c =
     let made = c.insert-answer in
     let P : Held _ → Type 0 = λ h. KeepsClaims h.store made.new.self in
-    subst P c.self.view_is (stay_claimed c.self.inside.store made.new.self made.ensures.words (inserts_long c.self.inside.store made.new.self c.args.value c.args.when made.result (made.ensures.inserts, made.ensures.notes)))
+    subst P c.self.view_is (stay_claimed c.self.inside.store made.new.self made.ensures.words (inserts_long c.self.inside.store made.new.self c.args.value c.args.when made.result made.ensures.inserts))
+
+pub returns-clause-inserts : goal.returns-clause-inserts
+returns-clause-inserts g c =
+    let made = c.insert-answer in
+    let P : Held _ → Type 0 = λ h. StoreInserts c.args.value c.args.when made.result h.store made.new.self in
+    subst P c.self.view_is (
+      made.ensures.inserts,
+      made.ensures.notes,
+      made.ensures.keeps,
+      came_new c.self.inside.store made.new.self c.args.value c.args.when made.result.0 made.ensures.comes made.ensures.gives c.law-2.ensures.one,
+    )

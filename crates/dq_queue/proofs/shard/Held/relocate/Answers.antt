@@ -1,7 +1,9 @@
 use Rattle.std.proofs.Common.{subst}
+use Rattle.dq_queue.specs.Calls.{StoreRelocates}
 use Rattle.dq_queue.specs.Claims.{KeepsClaims}
 use Rattle.dq_queue.specs.Shards.{Held}
 use Rattle.dq_queue.proofs.Claims.{stay_claimed, relocates_long}
+use Rattle.dq_queue.proofs.Runs.{moved_out}
 use Rattle.dq_queue.proofs.shard.Held.relocate.Goals as goal
 
 pub returns-clause-claims : goal.returns-clause-claims
@@ -9,3 +11,9 @@ returns-clause-claims g c =
     let made = c.relocate-answer in
     let P : Held _ → Type 0 = λ h. KeepsClaims h.store made.new.self in
     subst P c.self.view_is (stay_claimed c.self.inside.store made.new.self made.ensures.words (relocates_long c.self.inside.store made.new.self c.args.entry.now c.args.next made.result made.ensures.relocates))
+
+pub returns-clause-relocates : goal.returns-clause-relocates
+returns-clause-relocates g c =
+    let made = c.relocate-answer in
+    let P : Held _ → Type 0 = λ h. StoreRelocates c.args.entry.now c.args.next made.result h.store made.new.self in
+    subst P c.self.view_is (made.ensures.relocates, made.ensures.keeps, moved_out c.self.inside.store made.new.self c.args.entry.now made.result.0 made.ensures.came_out)

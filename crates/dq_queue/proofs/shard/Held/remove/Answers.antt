@@ -1,7 +1,9 @@
 use Rattle.std.proofs.Common.{subst}
+use Rattle.dq_queue.specs.Calls.{StoreRemoves}
 use Rattle.dq_queue.specs.Claims.{KeepsClaims}
 use Rattle.dq_queue.specs.Shards.{Held}
 use Rattle.dq_queue.proofs.Claims.{stay_claimed, removes_long}
+use Rattle.dq_queue.proofs.Runs.{went_out}
 use Rattle.dq_queue.proofs.shard.Held.remove.Goals as goal
 
 pub returns-clause-claims : goal.returns-clause-claims
@@ -9,3 +11,9 @@ returns-clause-claims g c =
     let made = c.remove-answer in
     let P : Held _ → Type 0 = λ h. KeepsClaims h.store made.new.self in
     subst P c.self.view_is (stay_claimed c.self.inside.store made.new.self made.ensures.words (removes_long c.self.inside.store made.new.self c.args.entry.now made.result made.ensures.removes))
+
+pub returns-clause-removes : goal.returns-clause-removes
+returns-clause-removes g c =
+    let made = c.remove-answer in
+    let P : Held _ → Type 0 = λ h. StoreRemoves c.args.entry.now made.result h.store made.new.self in
+    subst P c.self.view_is (made.ensures.removes, made.ensures.keeps, went_out c.self.inside.store made.new.self c.args.entry.now made.result made.ensures.leaves)

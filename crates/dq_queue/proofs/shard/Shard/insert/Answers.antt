@@ -1,4 +1,4 @@
-use Rattle.std.proofs.Common.{sym, ap, ◌∙◌, inl}
+use Rattle.std.proofs.Common.{sym, ap, ◌∙◌, subst, inl}
 use Rattle.dq_growing.specs.Store.{StoreState}
 use Rattle.dq_words.specs.Seats.{Sat}
 use Rattle.dq_queue.specs.Calls.{StoreInserts, IsStoreCall}
@@ -30,3 +30,9 @@ returns-clause-once g c =
     let at = ap (λ (s : HeldShard _). s.held.number) c.self.view_is ∙ (sym c.requires ∙ sym (ap (λ (v : CallerView _). v.shard) c.me.view_is)) in
     once gives c.self.inside.history.view c.me.inside.history.view c.enter_for.new.caller.view c.me.inside.shard _ c.self.inside.held made.new.self c.me.view_is
     c.enter_for.ensures.once s.3 at made.ensures.number made.ensures.stores.0 made.ensures.stores.1 made.ensures.inserts call s.4
+
+pub returns-clause-inserts : goal.returns-clause-inserts
+returns-clause-inserts g c =
+    let made = c.insert-answer in
+    let P : HeldShard _ → Type 0 = λ s. StoreInserts c.args.value c.args.when made.result s.held.store made.new.self.store in
+    subst P c.self.view_is made.ensures.inserts

@@ -3,7 +3,6 @@ use Rattle.dq_growing.specs.Store.{StoreState}
 use Rattle.dq_words.specs.Seats.{Sat}
 use Rattle.dq_queue.specs.Calls.{StorePollsBeside, IsStoreCall}
 use Rattle.dq_queue.specs.Shards.{CallerView, HeldShard}
-use Rattle.dq_queue.proofs.Claims.{its_words}
 use Rattle.dq_queue.proofs.Histories.{once, one_name, stays}
 use Rattle.dq_queue.proofs.shard.Shard.poll_beside.Goals as goal
 
@@ -31,3 +30,9 @@ returns-clause-once g c =
     let at = ap (λ (s : HeldShard _). s.held.number) c.self.view_is ∙ (sym c.requires ∙ sym (ap (λ (v : CallerView _). v.shard) c.me.view_is)) in
     once gives c.self.inside.history.view c.me.inside.history.view c.enter_for.new.caller.view c.me.inside.shard _ c.self.inside.held made.new.self c.me.view_is
     c.enter_for.ensures.once s.3 at made.ensures.number made.ensures.stores.0 made.ensures.stores.1 (made.ensures.polls, made.ensures.kept) call s.4
+
+pub returns-clause-polls : goal.returns-clause-polls
+returns-clause-polls g c =
+    let made = c.poll_beside-answer in
+    let P : HeldShard _ → Type 0 = λ s. StorePollsBeside c.args.promise.now c.args.tick c.args.most made.result s.held.store made.new.self.store in
+    subst P c.self.view_is (made.ensures.polls, made.ensures.kept)

@@ -1,0 +1,170 @@
+-- What a shard's calls leave of the ids that entries have had, and what follows over its history.
+use Rattle.std.proofs.Common.{◌≡◌, ◌⊎◌, ℕ, List, [], ◌∷◌, ◌++◌, Some, Result, Ok, Err, IfOk, refl, sym, ap, ◌∙◌, subst, inl, inr, ⊎_elim, append_assoc}
+use Rattle.dq_ticks.specs.declared.keys.Key.{Key}
+use Rattle.dq_ticks.specs.declared.keys.EntryId.{EntryId}
+use Rattle.dq_core.specs.declared.errors.CoreError.{CoreError}
+use Rattle.dq_core.specs.declared.outcomes.Removed.{Removed}
+use Rattle.dq_core.specs.Core.{Core}
+use Rattle.dq_journal.specs.declared.views.Entry.{Entry}
+use Rattle.dq_growing.specs.declared.cores.TakeError.{TakeError}
+use Rattle.dq_growing.specs.declared.moving.Moved.{Moved}
+use Rattle.dq_growing.specs.declared.moving.Moved.TheVariants.{To, Out}
+use Rattle.dq_growing.specs.Cores.{CoreRow}
+use Rattle.dq_growing.specs.Moving.{IfCameOut}
+use Rattle.dq_growing.specs.Notes.{Book}
+use Rattle.dq_growing.specs.Runs.{IsUsedId, KeepsId, GivesId}
+use Rattle.dq_growing.specs.Stands.{OneLeaves}
+use Rattle.dq_growing.specs.Store.{StoreState, StandsFor, HasFor, HasOneValue, NoneStandsFor, ComesFor, GoesOut}
+use Rattle.dq_growing.proofs.Standing.{some_is}
+use Rattle.dq_growing.proofs.Stored.{stored}
+use Rattle.dq_words.specs.Seats.{Sat}
+use Rattle.dq_queue.specs.Calls.{IsStoreCall, StoreTakesIn, HasOnly, ComesNew}
+use Rattle.dq_queue.specs.Runs.{ByCall, ByEach, BringsNone, StandsOn, LeavesWith, StaysEnded, LeftOnce, ShardEntriesLeaveOnce, ShardEndedStaysEnded}
+use Rattle.dq_queue.specs.Shards.{Held, IsAsLeft, IsStoreHistory}
+
+module _ {T : Type 0} where
+  -- what a removal or a move gave out, and what an insert put in
+
+  pub went_out : (s t : StoreState T Sat) (u : EntryId) (r : Result (Removed T) CoreError) → IfOk r (λ x. OneLeaves (StandsFor s) (StandsFor t) u x.value)
+      → IfOk r (λ x. GoesOut s u x.value t)
+  went_out s t u (Ok x) left = (left.was, left.gone)
+  went_out s t u (Err e) left = tt {0}
+
+  pub moved_out : (s t : StoreState T Sat) (u : EntryId) (r : Result (Moved T) CoreError) → IfOk r (λ m. IfCameOut m (λ x. OneLeaves (StandsFor s) (StandsFor t) u x.value))
+      → IfOk r (λ m. IfCameOut m (λ x. GoesOut s u x.value t))
+  moved_out s t u (Ok (To k d)) left = tt {0}
+  moved_out s t u (Ok (Out x)) left = (left.was, left.gone)
+  moved_out s t u (Err e) left = tt {0}
+
+  pub came_new : (s t : StoreState T Sat) (v : T) (when : ℕ) (r : Result Key (CoreError × T)) → IfOk r (λ k. ComesFor s k v when t) → IfOk r (λ k. GivesId s k.entry t)
+      → ((id : EntryId) → HasOneValue t id) → IfOk r (λ k. ComesNew s k.entry v t)
+  came_new s t v when (Ok k) comes gives one = let c = comes.2 in (gives, ((record { born = k.entry.born; value = v; due = Some comes.0 }, c.here, refl), one k.entry))
+  came_new s t v when (Err e) comes gives one = tt {0}
+
+  -- a call kept an id
+
+  same_id : (s : StoreState T Sat) (u : EntryId) → IsUsedId s u → KeepsId s (stored s.cores s.notes) u
+  same_id s u used = record { given = used; stays = λ v z. inl z; stood = λ v z. z }
+
+  takes_keep : (u : EntryId) (s t : StoreState T Sat) (c : Core T Sat) (r : Result (Unit {0}) (TakeError × Core T Sat)) → StoreTakesIn c r s t → BringsNone u s t → IsUsedId s u
+      → KeepsId s t u
+  takes_keep u s t c (Ok done) y brings used = y.3 u (brings c y.0) used
+  takes_keep u s t c (Err e) y brings used =
+      let P : CoreRow T Sat × Book → Type 0 = λ x. KeepsId s (stored x.0 x.1) u in
+      let cores = y.1.1 in
+      let notes = y.2 in
+      subst P (λ n. (sym cores n, sym notes n)) (same_id s u used)
+
+  pub keeps_id : (u : EntryId) (s t : StoreState T Sat) → IsStoreCall s t → BringsNone u s t → IsUsedId s u → KeepsId s t u
+  keeps_id u s t (inl y) brings used = let did = y.3 in did.2 u used
+  keeps_id u s t (inr (inl y)) brings used = let did = y.2 in did.1 u used
+  keeps_id u s t (inr (inr (inl y))) brings used = let did = y.3 in did.1 u used
+  keeps_id u s t (inr (inr (inr (inl y)))) brings used = let did = y.2 in did.1 u used
+  keeps_id u s t (inr (inr (inr (inr (inl y))))) brings used = let did = y.3 in did.1 u used
+  keeps_id u s t (inr (inr (inr (inr (inr (inl y)))))) brings used = takes_keep u s t y.0 y.1 y.2 brings used
+  keeps_id u s t (inr (inr (inr (inr (inr (inr (inl y))))))) brings used = let did = y.1 in did.3 u used
+  keeps_id u s t (inr (inr (inr (inr (inr (inr (inr (inl y)))))))) brings used = let did = y.3 in did.1 u used
+  keeps_id u s t (inr (inr (inr (inr (inr (inr (inr (inr y)))))))) brings used = let did = y.2 in did.1 u used
+
+  -- what that makes of an entry
+
+  stands_on : (u : EntryId) (v : T) (s t : StoreState T Sat) → KeepsId s t u → IsUsedId s u → HasOnly s u v → HasFor t u v → StandsOn u v s t
+  stands_on u v s t k used only has = ((has, (λ a b y z. only.1 a b (k.stood a y) (k.stood b z))), ((λ w z. z.1 has.0 has.1), (λ g. g.0 used)))
+
+  leaves_with : (u : EntryId) (v : T) (s t : StoreState T Sat) → IsUsedId s u → HasOnly s u v → NoneStandsFor t u → LeavesWith u v s t
+  leaves_with u v s t used only none = (none, (λ w z. only.1 w v z.0 only.0), (λ g. g.0 used))
+
+  stays_ended : (u : EntryId) (s t : StoreState T Sat) → KeepsId s t u → IsUsedId s u → NoneStandsFor s u → StaysEnded u s t
+  stays_ended u s t k used none = (
+    (λ e z. let f = k.stood e.value (e, z, refl) in none f.0 f.1),
+    ((λ v z. let f = z.0 in none f.0 f.1), (λ g. g.0 used)),
+  )
+
+  -- the shard that the newest entry left
+
+  one_left : (es : List (Entry (Held T))) (x : Entry (Held T)) (xs : List (Entry (Held T))) (a b : Held T) → IsAsLeft (es ++ x ∷ xs) a → IsAsLeft (es ++ x ∷ xs) b → a ≡ b
+  one_left [] x xs a b p q = some_is a b (sym p ∙ q)
+  one_left (e ∷ es) x xs a b p q = some_is a b (sym p ∙ q)
+
+  by_call : (Did : StoreState T Sat → StoreState T Sat → Type 0) (e : Entry (Held T)) (es : List (Entry (Held T))) (x : Entry (Held T)) (xs : List (Entry (Held T))) (s t : Held T)
+      → IsAsLeft (es ++ x ∷ xs) s → e.left ≡ Some t → Did s.store t.store → ByCall Did e (es ++ x ∷ xs)
+  by_call Did e es x xs s t was left did = λ a b p q.
+      let P : Held T × Held T → Type 0 = λ y. Did y.0.store y.1.store in
+      let first = one_left es x xs s a was p in
+      let second = some_is t b (sym left ∙ q) in
+      subst P (λ n. (first n, second n)) did
+
+  -- since a call that left a shard
+  module _ (x : Entry (Held T)) (xs : List (Entry (Held T))) (h : Held T) (left : x.left ≡ Some h) (u : EntryId) (used : IsUsedId h.store u) where
+    abbrev Ended : List (Entry (Held T)) → Type 0
+    Ended es = (k : Held T) × IsAsLeft (es ++ x ∷ xs) k × IsUsedId k.store u × NoneStandsFor k.store u × ByEach (StaysEnded u) es (x ∷ xs)
+
+    pub ended_since : NoneStandsFor h.store u → (es : List (Entry (Held T))) → IsStoreHistory (es ++ x ∷ xs) → ByEach (BringsNone u) es (x ∷ xs) → Ended es
+    ended_since none [] history brings = (h, left, used, none, tt {0})
+    ended_since none (e ∷ es) history brings =
+        let r = ended_since none es history.6 brings.1 in
+        let s = history.0 in
+        let t = history.1 in
+        let same = one_left es x xs r.0 s r.1 history.3 in
+        let P : Held T → Type 0 = λ k. IsUsedId k.store u × NoneStandsFor k.store u in
+        let at = subst P same (r.2, r.3) in
+        let kept = keeps_id u s.store t.store history.5 (brings.0 s t history.3 history.2) at.0 in
+        let did = stays_ended u s.store t.store kept at.0 at.1 in
+        (t, history.2, kept.given, did.0, (by_call (StaysEnded u) e es x xs s t history.3 history.2 did, r.4))
+
+    abbrev Either : T → List (Entry (Held T)) → StoreState T Sat → Type 0
+    Either v es s = (HasOnly s u v × ByEach (StandsOn u v) es (x ∷ xs)) ⊎ (NoneStandsFor s u × LeftOnce u v es (x ∷ xs))
+
+    abbrev Goes : T → List (Entry (Held T)) → Type 0
+    Goes v es = (k : Held T) × IsAsLeft (es ++ x ∷ xs) k × IsUsedId k.store u × Either v es k.store
+
+    -- the newest call of one more
+    one_more : (v : T) (e : Entry (Held T)) (es : List (Entry (Held T))) (s t : Held T) → IsAsLeft (es ++ x ∷ xs) s → e.left ≡ Some t → IsUsedId s.store u → KeepsId s.store t.store u
+        → Either v es s.store → Either v (e ∷ es) t.store
+    one_more v e es s t was is given kept (inl y) = ⊎_elim
+        (λ (has : HasFor t.store u v). let did = stands_on u v s.store t.store kept given y.0 has in inl (did.0, (by_call (StandsOn u v) e es x xs s t was is did, y.1)))
+        (λ (none : NoneStandsFor t.store u).
+        let did = leaves_with u v s.store t.store given y.0 none in
+        inr (none, record { gone = []; entry = e; here = es; all = refl; stood = y.1; left = by_call (LeavesWith u v) e es x xs s t was is did; ended = tt {0} }))
+        (kept.stays v y.0.0)
+    one_more v e es s t was is given kept (inr y) =
+        let l = y.1 in
+        let did = stays_ended u s.store t.store kept given y.0 in
+        let P : List (Entry (Held T)) → Type 0 = λ k. ByCall (StaysEnded u) e k in
+        let long : es ++ x ∷ xs ≡ l.gone ++ (l.entry ∷ (l.here ++ x ∷ xs)) = ap (λ k. k ++ x ∷ xs) l.all ∙ append_assoc l.gone (l.entry ∷ l.here) (x ∷ xs) in
+        inr (
+          did.0,
+          record {
+            gone = e ∷ l.gone;
+            entry = l.entry;
+            here = l.here;
+            all = ap (λ k. e ∷ k) l.all;
+            stood = l.stood;
+            left = l.left;
+            ended = (subst P long (by_call (StaysEnded u) e es x xs s t was is did), l.ended);
+          },
+        )
+
+    pub goes_since : (v : T) → HasOnly h.store u v → (es : List (Entry (Held T))) → IsStoreHistory (es ++ x ∷ xs) → ByEach (BringsNone u) es (x ∷ xs) → Goes v es
+    goes_since v only [] history brings = (h, left, used, inl (only, tt {0}))
+    goes_since v only (e ∷ es) history brings =
+        let r = goes_since v only es history.6 brings.1 in
+        let s = history.0 in
+        let t = history.1 in
+        let same = one_left es x xs r.0 s r.1 history.3 in
+        let P : Held T → Type 0 = λ k. IsUsedId k.store u × Either v es k.store in
+        let at = subst P same (r.2, r.3) in
+        let kept = keeps_id u s.store t.store history.5 (brings.0 s t history.3 history.2) at.0 in
+        (t, history.2, kept.given, one_more v e es s t history.3 history.2 at.0 kept at.1)
+
+pub leave_once : (T : Type 0) → ShardEntriesLeaveOnce T
+leave_once T log history u v h since is only =
+    let P : List (Entry (Held T)) → Type 0 = λ k. IsStoreHistory k in
+    let r = goes_since is.entry is.before h is.left u is.used v only since (subst P is.all history) is.brought in
+    ⊎_elim (λ y. inl y.1) (λ y. inr y.1) r.3
+
+pub ended_stays : (T : Type 0) → ShardEndedStaysEnded T
+ended_stays T log history u h since is none =
+    let P : List (Entry (Held T)) → Type 0 = λ k. IsStoreHistory k in
+    let r = ended_since is.entry is.before h is.left u is.used none since (subst P is.all history) is.brought in
+    r.4
