@@ -10,6 +10,9 @@ use Rattle.dq_ticks.specs.declared.keys.Key.{Key}
 use Rattle.dq_core.specs.declared.errors.CoreError.{CoreError}
 use Rattle.dq_core.specs.declared.errors.CoreError.TheVariants.{TooFar, Full, Missing, WasCancelled, Worn, TickTooLarge, BadConfig, NoMemory}
 use Rattle.dq_core.specs.declared.outcomes.Turn.{Turn}
+use Rattle.dq_core.specs.declared.outcomes.Expired.{Expired}
+use Rattle.dq_core.specs.declared.outcomes.Turn.TheVariants.{Out, Waiting, Idle}
+use Rattle.dq_core.specs.AtTheCall.{IfOut}
 use Rattle.dq_core.specs.declared.outcomes.Piece.{Piece}
 use Rattle.dq_core.specs.declared.outcomes.Piece.TheVariants.{Answer, Working}
 use Rattle.dq_ticks.specs.declared.words.Parts.{Parts}
@@ -83,6 +86,12 @@ module _ {T W : Type 0} (shared : Bool) (b c : Core T W) (a : DeferredValues T) 
 
 pub polled_dropped : {T W : Type 0} (shared : Bool) (b c : Core T W) (a : DeferredValues T) (tick : ℕ) (turn : Turn T) → IsPolled shared b tick turn c → IsPolled shared b tick turn (with_deferred_values c a)
 polled_dropped shared b c a tick turn x = (x.0, x.1, answered_dropped shared _ c a turn x.2, x.3)
+
+-- a poll that gave no entry
+pub none_out : {T : Type 0} (P : Expired T → Type 0) (turn : Turn T) → ((x : Expired T) → turn ≡ Out x → ⊥) → IfOut (Ok turn) P
+none_out P (Out x) not = absurd (not x refl)
+none_out P (Waiting next) not = tt {0}
+none_out P Idle not = tt {0}
 
 pub polled_some_dropped : {T W : Type 0} (shared : Bool) (b c : Core T W) (a : DeferredValues T) (tick most : ℕ) (piece : Piece T) → IsPolledSome shared b tick most piece c → IsPolledSome shared b tick most piece (with_deferred_values c a)
 polled_some_dropped shared b c a tick most piece x = (x.0, x.1, piece_of_dropped shared _ c a most piece x.2, x.3)

@@ -175,10 +175,11 @@ fn take_bit(bits: &mut [u64], summary: &mut Summary, word: usize) -> usize
 impl<A: Allocator + Clone> FreeSlots<A> {
     ghost use Rattle.dq_ticks.specs.declared.TheConstants.{CAPACITY_LIMIT};
 
-    /// Room for the indexes below `capacity`, of which none is free.
+    /// Room for the indexes below `capacity`, of which none is free, and for at most 64 more.
     pub fn new(alloc: A, capacity: usize) -> Result<FreeSlots<A>, AllocError>
         requires { capacity ≤ CAPACITY_LIMIT }
-        ensures { IfOk result (λ f. (capacity ≤ room_of f) × ((i : ℕ) → free_times f i ≡ 0)) }
+        ensures { IfOk result (λ f. (capacity ≤ room_of f) × ((i : ℕ) → free_times f i ≡ 0)
+            × (room_of f ≤ capacity + 64)) }
     {
         let recent = Vec::with_capacity(alloc.clone()?, RECENT)?;
         let words = capacity.saturating_sub(1) / BITS + 1;
@@ -271,11 +272,12 @@ impl<A: Allocator> Model for DeferredDrops<A> {
 impl<A: Allocator> DeferredDrops<A> {
     ghost use Rattle.dq_ticks.specs.declared.TheConstants.{CAPACITY_LIMIT};
 
-    /// Room for the slots below `capacity`, of which none waits.
+    /// Room for the slots below `capacity`, of which none waits, and for at most 64 more.
     pub fn new(alloc: A, capacity: usize) -> Result<DeferredDrops<A>, AllocError>
         requires { capacity ≤ CAPACITY_LIMIT }
         ensures { IfOk result
-            (λ d. (capacity ≤ defers_room d) × (d.count ≡ 0) × ((i : ℕ) → deferred_at d i ≡ 0)) }
+            (λ d. (capacity ≤ defers_room d) × (d.count ≡ 0) × ((i : ℕ) → deferred_at d i ≡ 0)
+            × (defers_room d ≤ capacity + 64)) }
     {
         let words = capacity.saturating_sub(1) / 64 + 1;
         let bits = vec![in alloc; 0; words]?;

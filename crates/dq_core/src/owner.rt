@@ -6,7 +6,7 @@
 
 ghost use Rattle.std.specs.Prelude.{◌≡◌, ℕ, ◌+◌, ◌<◌, ◌≤◌, ◌⊎◌, ◌↔◌, max, nat_lt, if◌then◌else◌, length, IfOk, IfErr, IfSome, Some, None, OnOk, OnErr, IsErr, IsErrAnd, IsErrOf};
 ghost use Rattle.std.specs.List.{count_by};
-ghost use Rattle.dq_core.specs.Deferring.{answered_at, out_at, waiting_in, with_deferred, MakesRoom};
+ghost use Rattle.dq_core.specs.Deferring.{answered_at, out_at, waiting_in, with_deferred, DefersValues, MakesRoom};
 ghost use Rattle.dq_core.specs.AtTheCall.{IfOut, IfRests, linked_in, IsLinkedAs, OthersStay, with_value_back};
 ghost use Rattle.dq_core.specs.Calls.{SameCore, base_for, IsMissing, Inserts, Polls};
 ghost use Rattle.dq_core.specs.Core.{machine};
@@ -115,7 +115,12 @@ impl<T: Drop, W: Words, A: Allocator> DelayCore<T, W, A> {
     /// - `Full` if no slot is free.
     #[inline]
     pub fn insert_or_drop(&mut self, value: T, when: u64) -> Result<Key, CoreError>
+        // An insert. Of the values that wait it drops no other than one in the slot that the entry takes.
         ensures inserts { Inserts self.old value when (with_value_back value result) self.new }
+        ensures deferred { IfOk result
+            (λ k. self.new.deferred ≡ with_deferred self.old.deferred k.entry.index None) }
+        ensures begins { IfOk result
+            (λ k. W.begun self.new.words k.entry.index k.stamp (base_for self.old when)) }
         ensures origin { W.origin self.new.words ≡ W.origin self.old.words }
         ensures begun { StillBegun W.begun self.old.words self.new.words }
     {
@@ -173,6 +178,10 @@ impl<T: Drop, W: Words, A: Allocator> DelayCore<T, W, A> {
 
         // No freed value waits any more, unless an entry comes out.
         ensures none { IfOk result (λ turn. out_at turn ≡ None → waiting_in self.new.deferred ≡ 0) }
+
+        // Beside an entry that comes out no value is dropped: that of each other that left is deferred.
+        ensures deferred { IfOut result
+            (λ x. DefersValues self.old (Some x.key.entry.index) self.new) }
 
         // Exactly: a run of the queue machine, and the way of the wheel and of the words.
         ensures polls { Polls W.shared self.old tick result self.new }
@@ -334,8 +343,9 @@ impl<T: Drop, W: Words, A: Allocator> DelayCore<T, W, A> {
         ensures counts { self.new.counts ≡ self.old.counts }
         ensures noted { self.new.noted ≡ self.old.noted }
 
-        // No freed value waits any more.
+        // No freed value waits any more; but refused, none is dropped.
         ensures none { OnOk result (waiting_in self.new.deferred ≡ 0) }
+        ensures deferred { OnErr result (DefersValues self.old None self.new) }
 
         // Exactly: a run of the queue machine, and what it leaves of the wheel, the slots and the words.
         ensures reaps { Reaps W.shared self.old entry.now result self.new }

@@ -1,5 +1,5 @@
 -- What stands in a store whose cores come and go.
-use Rattle.std.proofs.Common.{◌≡◌, ◌≢◌, ℕ, suc, ◌<◌, ◌≤◌, ◌+◌, ◌-◌, ◌/◌, ◌^◌, List, [], ◌∷◌, ◌++◌, length, get_or, remove, map, take, min, Bool, true, false, if◌then◌else◌, Option, Some, None, MatchOption, Result, Ok, Err, OnOk, refl, sym, ap, ◌∙◌, subst, inl, inr, ⊎_elim, arith}
+use Rattle.std.proofs.Common.{◌≡◌, ◌≢◌, ℕ, suc, ◌<◌, ◌≤◌, ◌+◌, ◌-◌, ◌/◌, ◌^◌, List, [], ◌∷◌, ◌++◌, length, get_or, remove, map, take, min, Bool, true, false, if◌then◌else◌, Option, Some, None, MatchOption, Result, Ok, Err, OnOk, refl, sym, ap, ◌∙◌, subst, inl, inr, ⊎_elim, arith, ◌⊎◌}
 use Rattle.std.proofs.lemmas.Bool.{both_ways, cases_eq, lt-ltb, le-ltb, eq-eqb, ne_eqb}
 use mathlib.Core.Logic.{dite}
 use native.Mathlib.Decide.{ℕ_discrete}
@@ -22,7 +22,7 @@ use Rattle.dq_growing.specs.Cores.{CoreRow, AreCores, IsCoreAt, OnCoreAt, Sweeps
 use Rattle.dq_growing.specs.declared.sizing.Room.{Room}
 use Rattle.dq_growing.specs.Notes.{Book}
 use Rattle.dq_growing.specs.Moving.{HasOpenRoom}
-use Rattle.dq_growing.specs.Sizing.{AllWere, ComesInto, GoesOnBehind, TakesOff, WayGoesOn, slots_at, slots_in, way_for, HasClearAt, HasNoneToOpen, IsNearlyDrained, IsRoomAt, IsRoomier, IsRoomiest, NoStraggler, OnlyOpens, OpensIf, OpensWanted, StaysOpen, SweepsNext, TellsStraggler, WasBeside, clear_slots}
+use Rattle.dq_growing.specs.Sizing.{AllWere, ComesInto, GoesOnBehind, TakesOff, WayGoesOn, slots_at, slots_in, way_for, HasClearAt, HasNoneToOpen, IsNearlyDrained, IsRoomAt, IsRoomier, IsRoomiest, NoStraggler, OnlyOpens, OpensIf, OpensWanted, StaysOpen, SweepsNext, TellsStraggler, WasBeside, clear_slots, MayOpen, OpensOne}
 use Rattle.dq_growing.specs.Stands.{HasEntry, IsThere, SameStand}
 use Rattle.dq_growing.specs.Store.{StoreState, StandsFor, TellsFirstIn, entry_told}
 use Rattle.dq_growing.proofs.Leasts.{some_not_none}
@@ -142,10 +142,10 @@ module _ {T W : Type 0} where
       let some = y.2 in
       omega (arith, none, same, both, some)
 
-  pub roomier_there : (s : CoreRow T W) (any : Bool) (found : Room) (i n : ℕ) (b : Core T W) → IsCoreAt s.cores i b → n ≡ clear_slots b → found.free ≤ n
+  pub roomier_there : (s : CoreRow T W) (any : Bool) (found : Room) (i n : ℕ) (b : Core T W) → IsCoreAt s.cores i b → n ≡ clear_slots b → MayOpen any b → found.free ≤ n
       → IsRoomier s any found i (record { place = i; free = n })
-  roomier_there s any found i n b at same le = record {
-    one = inr (b, at, sym same);
+  roomier_there s any found i n b at same may le = record {
+    one = inr (b, at, sym same, may);
     before = le;
     here = λ c x may. let C : Core T W → ℕ = λ d. clear_slots d in let both = ap C (one_at s.cores i b c at x) in omega (arith, both, same);
   }
@@ -158,20 +158,11 @@ module _ {T W : Type 0} where
     here = λ c x may. let C : Core T W → ℕ = λ d. clear_slots d in let both = ap C (one_at s.cores i b c at x) in omega (arith, both, same, le);
   }
 
-  pub roomier_shut : (s : CoreRow T W) (any : Bool) (found : Room) (i n m : ℕ) (b : Core T W) → IsCoreAt s.cores i b → n ≡ clear_slots b → m ≡ length b.slots.rows
-      → any ≡ false → n < m / 2 → IsRoomier s any found i found
-  roomier_shut s any found i n m b at same size shut less = record {
+  pub roomier_shut : (s : CoreRow T W) (any : Bool) (found : Room) (i : ℕ) (b : Core T W) → IsCoreAt s.cores i b → ¬ MayOpen any b → IsRoomier s any found i found
+  roomier_shut s any found i b at shut = record {
     one = inl refl;
     before = omega arith;
-    here = λ c x may.
-        let C : Core T W → ℕ = λ d. clear_slots d in
-        let L : Core T W → ℕ = λ d. length d.slots.rows in
-        let both = ap C (one_at s.cores i b c at x) in
-        let long = ap L (one_at s.cores i b c at x) in
-        ⊎_elim
-        (λ (y : any ≡ true). absurd (both_ways any shut y))
-        (λ (y : length c.slots.rows / 2 ≤ clear_slots c). absurd (omega (arith, both, same, long, size, less, y)))
-        may;
+    here = λ c x may. let P : Core T W → Type 0 = λ d. MayOpen any d in absurd (shut (subst P (sym (one_at s.cores i b c at x)) may));
   }
 
   pub roomier_none : (s : CoreRow T W) (any : Bool) (found : Room) (i : ℕ) → length s.cores ≤ i → IsRoomier s any found i found
@@ -188,8 +179,8 @@ module _ {T W : Type 0} where
   roomiest_next s n any r q all next = record {
     some = λ has.
         ⊎_elim
-        (λ (e : q ≡ r). let P : Room → Type 0 = λ k. 0 < k.free → IsRoomAt s k in subst P (sym e) all.some has)
-        (λ (y : IsRoomAt s q). y)
+        (λ (e : q ≡ r). let P : Room → Type 0 = λ k. 0 < k.free → IsRoomAt s any k in subst P (sym e) all.some has)
+        (λ (y : IsRoomAt s any q). y)
         next.one;
     most = λ i c below at may.
         ⊎_elim
@@ -213,11 +204,30 @@ module _ {T W : Type 0} where
       let free = here.2 in
       subst P (sym (opens is).1) (subst Q same (here.0, here.1, omega (arith, free, some)))
 
+  pub opens_may : (s t : StoreState T W) (k : CoreRow T W) (o any : Bool) (r : Room)
+      → (o ≡ true → (r.place < length s.cores.cores) × (t.cores ≡ record s.cores { opened = r.place }))
+      → k ≡ s.cores → IsRoomiest k (length k.cores) any r → 0 < r.free → o ≡ true → OpensOne any t.cores
+  opens_may s t k o any r opens same most some is =
+      let P : CoreRow T W → Type 0 = λ x. OpensOne any x in
+      let Q : CoreRow T W → Type 0 = λ x. OpensOne any (record x { opened = r.place }) in
+      let here = most.some some in
+      subst P (sym (opens is).1) (subst Q same (here.0, here.1, here.3))
+
+  pub store_is : (s t : StoreState T W) → t.cores ≡ s.cores → t.notes ≡ s.notes → t ≡ s
+  store_is s t cores notes =
+      let C : CoreRow T W → StoreState T W = λ k. stored k t.notes in
+      let N : Book → StoreState T W = λ n. stored s.cores n in
+      ap C cores ∙ ap N notes
+
+  pub opens_or_stays : (o : Bool) (s t : StoreState T W) (any : Bool) → (o ≡ true → OpensOne any t.cores) → (o ≡ false → t ≡ s) → (t ≡ s) ⊎ OpensOne any t.cores
+  opens_or_stays true s t any may kept = inr (may refl)
+  opens_or_stays false s t any may kept = inl (kept refl)
+
   pub opens_found : (s t : StoreState T W) (k : CoreRow T W) (o any : Bool) (r : Room)
       → (o ≡ false → (length s.cores.cores ≤ r.place) × (t.cores ≡ s.cores))
       → k ≡ s.cores → IsRoomiest k (length k.cores) any r → 0 < r.free → o ≡ false → HasNoneToOpen any s.cores
   opens_found s t k o any r refused same most some is =
-      let Q : CoreRow T W → Type 0 = λ x. IsRoomAt x r in
+      let Q : CoreRow T W → Type 0 = λ x. IsRoomAt x any r in
       let here = subst Q same (most.some some) in
       let inside = here.1.0 in
       let past = (refused is).0 in

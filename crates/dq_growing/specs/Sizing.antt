@@ -68,21 +68,26 @@ module _ {T W : Type 0} where
   abbrev pub MayOpen : Bool → Core T W → Type 0
   MayOpen any c = (any ≡ true) ⊎ (length c.slots.rows / 2 ≤ clear_slots c)
 
-  -- so many slots are free in the core at a place
-  abbrev pub IsRoomAt : CoreRow T W → Room → Type 0
-  IsRoomAt s r = (c : Core T W) × IsCoreAt s.cores r.place c × (clear_slots c ≡ r.free)
+  -- so many slots are free in the core at a place, which may be opened
+  abbrev pub IsRoomAt : CoreRow T W → Bool → Room → Type 0
+  IsRoomAt s any r =
+      (c : Core T W) × IsCoreAt s.cores r.place c × (clear_slots c ≡ r.free) × MayOpen any c
+
+  -- the open core is one that may be opened
+  abbrev pub OpensOne : Bool → CoreRow T W → Type 0
+  OpensOne any s = (c : Core T W) × IsCoreAt s.cores s.opened c × MayOpen any c
 
   -- as many slots are free as in one core that was found, and as in the core at a place, if that may be
   -- opened
   pub record IsRoomier (s : CoreRow T W) (any : Bool) (found : Room) (i : ℕ) (r : Room) : Type 0
     where
-      pub one : (r ≡ found) ⊎ IsRoomAt s r
+      pub one : (r ≡ found) ⊎ IsRoomAt s any r
       pub before : found.free ≤ r.free
       pub here : (c : Core T W) → IsCoreAt s.cores i c → MayOpen any c → clear_slots c ≤ r.free
 
   -- of the first n cores that may be opened none has more free slots
   pub record IsRoomiest (s : CoreRow T W) (n : ℕ) (any : Bool) (r : Room) : Type 0 where
-    pub some : 0 < r.free → IsRoomAt s r
+    pub some : 0 < r.free → IsRoomAt s any r
     pub most :
         (i : ℕ) (c : Core T W) → i < n → IsCoreAt s.cores i c → MayOpen any c →
         clear_slots c ≤ r.free

@@ -8,11 +8,11 @@
 //!
 //! The numbers here are a policy: any others would keep what the calls of a [`Store`] promise.
 
-ghost use Rattle.std.specs.Prelude.{◌≡◌, ◌≤◌, ◌⊎◌, max, true, false, length, IfSome, IfNone, IfErr, OnOk, OnSome};
+ghost use Rattle.std.specs.Prelude.{◌≡◌, ◌≤◌, ◌⊎◌, max, true, false, length, IfSome, IfNone, IfErr, OnOk, OnSome, nat_lt};
 ghost use Rattle.dq_core.specs.Core.{Core};
 ghost use Rattle.dq_core.specs.Folds.{IsFoldable};
 ghost use Rattle.dq_growing.specs.Moving.{HasOpenRoom};
-ghost use Rattle.dq_growing.specs.Sizing.{anew, clear_slots, slots_in, with_work, HasNoWork, MayNoteWork, HasClearAt, IsRoomier, IsRoomiest, HasNoneToOpen, HasNoRoom, OnlyOpens, ComesInto, OpensIf, OpensWanted, StaysOpen, WasBeside, AllWere, IsNearlyDrained, TellsStraggler, IsStraggler, NoStraggler, MayMake};
+ghost use Rattle.dq_growing.specs.Sizing.{anew, clear_slots, slots_in, with_work, HasNoWork, MayNoteWork, HasClearAt, IsRoomier, IsRoomiest, HasNoneToOpen, HasNoRoom, OnlyOpens, ComesInto, OpensIf, OpensWanted, StaysOpen, WasBeside, AllWere, IsNearlyDrained, TellsStraggler, IsStraggler, NoStraggler, MayMake, MayOpen, OpensOne};
 ghost use Rattle.dq_growing.specs.declared.TheConstants.{NEVER};
 ghost use Rattle.dq_growing.specs.declared.sizing.TheConstants.{CORES};
 ghost use Rattle.dq_ticks.specs.declared.TheConstants.{CAPACITY_LIMIT};
@@ -81,7 +81,15 @@ struct Room {
     free: usize,
 }
 
-// The one of two cores with more free slots, where the second may be opened: half of it is free, or any will do.
+// Whether a core may be opened for an insert: half of it is free, or any will do.
+fn may_open<T, W: Words, A: Allocator>(core: &DelayCore<T, W, A>, any_will_do: bool) -> bool
+    ensures yes { result ≡ true → MayOpen any_will_do core.now }
+    ensures no { result ≡ false → ¬ MayOpen any_will_do core.now }
+{
+    any_will_do || core.capacity() / 2 <= free(core)
+}
+
+// The one of two cores with more free slots, where the second may be opened.
 fn roomier<T, W: Words, A: Allocator>(
     cores: &Cores<T, W, A>,
     so_far: Room,
@@ -97,7 +105,7 @@ fn roomier<T, W: Words, A: Allocator>(
     if room < so_far.free {
         return so_far;
     }
-    if any_will_do || core.capacity() / 2 <= room {
+    if may_open(core, any_will_do) {
         return Room { place, free: room };
     }
     so_far
@@ -249,8 +257,14 @@ impl Sizing {
         ensures room { result ≡ true → HasOpenRoom store.new.cores }
         ensures clear { result ≡ true → HasClearAt store.new.cores store.new.cores.opened }
 
+        // If the open core has such a slot, nothing changes. Else a core is open that may be opened, or
+        // nothing changes.
+        ensures stays { HasClearAt store.old.cores store.old.cores.opened → store.new ≡ store.old }
+        ensures other { (store.new ≡ store.old) ⊎ OpensOne any_will_do store.new.cores }
+
         // Else there is no such slot in the open core, nor in one that may be opened.
         ensures none { result ≡ false → HasNoRoom any_will_do store.old.cores }
+        ensures kept { result ≡ false → store.new ≡ store.old }
 
         // No more changes than which core is open.
         ensures opens { OnlyOpens store.old store.new }
@@ -269,7 +283,9 @@ impl Sizing {
         any_will_do: bool,
     ) -> bool
         ensures clear { result ≡ true → HasClearAt store.new.cores store.new.cores.opened }
+        ensures may { result ≡ true → OpensOne any_will_do store.new.cores }
         ensures none { result ≡ false → HasNoneToOpen any_will_do store.old.cores }
+        ensures kept { result ≡ false → store.new ≡ store.old }
         ensures opens { OnlyOpens store.old store.new }
         ensures notes { MayNoteWork self.old self.new }
     {
@@ -532,7 +548,9 @@ impl Sizing {
     }
 
     /// Whether memory is kept for good.
-    pub fn is_kept(&self) -> bool {
+    pub fn is_kept(&self) -> bool
+        ensures { result ≡ nat_lt 0 self.now.kept }
+    {
         self.kept > 0
     }
 }

@@ -466,6 +466,7 @@ impl<T, W: Words, A: Allocator + Clone> Store<T, W, A> {
     pub fn reset_in_place(&mut self, entry: &EntryId, when: u64) -> Result<Key, CoreError>
         // Exactly: a reset at the place that the notes tell.
         ensures resets { ResetsThere W.shared self.old entry.now when result self.new }
+        ensures words { KeepsWords W.origin W.begun self.old.cores self.new.cores }
         ensures keeps { KeepsIds self.old self.new }
     {
         let Some(place) = self.notes.place(entry) else {

@@ -16,6 +16,7 @@ mod queues {
     //! What a thread holds of a queue that was dropped.
 
     use crate::refusing::used;
+    use hontkhale::parts::owner::{DelayCore, VecWords};
     use hontkhale::DelayQueue;
     use std::time::Duration;
 
@@ -34,5 +35,19 @@ mod queues {
         };
         assert_eq!(holds(50_000), 0);
         assert_eq!(holds(1), 0);
+    }
+
+    /// A slot takes 56 bytes with its word, its links and a `u64`, and some bits.
+    #[test]
+    fn a_queue_takes_memory_by_its_capacity() {
+        let takes = |capacity: usize| {
+            let before = used();
+            let queue = DelayCore::<u64, VecWords>::with_capacity(capacity).expect("memory");
+            assert_eq!(queue.capacity(), capacity);
+            used() - before
+        };
+        let (one, many) = (takes(1), takes(60_001));
+        assert!(one < 12_000, "{one}");
+        assert!(many - one < 57 * 60_000, "{many}");
     }
 }

@@ -130,7 +130,7 @@ fn take_bit(bits: &mut [u64], summary: &mut Summary, word: usize) -> usize {
 }
 
 impl FreeSlots {
-    /// Room for the indexes below `capacity`, of which none is free.
+    /// Room for the indexes below `capacity`, of which none is free, and for at most 64 more.
     pub fn new(capacity: usize) -> Result<FreeSlots, AllocError> {
         // requires capacity ≤ CAPACITY_LIMIT
         let recent = room_for(RECENT)?;
@@ -200,7 +200,7 @@ pub struct DeferredDrops {
 }
 
 impl DeferredDrops {
-    /// Room for the slots below `capacity`, of which none waits.
+    /// Room for the slots below `capacity`, of which none waits, and for at most 64 more.
     pub fn new(capacity: usize) -> Result<DeferredDrops, AllocError> {
         // requires capacity ≤ CAPACITY_LIMIT
         let words = capacity.saturating_sub(1) / 64 + 1;

@@ -62,7 +62,12 @@ struct Room {
     free: usize,
 }
 
-// The one of two cores with more free slots, where the second may be opened: half of it is free, or any will do.
+// Whether a core may be opened for an insert: half of it is free, or any will do.
+fn may_open<T, W: Words>(core: &DelayCore<T, W>, any_will_do: bool) -> bool {
+    any_will_do || core.capacity() / 2 <= free(core)
+}
+
+// The one of two cores with more free slots, where the second may be opened.
 fn roomier<T, W: Words>(cores: &Cores<T, W>, so_far: Room, place: usize, any_will_do: bool) -> Room {
     let Some(core) = cores.get(place) else {
         return so_far;
@@ -71,7 +76,7 @@ fn roomier<T, W: Words>(cores: &Cores<T, W>, so_far: Room, place: usize, any_wil
     if room < so_far.free {
         return so_far;
     }
-    if any_will_do || core.capacity() / 2 <= room {
+    if may_open(core, any_will_do) {
         return Room { place, free: room };
     }
     so_far

@@ -34,6 +34,12 @@ mod checks {
     pub mod worked;
 }
 
+mod growing_checks {
+    //! When a store that grows is to be of another size.
+
+    mod sizing;
+}
+
 mod scripts {
     pub mod faults;
     pub mod readers;

@@ -1,5 +1,5 @@
-use Rattle.std.proofs.Common.{sym}
-use Rattle.dq_growing.proofs.Sizes.{clear_as, clear_room, still}
+use Rattle.std.proofs.Common.{sym, refl, inl, inr}
+use Rattle.dq_growing.proofs.Sizes.{clear_as, clear_room, opens_or_stays, still}
 use Rattle.dq_growing.proofs.sizing.Sizing.finds_room.Goals as goal
 
 pub returns-then-has_open_room-clause-room : goal.returns-then-has_open_room-clause-room
@@ -19,3 +19,9 @@ returns-clause-room g c is = clear_room c.opens_another.new.store.cores (c.opens
 pub returns-clause-none : goal.returns-clause-none
 returns-clause-none g c is =
     ((λ x. c.has_open_room.ensures.no c.if-has_open_room.false (clear_as c.args.store.now.cores _ (sym c.cores.ensures) x)), c.opens_another.ensures.none is)
+
+pub returns-clause-stays : goal.returns-clause-stays
+returns-clause-stays g c x = absurd (c.has_open_room.ensures.no c.if-has_open_room.false (clear_as c.args.store.now.cores _ (sym c.cores.ensures) x))
+
+pub returns-clause-other : goal.returns-clause-other
+returns-clause-other g c = opens_or_stays c.opens_another.result c.args.store.now c.opens_another.new.store c.args.any_will_do c.opens_another.ensures.may c.opens_another.ensures.kept

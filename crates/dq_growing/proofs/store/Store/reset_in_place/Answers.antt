@@ -11,6 +11,7 @@ returns-in-Err g c =
     (record {
       resets = resets_there g.W.Words.shared (stored i.cores i.notes) c.args.entry.now c.in-Some.place c.args.when (Err c.in-Err.error) c.reset.new.self
           (sym c.place.ensures ∙ c.in-Some.is) c.in-Err.ensures.resets;
+      words = c.reset.ensures.words;
       keeps = keeps_noted (stored i.cores i.notes) c.reset.new.self c.self.invariant
           (resets_age g.W.Words.shared i.cores c.reset.new.self c.in-Some.place c.args.when c.reset.result _ c.law.ensures c.reset.ensures.resets);
     })
@@ -22,6 +23,7 @@ returns g c =
     (record {
       resets = resets_there g.W.Words.shared (stored i.cores i.notes) c.args.entry.now c.in-Some.place c.args.when (Ok c.in-Ok.key) c.reset.new.self
           (sym c.place.ensures ∙ c.in-Some.is) c.in-Ok.ensures.resets;
+      words = c.reset.ensures.words;
       keeps = keeps_noted (stored i.cores i.notes) c.reset.new.self c.self.invariant
           (resets_age g.W.Words.shared i.cores c.reset.new.self c.in-Some.place c.args.when c.reset.result _ c.law.ensures c.reset.ensures.resets);
     })
