@@ -68,24 +68,24 @@ module _ {T : Type 0} where
     pub ended : ByEach (StaysEnded u) gone (entry ∷ (here ++ before))
 
   -- in a history an entry leaves at most once, whoever calls, and has its value until then
-  abbrev pub EntriesLeaveOnce : List (Entry (Held T)) → Type 0
-  EntriesLeaveOnce log =
+  abbrev pub EntriesLeaveOnceIn : List (Entry (Held T)) → Type 0
+  EntriesLeaveOnceIn log =
       (u : EntryId) (v : T) (h : Held T) (since : List (Entry (Held T)))
       (is : IsSince log u h since) → HasOnly h.store u v →
       ByEach (StandsOn u v) since (is.entry ∷ is.before)
       ⊎ LeftOnce u v since (is.entry ∷ is.before)
 
   -- in a history none ever stands again under an id whose entry has left, and nothing goes out
-  abbrev pub EndedStaysEnded : List (Entry (Held T)) → Type 0
-  EndedStaysEnded log =
+  abbrev pub EndedStaysEndedIn : List (Entry (Held T)) → Type 0
+  EndedStaysEndedIn log =
       (u : EntryId) (h : Held T) (since : List (Entry (Held T))) (is : IsSince log u h since) →
       NoneStandsFor h.store u → ByEach (StaysEnded u) since (is.entry ∷ is.before)
 
 -- so in each history of a shard
 abbrev pub ShardEntriesLeaveOnce : Type 0 → Type 0
 ShardEntriesLeaveOnce T =
-    (log : List (Entry (Held T))) → IsStoreHistory log → EntriesLeaveOnce log
+    (log : List (Entry (Held T))) → IsStoreHistory log → EntriesLeaveOnceIn log
 
 abbrev pub ShardEndedStaysEnded : Type 0 → Type 0
 ShardEndedStaysEnded T =
-    (log : List (Entry (Held T))) → IsStoreHistory log → EndedStaysEnded log
+    (log : List (Entry (Held T))) → IsStoreHistory log → EndedStaysEndedIn log

@@ -15,7 +15,7 @@ mod apps_checks {
 
 mod checks {
     //! Ticks, packed words and keys, and the laws of them; the worked cases of the queue over plain words and over shared
-    //! ones, of its parts and of shared words alone; limits; what is sent to a thread.
+    //! ones, of its parts and of shared words alone; limits; when a store is to be of another size; what is sent to a thread.
 
     use crate::tests::kit::same;
 
@@ -25,6 +25,7 @@ mod checks {
     pub mod plain_words;
     pub mod queues;
     pub mod sent;
+    pub mod sizing;
     pub mod slots;
     pub mod step;
     pub mod ticks;
@@ -32,12 +33,6 @@ mod checks {
     pub mod wheel_calls;
     pub mod words;
     pub mod worked;
-}
-
-mod growing_checks {
-    //! When a store that grows is to be of another size.
-
-    mod sizing;
 }
 
 mod scripts {

@@ -1,5 +1,5 @@
 use Rattle.std.proofs.Common.{sym, ap, ◌∙◌, subst}
-use Rattle.dq_queue.specs.Runs.{EntriesLeaveOnce, EndedStaysEnded}
+use Rattle.dq_queue.specs.Runs.{EntriesLeaveOnceIn, EndedStaysEndedIn}
 use Rattle.dq_queue.specs.Shards.{CallerView, HeldShard}
 use Rattle.dq_queue.proofs.Histories.{one_name}
 use Rattle.dq_queue.proofs.Runs.{ended_stays, leave_once}
@@ -11,7 +11,7 @@ tell-requires-clause-table g c =
     one_name g.J.Rooms.history c.self.inside.history.table c.me.inside.history.table _ _ c.self.invariant.1 c.me.invariant.1 at
 
 pub returns-clause-leave : goal.returns-clause-leave
-returns-clause-leave g c = let P : HeldShard _ → Type 0 = λ s. EntriesLeaveOnce s.history.log in subst P c.self.view_is (leave_once _ _ c.self.invariant.4)
+returns-clause-leave g c = let P : HeldShard _ → Type 0 = λ s. EntriesLeaveOnceIn s.history.log in subst P c.self.view_is (leave_once _ _ c.self.invariant.4)
 
 pub returns-clause-ended : goal.returns-clause-ended
-returns-clause-ended g c = let P : HeldShard _ → Type 0 = λ s. EndedStaysEnded s.history.log in subst P c.self.view_is (ended_stays _ _ c.self.invariant.4)
+returns-clause-ended g c = let P : HeldShard _ → Type 0 = λ s. EndedStaysEndedIn s.history.log in subst P c.self.view_is (ended_stays _ _ c.self.invariant.4)

@@ -1,3 +1,5 @@
+//! When a store that grows is to be of another size.
+
 use crate::core::{CoreConfig, DelayCore, VecWords};
 use crate::growing::{Cores, Sizing, Store};
 
@@ -23,6 +25,7 @@ fn store(capacity: usize, used: u32) -> Held {
     store
 }
 
+// promise: growing.sizing
 #[test]
 fn the_next_core_is_made_ahead_once_a_sixteenth_is_free() {
     let sizing = Sizing::new(LEAST);
@@ -30,6 +33,7 @@ fn the_next_core_is_made_ahead_once_a_sixteenth_is_free() {
     assert_eq!(sizing.capacity_ahead(&store(64, 60)), Some(128));
 }
 
+// promise: growing.sizing
 #[test]
 fn no_core_is_smaller_than_the_least() {
     let sizing = Sizing::new(LEAST);
@@ -37,6 +41,7 @@ fn no_core_is_smaller_than_the_least() {
     assert_eq!(sizing.capacity_for_insert(&store(64, 9)), Some(32));
 }
 
+// promise: growing.sizing
 #[test]
 fn a_core_that_comes_is_work() {
     let (mut sizing, mut store) = (Sizing::new(LEAST), store(64, 9));
@@ -45,6 +50,7 @@ fn a_core_that_comes_is_work() {
     assert!(sizing.has_work());
 }
 
+// promise: growing.sizing
 #[test]
 fn an_end_leaves_work_where_the_open_core_is_too_large() {
     let mut sizing = Sizing::new(LEAST);
