@@ -210,7 +210,10 @@ fn is_nearly_full<T, W: Words, A: Allocator>(cores: &Cores<T, W, A>) -> bool {
 
 impl Sizing {
     /// Keeps stores whose smallest core has so many slots.
-    pub const fn new(least: usize) -> Sizing {
+    pub const fn new(least: usize) -> Sizing
+        // There is nothing to do in an empty store.
+        ensures { (result.has_work ≡ false) × (result.quiet_since ≡ 0) }
+    {
         Sizing {
             least,
             kept: 0,
