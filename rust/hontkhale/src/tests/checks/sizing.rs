@@ -52,6 +52,28 @@ fn a_core_that_comes_is_work() {
 
 // promise: growing.sizing
 #[test]
+fn a_core_that_comes_is_open_where_the_open_one_is_too_large_or_full() {
+    for (used, opened) in [(8, 1), (9, 0), (63, 0), (64, 1)] {
+        let (mut sizing, mut store) = (Sizing::new(LEAST), store(64, used));
+        assert!(sizing.bring(&mut store, core(1, 16)).is_ok());
+        assert_eq!(store.cores().opened(), opened, "{used}");
+    }
+}
+
+#[test]
+fn a_core_that_is_opened_again_is_work() {
+    let (mut sizing, mut store) = (Sizing::new(LEAST), store(16, 8));
+    assert!(store.take_in(core(1, 16)).is_ok());
+    for value in 0..16 {
+        assert!(sizing.finds_room(&mut store, false));
+        assert!(store.insert(value, 1_000).0.is_ok());
+    }
+    assert_eq!((store.cores().opened(), sizing.has_work()), (1, false));
+    assert!(sizing.finds_room(&mut store, false));
+    assert_eq!((store.cores().opened(), sizing.has_work()), (0, true));
+}
+
+#[test]
 fn an_end_leaves_work_where_the_open_core_is_too_large() {
     let mut sizing = Sizing::new(LEAST);
     sizing.note_left(&store(64, 9), 0);
