@@ -60,6 +60,7 @@ fn a_core_that_comes_is_open_where_the_open_one_is_too_large_or_full() {
     }
 }
 
+// promise: growing.sizing
 #[test]
 fn a_core_that_is_opened_again_is_work() {
     let (mut sizing, mut store) = (Sizing::new(LEAST), store(16, 8));
@@ -73,6 +74,7 @@ fn a_core_that_is_opened_again_is_work() {
     assert_eq!((store.cores().opened(), sizing.has_work()), (0, true));
 }
 
+// promise: growing.sizing
 #[test]
 fn an_end_leaves_work_where_the_open_core_is_too_large() {
     let mut sizing = Sizing::new(LEAST);
