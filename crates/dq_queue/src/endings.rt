@@ -23,7 +23,8 @@ pub fn inserts_are_given<T>()
 
 /// In a shard's history each entry leaves at most once, whatever calls are made by whatever threads, and has its value until
 /// then. The call by which it left alone may give it out, with that value. From then on none stands under its id, no entry
-/// is given the id, and nothing goes out under it. It is said of each id that no core which comes in gives anew.
+/// is given the id, and nothing goes out under it. It is said of each id that no core which comes in gives anew;
+/// `no_core_gives_anew` of dq_growing tells that no core of an unused number does, nor one that has drained.
 pub fn entries_leave_once<T>()
     ensures { ShardEntriesLeaveOnce T }
 {}

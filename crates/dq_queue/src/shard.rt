@@ -335,7 +335,7 @@ impl<T, J: Rooms, A: Allocator> Shard<T, J, A> {
         ensures history { IsStoreHistory self.old.history.log }
 
         // Whoever made the calls, each entry leaves at most once, and what has ended stays ended.
-        ensures leave { EntriesLeaveOnceIn self.old.history.log }
+        ensures leaves { EntriesLeaveOnceIn self.old.history.log }
         ensures ended { EndedStaysEndedIn self.old.history.log }
         ensures same { (me.new.shard ≡ me.old.shard) × (self.new.held ≡ self.old.held)
             × (self.new.history.log ≡ self.old.history.log) }

@@ -10,8 +10,8 @@ tell-requires-clause-table g c =
     let at = ap (λ (s : HeldShard _). s.held.number) c.self.view_is ∙ (sym c.requires ∙ sym (ap (λ (v : CallerView _). v.shard) c.me.view_is)) in
     one_name g.J.Rooms.history c.self.inside.history.table c.me.inside.history.table _ _ c.self.invariant.1 c.me.invariant.1 at
 
-pub returns-clause-leave : goal.returns-clause-leave
-returns-clause-leave g c = let P : HeldShard _ → Type 0 = λ s. EntriesLeaveOnceIn s.history.log in subst P c.self.view_is (leave_once _ _ c.self.invariant.4)
+pub returns-clause-leaves : goal.returns-clause-leaves
+returns-clause-leaves g c = let P : HeldShard _ → Type 0 = λ s. EntriesLeaveOnceIn s.history.log in subst P c.self.view_is (leave_once _ _ c.self.invariant.4)
 
 pub returns-clause-ended : goal.returns-clause-ended
 returns-clause-ended g c = let P : HeldShard _ → Type 0 = λ s. EndedStaysEndedIn s.history.log in subst P c.self.view_is (ended_stays _ _ c.self.invariant.4)
