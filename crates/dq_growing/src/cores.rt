@@ -160,13 +160,6 @@ impl<T, W: Words, A: Allocator> Cores<T, W, A> {
         self.opened
     }
 
-    /// Returns a number that no core of the row ever had.
-    pub fn next_number(&self) -> u32
-        ensures { result ≡ self.now.next }
-    {
-        self.next
-    }
-
     /// Returns the greatest tick, of one millisecond, that was noted.
     pub fn noted(&self) -> u64
         ensures { result ≡ self.now.noted }

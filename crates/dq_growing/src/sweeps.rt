@@ -1,10 +1,10 @@
-//! Calls that free cancelled entries, and a clear.
+//! Calls that free cancelled entries.
 
 ghost use Rattle.std.specs.Prelude.{◌≡◌, ◌<◌, ◌≤◌, ◌+◌, MatchOption, OnOk, Some, None, Err, length};
 ghost use Rattle.dq_core.specs.declared.errors.ReapError.TheVariants.{Missing};
 ghost use Rattle.dq_core.specs.Calls.{SameCore};
 ghost use Rattle.dq_core.specs.Core.{IsLawfulCore};
-ghost use Rattle.dq_core.specs.Sweeps.{Clears, Reaps};
+ghost use Rattle.dq_core.specs.Sweeps.{Reaps};
 ghost use Rattle.dq_core.specs.Words.{StillBegun};
 ghost use Rattle.dq_growing.specs.Stands.{Ages, HasNoEntry, KeepsWords};
 ghost use Rattle.dq_growing.specs.Cores.{OnCoreAt, OnCoreOr, SweepsFrom};
@@ -69,20 +69,5 @@ impl<T, W: Words, A: Allocator> Cores<T, W, A> {
         }
         let swept = self.cores[place].sweep_some_deferring(from, count);
         Some(swept)
-    }
-
-    /// Ends every linked entry of the core at a place: each live one as removed, and those that were cancelled are
-    /// reaped. It returns how many it ended as removed, and none where there is no such place. No value is dropped: each
-    /// waits until it is taken out.
-    pub fn clear_core(&mut self, place: usize) -> Option<usize>
-        ensures clears { MatchOption result
-            ((length self.old.cores ≤ place) × (self.new ≡ self.old))
-            (λ ended. OnCoreAt place (λ b c. Clears W.shared b ended c) self.old self.new) }
-    {
-        if place >= self.cores.len() {
-            return None;
-        }
-        let ended = self.cores[place].clear_deferring();
-        Some(ended)
     }
 }

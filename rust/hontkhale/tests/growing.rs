@@ -48,7 +48,6 @@ mod drawn {
         (2, Run::peek),
         (8, Run::take_deferred),
         (4, Run::sweep_some),
-        (1, Run::clear_core),
         (6, Run::exchange),
         (1, Run::take_refused),
         (10, Run::take_drained),

@@ -98,11 +98,6 @@ impl<T, W: Words> Cores<T, W> {
         self.opened
     }
 
-    /// Returns a number that no core of the row ever had.
-    pub fn next_number(&self) -> u32 {
-        self.next
-    }
-
     /// Returns the greatest tick, of one millisecond, that was noted.
     pub fn noted(&self) -> u64 {
         self.noted

@@ -1,4 +1,4 @@
-//! Calls that free cancelled entries, and a clear.
+//! Calls that free cancelled entries.
 
 use crate::core::{DelayCore, ReapError, Swept, Words};
 use crate::growing::cores::Cores;
@@ -32,16 +32,5 @@ impl<T, W: Words> Cores<T, W> {
         }
         let swept = nth_mut(&mut self.cores, place).sweep_some_deferring(from, count);
         Some(swept)
-    }
-
-    /// Ends every linked entry of the core at a place: each live one as removed, and those that were cancelled are
-    /// reaped. It returns how many it ended as removed, and none where there is no such place. No value is dropped: each
-    /// waits until it is taken out.
-    pub fn clear_core(&mut self, place: usize) -> Option<usize> {
-        if place >= self.cores.len() {
-            return None;
-        }
-        let ended = nth_mut(&mut self.cores, place).clear_deferring();
-        Some(ended)
     }
 }

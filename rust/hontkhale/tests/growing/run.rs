@@ -385,20 +385,6 @@ impl Run {
         swept.into_iter().for_each(|place| self.model.defers(place));
     }
 
-    pub fn clear_core(&mut self) {
-        let (place, core) = self.place();
-        let answer = self.cores.clear_core(place);
-        let held = core.map(|core| {
-            self.model
-                .slots_of(core)
-                .filter(|it| it.1.held.is_some())
-                .collect::<Vec<_>>()
-        });
-        let is_live = |it: &&(Place, Slot)| it.1.held.is_some_and(|held| held.gave_up.is_none());
-        assert_eq!(answer, held.as_ref().map(|held| held.iter().filter(is_live).count()));
-        held.iter().flatten().for_each(|it| self.model.defers(it.0));
-    }
-
     fn took_in(&mut self, core: Core) {
         let number = core.shard();
         assert!(self.cores.take_in(core).is_ok(), "a core that may come in");
