@@ -1,7 +1,7 @@
 //! A row of cores under drawn calls, and the model that says what each has to answer.
 
 use super::draw::Draw;
-use super::model::{place_of, Held, Model, Place, Slot};
+use super::model::{place_of, Held, Model, Place};
 use super::value::{Living, Value};
 use hontkhale::parts::growing::{Cores, Folds, TakeError};
 use hontkhale::parts::owner::{
