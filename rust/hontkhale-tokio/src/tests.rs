@@ -322,6 +322,23 @@ fn a_worn_core_goes_in_no_insert_or_reset_with_the_values_that_were_cancelled_in
     }
 }
 
+/// A poll that comes upon a cancelled entry before it knows of the cancel frees the slot, and the value waits there.
+#[test]
+fn an_insert_drops_no_value_that_waits_in_the_one_free_slot() {
+    let (is_in_call, drops_in_calls) = (Rc::<Cell<bool>>::default(), Rc::<Cell<usize>>::default());
+    let value = || Watched { is_in_call: is_in_call.clone(), drops_in_calls: drops_in_calls.clone() };
+    let mut queue = Entries::new(1, LAST_STAMP);
+    queue.share();
+    let handle = Handle::of(queue.shared().clone());
+    let key = queue.insert(value(), 5);
+    assert!(handle.cancel(&key).is_ok());
+    assert!(matches!(queue.poll(5, u32::MAX), Ok(Piece::Answer(Turn::Idle))));
+    is_in_call.set(true);
+    queue.insert(value(), 6);
+    is_in_call.set(false);
+    assert_eq!((drops_in_calls.get(), queue.len()), (0, 1));
+}
+
 struct Nobody;
 
 impl Wake for Nobody {

@@ -127,14 +127,15 @@ impl<T> Shared<T> {
     /// The shard that has something due first, where one has.
     #[inline(always)]
     fn most_due(&self, now: u64) -> Option<usize> {
-        let mut first = (now.saturating_add(1), None);
-        for at in 0..self.common.seen.len() {
-            let hint = self.common.hint(at);
-            if hint < first.0 {
-                first = (hint, Some(at));
+        let (common, shards) = (&*self.common, self.common.seen.len());
+        let (mut least, mut first) = (now.saturating_add(1), shards);
+        for at in 0..shards {
+            let hint = common.hint(at);
+            if hint < least {
+                (least, first) = (hint, at);
             }
         }
-        first.1
+        (first < shards).then_some(first)
     }
 
     /// Takes an entry out that is due, by a poll that is a whole one of cores of at most so many entries.

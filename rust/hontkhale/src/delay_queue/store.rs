@@ -317,7 +317,7 @@ impl<T> ShardStore<T> {
     /// Whether no core has more than so many entries.
     #[inline(always)]
     pub fn is_small(&self, most: usize) -> bool {
-        self.rows().all(|core| core.len() <= most)
+        self.left() <= most as u64 || self.rows().all(|core| core.len() <= most)
     }
 
     /// What a poll comes to at a tick, as a whole or by 256 steps.
@@ -356,8 +356,9 @@ impl<T> ShardStore<T> {
     /// cores that takes as long as a poll.
     #[inline(always)]
     pub fn note_next(&mut self) {
-        if self.store.cores().count() == 1 {
-            self.hint = self.store.cores().next_wake().unwrap_or(NEVER);
+        let cores = self.store.cores();
+        if let (1, Some(core)) = (cores.count(), cores.get(0)) {
+            self.hint = core.next_wake().unwrap_or(NEVER);
         }
     }
 
