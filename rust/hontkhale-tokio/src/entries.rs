@@ -10,7 +10,6 @@ use crate::shared::{Names, Shared, Step};
 use hontkhale::parts::directory::Clerk;
 use hontkhale::parts::growing::{Cores, Folds, Moved, NextDeadline, Store};
 use hontkhale::parts::owner::{CallError, CoreError, DelayCore, EntryId, Keeper, Look, OpenWords, Removed, LAST_TICK};
-use std::ops::Deref;
 use std::sync::mpsc::{channel, Receiver};
 use std::sync::{Arc, Mutex};
 
@@ -24,7 +23,7 @@ pub(crate) use polls::NEVER;
 type Core<T> = DelayCore<T, Keeper>;
 
 pub(crate) struct Entries<T> {
-    shared: Owner,
+    shared: Arc<Shared>,
     store: Store<T, Keeper>,
     folds: Folds<Keeper>,
     clerk: Clerk<OpenWords>,
@@ -49,30 +48,13 @@ pub(crate) struct Entries<T> {
     peeked: Mutex<Option<(Key, u64)>>,
 }
 
-/// The owner's hold of what it shares with handles, which end with it.
-struct Owner(Arc<Shared>);
-
-impl Deref for Owner {
-    type Target = Arc<Shared>;
-
-    fn deref(&self) -> &Arc<Shared> {
-        &self.0
-    }
-}
-
-impl Drop for Owner {
-    fn drop(&mut self) {
-        self.0.close();
-    }
-}
-
 impl<T> Entries<T> {
     /// Room for so many entries, whose slots have so many stamps.
     pub fn new(capacity: usize, last_stamp: u32) -> Entries<T> {
         let clerk = Clerk::new(MOST_CORES).expect("memory for a queue");
         let (tell, cancelled) = channel();
         let mut entries = Entries {
-            shared: Owner(Arc::new(Shared::new(clerk.directory().clone(), tell))),
+            shared: Arc::new(Shared::new(clerk.directory().clone(), tell)),
             store: Store::new(Cores::new()).expect("a store of no cores"),
             folds: Folds::new(),
             clerk,
@@ -307,7 +289,7 @@ impl<T> Entries<T> {
     /// The entries that handles cancelled and that weren't freed yet.
     pub fn cancelled(&self) -> usize {
         let len = self.len();
-        (len + self.shared.cancels()).saturating_sub(self.left).min(len)
+        (len + self.shared.cancels()).saturating_sub(self.left)
     }
 
     /// Whether nothing is left but what handles cancelled.

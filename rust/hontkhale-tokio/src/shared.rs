@@ -7,7 +7,7 @@ use crate::unique_ids::UniqueIds;
 use hontkhale::parts::directory::Directory;
 use hontkhale::parts::owner::{self, CallError, Look, OpenWords};
 use std::collections::HashMap;
-use std::sync::atomic::{AtomicBool, AtomicUsize, Ordering::SeqCst};
+use std::sync::atomic::{AtomicUsize, Ordering::SeqCst};
 use std::sync::mpsc::Sender;
 use std::sync::{Mutex, MutexGuard, PoisonError};
 
@@ -29,8 +29,6 @@ pub(crate) struct Shared {
     /// Where handles tell the owner what they cancelled, and how often they did.
     cancelled: Sender<Key>,
     cancels: AtomicUsize,
-    /// Whether the queue has gone, whose entries have ended with it.
-    is_over: AtomicBool,
 }
 
 /// What is asked of an entry's word.
@@ -61,7 +59,6 @@ impl Shared {
             names: Mutex::default(),
             cancelled,
             cancels: AtomicUsize::new(0),
-            is_over: AtomicBool::new(false),
         }
     }
 
@@ -73,7 +70,7 @@ impl Shared {
     /// A step on an entry's word; none where the entry has ended, or the key is another queue's.
     #[inline(always)]
     pub fn step(&self, key: &Key, step: Step) -> Option<u64> {
-        if key.queue() != self.number || self.is_over.load(SeqCst) {
+        if key.queue() != self.number {
             return None;
         }
         match step.make(self.words.get(key.name().core())?, &key.name().key()) {
@@ -104,10 +101,5 @@ impl Shared {
     #[inline]
     pub fn cancels(&self) -> usize {
         self.cancels.load(SeqCst)
-    }
-
-    /// The queue goes: from here on no step is accepted.
-    pub fn close(&self) {
-        self.is_over.store(true, SeqCst);
     }
 }

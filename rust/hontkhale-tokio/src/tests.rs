@@ -5,12 +5,14 @@ use crate::entries::{Entries, AFTER_LOOK};
 use crate::handle::{EntryError, Handle};
 use crate::key::{Expired, Key};
 use crate::queue::DelayQueue;
-use hontkhale::parts::owner::{Piece, Turn, LAST_STAMP};
+use hontkhale::parts::owner::{Piece, Turn, CAPACITY_LIMIT, LAST_STAMP};
 use std::cell::Cell;
 use std::collections::HashMap;
 use std::rc::Rc;
+use std::sync::atomic::{AtomicBool, Ordering::SeqCst};
 use std::sync::Arc;
 use std::task::{Context, Poll, Wake, Waker};
+use std::thread;
 use std::time::Duration;
 use tokio::time::{advance, Instant};
 
@@ -337,6 +339,82 @@ fn an_insert_drops_no_value_that_waits_in_the_one_free_slot() {
     queue.insert(value(), 6);
     is_in_call.set(false);
     assert_eq!((drops_in_calls.get(), queue.len()), (0, 1));
+}
+
+/// Handles find an entry that was reset to a sooner deadline by a name, be it before the first handle was made.
+#[test]
+fn no_name_outlives_its_entry() {
+    type Ends = fn(&mut Entries<u64>, &Key);
+    let ends: [Ends; 3] = [
+        |queue, key| assert!(queue.remove(key).is_some()),
+        |queue, key| {
+            assert!(Handle::of(queue.shared().clone()).cancel(key).is_ok());
+            assert!(matches!(polled(queue, 0, u32::MAX), Found::Waiting(_) | Found::Idle));
+        },
+        |queue, _| assert!(matches!(polled(queue, 500, u32::MAX), Found::Out(_))),
+    ];
+    for (end, has_handle) in ends.into_iter().flat_map(|end| [(end, false), (end, true)]) {
+        // There are more than the first core has slots.
+        let mut queue = Entries::new(0, LAST_STAMP);
+        let keys: Vec<Key> = (0..100).map(|value| queue.insert(value, 1_000)).collect();
+        if has_handle {
+            queue.share();
+            keys.iter().for_each(|key| queue.reset(key, 1_000).unwrap());
+            assert!(queue.shared().names().is_empty(), "a deadline that isn't sooner takes no stamp");
+        }
+        keys.iter().for_each(|key| queue.reset(key, 500).unwrap());
+        queue.share();
+        assert_eq!(queue.shared().names().len(), keys.len());
+        keys.iter().for_each(|key| end(&mut queue, key));
+        assert!(queue.shared().names().is_empty());
+    }
+}
+
+/// A sooner reset moves it, since its slot has no stamp left.
+#[test]
+fn a_handle_finds_an_entry_that_moves_meanwhile() {
+    let mut queue = Entries::new(0, 1);
+    queue.share();
+    let key = queue.insert(0, 1_000_000);
+    let handle = Handle::of(queue.shared().clone());
+    let is_over = AtomicBool::new(false);
+    thread::scope(|scope| {
+        let extends = scope.spawn(|| while !is_over.load(SeqCst) && handle.extend(&key, Duration::ZERO).is_ok() {});
+        for sooner in 1..20_000 {
+            queue.reset(&key, 1_000_000 - sooner).unwrap();
+            if sooner % 100 == 0 {
+                queue.shrink_to_fit();
+            }
+        }
+        let found_each_time = !extends.is_finished();
+        is_over.store(true, SeqCst);
+        assert!(found_each_time);
+    });
+}
+
+#[test]
+fn slots_that_are_yet_to_be_made_are_given_back() {
+    let gives_back: [fn(&mut Entries<u64>); 2] = [Entries::shrink_to_fit, Entries::compact];
+    for give_back in gives_back {
+        let mut queue = Entries::new(CAPACITY_LIMIT + 64, LAST_STAMP);
+        give_back(&mut queue);
+        assert_eq!(queue.capacity(), 0);
+    }
+}
+
+#[test]
+fn as_many_slots_are_made_as_were_asked_for_and_each_is_used_before_there_are_more() {
+    let many = CAPACITY_LIMIT + 64;
+    let mut queue = Entries::new(many, LAST_STAMP);
+    (0..many).for_each(|value| _ = queue.insert(value, 1));
+    assert_eq!((queue.capacity(), queue.len()), (many, many));
+    let mut queue = Entries::new(0, LAST_STAMP);
+    let keys: Vec<Key> = (0..64).map(|value| queue.insert(value, 1)).collect();
+    (64..192).for_each(|value| _ = queue.insert(value, 1));
+    keys.iter().take(30).for_each(|key| drop(queue.remove(key)));
+    let slots = queue.capacity();
+    (0..30).for_each(|value| _ = queue.insert(value, 1));
+    assert_eq!((queue.capacity(), queue.len()), (slots, slots));
 }
 
 struct Nobody;

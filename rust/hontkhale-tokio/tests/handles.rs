@@ -261,6 +261,7 @@ fn too_far_is_refused() {
             let key = queue.insert("a", ms(60_000));
             assert_eq!(handle.extend(&key, YEAR * 140), Err(EntryError::TooFar));
             assert_eq!(handle.extend(&key, Duration::MAX), Err(EntryError::TooFar));
+            assert_eq!(queue.try_reset_at(&key, Instant::now() + YEAR * 140), Err(EntryError::TooFar));
             assert!(handle.extend(&key, YEAR * 130).is_ok());
             // It is told first, of an entry that has ended too.
             assert_eq!(queue.remove(&key).into_inner(), "a");

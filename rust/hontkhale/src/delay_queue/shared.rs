@@ -169,7 +169,9 @@ impl<T> Shared<T> {
             return Err(InsertErrorKind::Closed);
         }
         let counted = self.common.count_in().ok_or(InsertErrorKind::Full)?;
-        let at = route() % self.shards.len();
+        let (route, shards) = (route(), self.shards.len());
+        // The first threads are spared the division.
+        let at = if route < shards { route } else { route % shards };
         let mut store = self.lock(at);
         if !store.finds_room(false) {
             drop(store);
