@@ -367,6 +367,8 @@ fn no_name_outlives_its_entry() {
         assert_eq!(queue.shared().names().len(), keys.len());
         keys.iter().for_each(|key| end(&mut queue, key));
         assert!(queue.shared().names().is_empty());
+        queue.shrink_to_fit();
+        assert_eq!(queue.shared().names().capacity(), 0);
     }
 }
 
@@ -406,6 +408,7 @@ fn slots_that_are_yet_to_be_made_are_given_back() {
 fn as_many_slots_are_made_as_were_asked_for_and_each_is_used_before_there_are_more() {
     let many = CAPACITY_LIMIT + 64;
     let mut queue = Entries::new(many, LAST_STAMP);
+    queue.reserve(many);
     (0..many).for_each(|value| _ = queue.insert(value, 1));
     assert_eq!((queue.capacity(), queue.len()), (many, many));
     let mut queue = Entries::new(0, LAST_STAMP);
@@ -415,6 +418,51 @@ fn as_many_slots_are_made_as_were_asked_for_and_each_is_used_before_there_are_mo
     let slots = queue.capacity();
     (0..30).for_each(|value| _ = queue.insert(value, 1));
     assert_eq!((queue.capacity(), queue.len()), (slots, slots));
+}
+
+/// The second core was told no tick yet.
+#[test]
+fn what_is_put_in_late_comes_out_no_earlier_than_what_came_out_last() {
+    let mut queue = Entries::new(0, LAST_STAMP);
+    (0..64).for_each(|value| _ = queue.insert(value, 10));
+    queue.insert(64, 1_000);
+    assert!(matches!(polled(&mut queue, 20, u32::MAX), Found::Out(_)));
+    let late = queue.insert(65, 5);
+    assert_eq!(queue.deadline(&late), Some(10));
+}
+
+#[test]
+fn a_task_waits_for_no_core_whose_entries_have_left() {
+    let mut queue = Entries::new(0, LAST_STAMP);
+    let leave: Vec<Key> = (0..64).map(|value| queue.insert(value, 100)).collect();
+    queue.insert(64, 1_000);
+    assert!(matches!(polled(&mut queue, 0, u32::MAX), Found::Waiting(100)));
+    queue.insert(50, 50);
+    assert!(matches!(polled(&mut queue, 50, u32::MAX), Found::Out(out) if out.data == 50));
+    leave.iter().for_each(|key| assert!(queue.remove(key).is_some()));
+    assert!(matches!(polled(&mut queue, 51, u32::MAX), Found::Waiting(960..=1_000)));
+}
+
+#[test]
+fn a_core_of_a_size_that_was_there_goes_on_with_its_words() {
+    let mut queue = Entries::new(0, LAST_STAMP);
+    for _ in 0..50 {
+        let keys: Vec<Key> = (0..100).map(|value| queue.insert(value, 10)).collect();
+        assert!(keys.iter().all(|key| key.entry().shard() < 4));
+        keys.iter().for_each(|key| assert!(queue.remove(key).is_some()));
+        queue.shrink_to_fit();
+    }
+}
+
+#[test]
+fn a_clear_drops_what_was_cancelled_too() {
+    let mut queue = Entries::new(0, LAST_STAMP);
+    queue.share();
+    let (handle, value) = (Handle::of(queue.shared().clone()), Rc::new(()));
+    let keys: Vec<Key> = (0..100).map(|_| queue.insert(value.clone(), 10)).collect();
+    keys.iter().step_by(2).for_each(|key| assert!(handle.cancel(key).is_ok()));
+    queue.clear();
+    assert_eq!((Rc::strong_count(&value), queue.len()), (1, 0));
 }
 
 struct Nobody;

@@ -166,6 +166,37 @@ fn a_queue_goes_on_in_a_second_runtime_while_the_first_is_not_driven() {
     }
 }
 
+/// Both poll by one waker, as that of a task within a task.
+#[test]
+fn one_task_goes_on_in_a_second_runtime_once_it_was_given_an_entry() {
+    ends(|| {
+        let (first, second) = (paused(), paused());
+        let mut queue = made(&first);
+        let wakes = Arc::<Wakes>::default();
+        let waker = Waker::from(wakes.clone());
+        let mut cx = Context::from_waker(&waker);
+        first.block_on(async {
+            queue.set_budget(1);
+            let handle = queue.handle();
+            let keys = [300, 1_000, 2_000].map(|after| queue.insert("c", ms(after)));
+            while queue.poll_expired(&mut cx).is_pending() && wakes.take() > 0 {}
+            keys[1..].iter().for_each(|key| assert!(handle.cancel(key).is_ok()));
+            assert!(queue.poll_expired(&mut cx).is_pending());
+            assert_eq!(wakes.take(), 1, "it gave way");
+            queue.insert("a", ms(0));
+            while queue.poll_expired(&mut cx).is_pending() {
+                assert_eq!(wakes.take(), 1);
+            }
+        });
+        second.block_on(async {
+            while queue.poll_expired(&mut cx).is_pending() && wakes.take() > 0 {}
+            advance(ms(301)).await;
+            assert_eq!(wakes.take(), 1);
+        });
+        drop(first);
+    });
+}
+
 #[test]
 fn a_stream_goes_on_in_a_second_runtime_while_the_first_is_not_driven() {
     for has_waited in [false, true] {

@@ -119,3 +119,32 @@ fn a_task_that_gives_way_is_woken_once() {
         });
     });
 }
+
+#[test]
+fn an_insert_or_a_reset_wakes_the_task_only_where_it_is_sooner_than_what_the_task_waits_for() {
+    ends(|| {
+        paused().block_on(async {
+            let wakes = Arc::<Wakes>::default();
+            let waker = Waker::from(wakes.clone());
+            let mut cx = Context::from_waker(&waker);
+            let mut queue = DelayQueue::new();
+            let first = queue.insert("first".to_string(), ms(10_000));
+            assert!(queue.poll_expired(&mut cx).is_pending());
+            let other = queue.insert("at the same time".to_string(), ms(10_000));
+            queue.insert("later".to_string(), ms(20_000));
+            queue.reset(&other, ms(10_000));
+            assert_eq!(wakes.take(), 0);
+            queue.insert("sooner".to_string(), ms(9_999));
+            assert_eq!(wakes.take(), 1);
+            assert!(queue.poll_expired(&mut cx).is_pending());
+            queue.reset(&first, ms(9_998));
+            assert_eq!(wakes.take(), 1);
+            assert!(queue.poll_expired(&mut cx).is_pending());
+            advance(ms(9_998)).await;
+            assert_eq!(wakes.take(), 1);
+            assert!(queue.poll_expired(&mut cx).is_ready());
+            queue.clear();
+            assert_eq!(wakes.take(), 0, "who was given an entry polls again by itself");
+        });
+    });
+}

@@ -42,7 +42,7 @@ impl<T> Entries<T> {
     /// Notes what came out of the store.
     #[inline]
     pub fn note_expired(&mut self, out: &owner::Expired<T>) {
-        (self.tick, self.hint) = (out.deadline, out.deadline);
+        self.tick = out.deadline;
         self.note_out(&self.key(&out.key.entry()));
     }
 
@@ -92,7 +92,7 @@ impl<T> Entries<T> {
             out = self.remove(&key);
         }
         if out.is_some() {
-            (self.tick, self.hint) = (self.tick.max(deadline), deadline);
+            self.tick = self.tick.max(deadline);
         }
         out
     }
