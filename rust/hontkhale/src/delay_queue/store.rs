@@ -317,7 +317,7 @@ impl<T> ShardStore<T> {
     /// Whether no core has more than so many entries.
     #[inline(always)]
     pub fn is_small(&self, most: usize) -> bool {
-        self.left() <= most as u64 || self.rows().all(|core| core.len() <= most)
+        self.rows().all(|core| core.len() <= most)
     }
 
     /// What a poll comes to at a tick, as a whole or by 256 steps.
