@@ -317,6 +317,11 @@ impl<T> ShardStore<T> {
     /// Whether no core has more than so many entries.
     #[inline(always)]
     pub fn is_small(&self, most: usize) -> bool {
+        self.left() <= most as u64 || self.has_small_cores(most)
+    }
+
+    #[inline(never)]
+    fn has_small_cores(&self, most: usize) -> bool {
         self.rows().all(|core| core.len() <= most)
     }
 
