@@ -381,16 +381,20 @@ fn a_handle_finds_an_entry_that_moves_meanwhile() {
     let handle = Handle::of(queue.shared().clone());
     let is_over = AtomicBool::new(false);
     thread::scope(|scope| {
-        let extends = scope.spawn(|| while !is_over.load(SeqCst) && handle.extend(&key, Duration::ZERO).is_ok() {});
+        let extends = scope.spawn(|| {
+            while !is_over.load(SeqCst) {
+                handle.extend(&key, Duration::ZERO)?;
+            }
+            Ok::<(), EntryError>(())
+        });
         for sooner in 1..20_000 {
             queue.reset(&key, 1_000_000 - sooner).unwrap();
             if sooner % 100 == 0 {
                 queue.shrink_to_fit();
             }
         }
-        let found_each_time = !extends.is_finished();
         is_over.store(true, SeqCst);
-        assert!(found_each_time);
+        assert_eq!(extends.join().expect("no panic"), Ok(()));
     });
 }
 
@@ -414,7 +418,7 @@ fn as_many_slots_are_made_as_were_asked_for_and_each_is_used_before_there_are_mo
     let mut queue = Entries::new(0, LAST_STAMP);
     let keys: Vec<Key> = (0..64).map(|value| queue.insert(value, 1)).collect();
     (64..192).for_each(|value| _ = queue.insert(value, 1));
-    keys.iter().take(30).for_each(|key| drop(queue.remove(key)));
+    keys.iter().take(30).for_each(|key| assert!(queue.remove(key).is_some()));
     let slots = queue.capacity();
     (0..30).for_each(|value| _ = queue.insert(value, 1));
     assert_eq!((queue.capacity(), queue.len()), (slots, slots));

@@ -238,7 +238,8 @@ fn room_that_cannot_be_is_refused_at_once() {
                 assert!(queue.capacity() < 1_000 && queue.remove(&key).into_inner() == 7);
             }
             // As many as there may be, but of 32 KiB each.
-            let made = std::panic::catch_unwind(|| here::DelayQueue::<[u64; 1 << 12]>::with_capacity(1 << 32).capacity());
+            let made =
+                std::panic::catch_unwind(|| here::DelayQueue::<[u64; 1 << 12]>::with_capacity(1 << 32).capacity());
             assert!(made.is_err());
             let taken = resident("VmHWM:") - before;
             assert!(taken < 8_000, "{taken} KiB");
