@@ -74,6 +74,7 @@ impl<W, A: Allocator> Line<W, A> {
     pub fn add_place(&mut self) -> Result<Hint<A>, AllocError>
         requires { self.old.leader.dealt < self.old.leader.places }
         ensures dealt { IfOk result (λ h. DealsHint self.old.leader self.new.leader h) }
+        ensures refused { IfErr result (λ _. self.new ≡ self.old) }
         ensures same { (self.new.roll ≡ self.old.roll) × (self.new.sleeps ≡ self.old.sleeps)
             × (self.new.closer ≡ self.old.closer) }
     {
