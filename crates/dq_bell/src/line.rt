@@ -1,9 +1,9 @@
 //! The line of those that wait, which lies under a lock of its own.
 //!
-//! The first in line leads: it alone sleeps until a tick, by the bell's rule. Those behind it sleep until they are called. When
-//! the first leaves, the next one leads and is called in the same step, so nobody sleeps behind one that has left. Who sleeps
-//! leaves a `W` in the line, such as a thread or a task's waker; a call takes it out, and whoever has the [`Call`] wakes it once
-//! the lock is released. No code of `W` runs under the lock.
+//! The first in line leads: it alone sleeps until a tick, by the bell's rule. Those behind it sleep until they are
+//! called. When the first leaves, the next one leads and is called in the same step, so nobody sleeps behind one that
+//! has left. Who sleeps leaves a `W` in the line, such as a thread or a task's waker; a call takes it out, and whoever
+//! has the [`Call`] wakes it once the lock is released. No code of `W` runs under the lock.
 ghost use Rattle.std.specs.Prelude.{◌≡◌, ◌≢◌, ℕ, ◌+◌, ◌<◌, false, is_some, slice_index_or, IfOk, IfErr, Some, length};
 ghost use Rattle.dq_bell.specs.Lines.{ClosesBellOf, IsFreshLine, IsLed, IsSameLine, Joins, FallsAsleep, StaysAwake, LeavesLine, IsCalled, HearsRung, ClosesLine, IsAwakeAt};
 ghost use Rattle.dq_bell.specs.Seats.{DealsHint, is_leader_rung};
@@ -181,8 +181,8 @@ impl<W: Drop, A: Allocator> Line<W, A> {
         Ok(self.roll.join())
     }
 
-    /// Falls asleep until it is called, and the first in line at most until a tick. Refused, with its `W`, where it isn't in
-    /// line or sleeps already, where the bell is closed, and where the first found a hint before that tick.
+    /// Falls asleep until it is called, and the first in line at most until a tick. Refused, with its `W`, where it
+    /// isn't in line or sleeps already, where the bell is closed, and where the first found a hint before that tick.
     pub fn sleep(&mut self, at: usize, until: u64, call: W) -> Result<(), W>
         ensures asleep { IfOk result (λ _. FallsAsleep self.old at until self.new) }
         ensures awake { IfErr result (λ w. (w ≡ call) × StaysAwake self.old at self.new) }

@@ -320,6 +320,7 @@ impl<T> ShardStore<T> {
         self.left() <= most as u64 || self.has_small_cores(most)
     }
 
+    /// The same by the cores themselves. Inlined, it would cost each receive from a shard of many entries some more.
     #[inline(never)]
     fn has_small_cores(&self, most: usize) -> bool {
         self.rows().all(|core| core.len() <= most)
