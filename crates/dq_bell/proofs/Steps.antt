@@ -1,15 +1,15 @@
 -- Each step keeps the rule.
-use Rattle.std.proofs.Common.{◌≡◌, ◌≢◌, ◌⊎◌, ℕ, zero, suc, ◌+◌, ◌*◌, ◌<◌, ◌≤◌, List, [], ◌∷◌, ◌++◌, length, get_or, set, replicate, true, false, true≢false, refl, sym, ap, ◌∙◌, subst, inl, inr, ⊎_elim, arith}
+use Rattle.std.proofs.Common.{◌≡◌, ◌≢◌, ◌⊎◌, ℕ, zero, suc, ◌+◌, ◌*◌, ◌<◌, ◌≤◌, List, [], ◌∷◌, ◌++◌, length, get_or, set, replicate, Bool, true, false, true≢false, refl, sym, ap, ◌∙◌, subst, inl, inr, ⊎_elim, arith}
 use Rattle.std.proofs.lemmas.List.{get_or-set_same, get_or-set_other, set-get_or, length-set, length-replicate, get_or-replicate}
 use mathlib.Core.Option.{some, none, some-ne-none, some-injective}
 use mathlib.Core.Logic.{dite}
 use native.Mathlib.Decide.{ℕ_discrete, dec_le}
 use lib.ListN.{get_elem?}
 use Rattle.atomic_table.specs.Table.{State, step, keeps, opening, Allows, Splits}
-use Rattle.atomic_table.proofs.Lists.{at_set, set_again, set_else, at_longer}
+use Rattle.atomic_table.proofs.Lists.{at_set, set_else, at_longer}
 use Rattle.dq_bell.specs.declared.rule.SeatView.{SeatView}
 use Rattle.dq_bell.specs.declared.TheConstants.{NEVER}
-use Rattle.dq_bell.specs.Views.{first_leader, dealing, dealt_hint, having_written, having_asked, having_rung, having_armed, having_seen, having_found}
+use Rattle.dq_bell.specs.Views.{first_leader, dealing, dealt_hint, having_written, having_asked, having_heard, having_rung, having_armed, having_seen, having_found}
 use Rattle.dq_bell.specs.Rule.{armed_until, hint_at, IsYetToAsk, IsHeeded, WakesInTime, IsSeat, OneWrites, OneLeads, IsBell}
 use Rattle.dq_bell.specs.Law.{NoWakeIsLost, NobodySleepsOnceClosed}
 use Rattle.dq_bell.specs.Plays.{lowers, asks, rings, arms, looks}
@@ -142,23 +142,25 @@ module _ (key slots id : ℕ) (v : SeatView) (c : List (ℕ × ℕ)) (keeper : v
       let stays = set-get_or s.words 0 0 in
       dite (dec_le a v.hint)
       (λ le. (
-        having_asked v,
+        having_asked v a,
         keeps,
         tt,
-        (let P : List ℕ → Type 0 = λ ws. IsBell key (record { words = ws; homes = s.homes; views = set s.views id (having_asked v) }) in subst P (sym stays) (quiet s k at le)),
+        (let P : List ℕ → Type 0 = λ ws. IsBell key (record { words = ws; homes = s.homes; views = set s.views id (having_asked v a) }) in subst P (sym stays) (told false a s k at (within s k at a refl le))),
         ((λ _. refl), (λ lt. absurd (omega arith))),
       ))
       (λ no. (
-        v,
+        having_heard v a,
         keeps,
         tt,
-        (let P : List ℕ × List SeatView → Type 0 = λ x. IsBell key (record { words = x.0; homes = s.homes; views = x.1 }) in subst P (λ i. (sym stays i, sym (set_again s.views id v at) i)) k),
+        (let P : List ℕ → Type 0 = λ ws. IsBell key (record { words = ws; homes = s.homes; views = set s.views id (having_heard v a) }) in subst P (sym stays) (told v.owes a s k at (λ t q _ was. beyond a s at t q was))),
         ((λ le. absurd (no le)), (λ _. refl)),
       ))
     where
-      quiet : (s : State ℕ SeatView) → IsBell key s → get_elem? s.views id ≡ some v → get_or s.words 0 0 ≤ v.hint → IsBell key (record { words = s.words; homes = s.homes; views = set s.views id (having_asked v) })
-      quiet s k at le =
-          let w = having_asked v in
+      told : (owes : Bool) (until : ℕ) (s : State ℕ SeatView) → IsBell key s → get_elem? s.views id ≡ some v
+          → ((t q : ℕ) → armed_until s.words ≡ t → IsHeeded s.words s.views t q → IsHeeded s.words (set s.views id (record v { owes = owes; heard = until })) t q)
+          → IsBell key (record { words = s.words; homes = s.homes; views = set s.views id (record v { owes = owes; heard = until }) })
+      told owes until s k at heed =
+          let w : SeatView = record v { owes = owes; heard = until } in
           let mine = (k.each id v at).hint keeper in
           let own : IsSeat key s.words (set s.views id w) w = record {
             hint = λ _. mine;
@@ -177,19 +179,24 @@ module _ (key slots id : ℕ) (v : SeatView) (c : List (ℕ × ℕ)) (keeper : v
               };
             });
           }
-        where
-          heed : (until q : ℕ) → armed_until s.words ≡ until → IsHeeded s.words s.views until q → IsHeeded s.words (set s.views id (having_asked v)) until q
-          heed until q is was =
-              ⊎_elim inl
-              (λ o. dite (ℕ_discrete o.0 id)
-              (λ x. let P : ℕ → Type 0 = λ j. get_elem? s.views j ≡ some o.1 in
-              let same : o.1 ≡ v = some-injective _ _ (sym (subst P x o.2) ∙ at) in
-              let here : v.place ≡ q = sym (ap (λ (u : SeatView). u.place) same) ∙ o.5 in
-              let told = ((k.each id v at).hint keeper).1 in
-              let Q : ℕ → Type 0 = λ i. hint_at s.words i ≡ v.hint in
-              let h : hint_at s.words q ≡ v.hint = subst Q here told in inl (omega arith))
-              (λ n. inr (o.0, o.1, set_else s.views id o.0 (having_asked v) n ∙ o.2, o.3, o.4, o.5)))
-              was
+
+      beyond : (a : ℕ) (s : State ℕ SeatView) → get_elem? s.views id ≡ some v → (t q : ℕ)
+          → IsHeeded s.words s.views t q → IsHeeded s.words (set s.views id (having_heard v a)) t q
+      beyond a s at t q was = ⊎_elim inl (λ o. inr (owed_on s.views id v (having_heard v a) at refl refl (λ y. y) q o)) was
+
+      within : (s : State ℕ SeatView) → IsBell key s → get_elem? s.views id ≡ some v → (a : ℕ) → a ≡ get_or s.words 0 0 → a ≤ v.hint
+          → (t q : ℕ) → armed_until s.words ≡ t → IsHeeded s.words s.views t q → IsHeeded s.words (set s.views id (having_asked v a)) t q
+      within s k at a is_a le t q is was =
+          ⊎_elim inl
+          (λ o. dite (ℕ_discrete o.0 id)
+          (λ x. let P : ℕ → Type 0 = λ j. get_elem? s.views j ≡ some o.1 in
+          let same : o.1 ≡ v = some-injective _ _ (sym (subst P x o.2) ∙ at) in
+          let here : v.place ≡ q = sym (ap (λ (u : SeatView). u.place) same) ∙ o.5 in
+          let mine = ((k.each id v at).hint keeper).1 in
+          let Q : ℕ → Type 0 = λ i. hint_at s.words i ≡ v.hint in
+          let h : hint_at s.words q ≡ v.hint = subst Q here mine in inl (omega arith))
+          (λ n. inr (o.0, o.1, set_else s.views id o.0 (having_asked v a) n ∙ o.2, o.3, o.4, o.5)))
+          was
 
   pub rings_ok : Allows (IsBell key) slots id (v, c) 0 (λ _. 0) (λ _. rings (step slots 0 0 0 none) (v, c) 0)
   rings_ok s k sized at wide =

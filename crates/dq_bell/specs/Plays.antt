@@ -3,16 +3,17 @@
 use Rattle.std.specs.Prelude.{◌≡◌, ℕ, ◌<◌, ◌≤◌}
 use Rattle.atomic_table.specs.Table.{Me, Step}
 use Rattle.dq_bell.specs.declared.rule.SeatView.{SeatView}
-use Rattle.dq_bell.specs.Views.{having_written, having_asked, having_rung, having_armed}
-use Rattle.dq_bell.specs.Views.{having_seen, having_found}
+use Rattle.dq_bell.specs.Views.{having_written, having_asked, having_heard, having_rung}
+use Rattle.dq_bell.specs.Views.{having_armed, having_seen, having_found}
 
 -- the hint is written, and its writer has yet to ask
 abbrev pub lowers : Step ℕ → Me ℕ SeatView → ℕ → Me ℕ SeatView → Type 0
 lowers s m n m' = m'.0 ≡ having_written m.0 s.first
 
--- nothing is owed where the leader sleeps no longer than until the hint
+-- it hears until when the leader sleeps; nothing is owed where that isn't beyond the hint
 abbrev pub asks : Step ℕ → Me ℕ SeatView → ℕ → Me ℕ SeatView → Type 0
-asks s m n m' = (n ≤ m.0.hint → m'.0 ≡ having_asked m.0) × (m.0.hint < n → m'.0 ≡ m.0)
+asks s m n m' =
+    (n ≤ m.0.hint → m'.0 ≡ having_asked m.0 n) × (m.0.hint < n → m'.0 ≡ having_heard m.0 n)
 
 -- nothing is owed once the leader is rung
 abbrev pub rings : Step ℕ → Me ℕ SeatView → ℕ → Me ℕ SeatView → Type 0

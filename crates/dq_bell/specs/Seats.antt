@@ -1,18 +1,20 @@
 -- Seats as contracts see them.
 
-use Rattle.std.specs.Prelude.{◌≡◌, ℕ, ◌+◌, ◌*◌, ◌<◌, Bool, true, false}
+use Rattle.std.specs.Prelude.{◌≡◌, ℕ, ◌+◌, ◌*◌, ◌<◌, ◌≤◌, Bool, true, false}
 use Rattle.atomic_table.specs.Seated.{TableId}
 use Rattle.dq_bell.specs.declared.TheConstants.{NEVER}
 use Rattle.dq_bell.specs.declared.rung.Rung.{Rung}
 use Rattle.dq_bell.specs.declared.rung.Rung.TheVariants.{Nobody, Leader}
 
--- a hint: its bell, which has so many places, its place, the tick, and how often its writer rang
+-- a hint: its bell, which has so many places, its place, the tick, how often its writer rang, and
+-- until when it heard that the leader sleeps, as it asked since it wrote the hint
 pub record HintSeat : Type 0 where
   pub table : TableId
   pub places : ℕ
   pub place : ℕ
   pub tick : ℕ
   pub rings : ℕ
+  pub heard : ℕ
 
 -- who closes: its hint, and whether it has closed
 pub record CloserSeat : Type 0 where
@@ -44,10 +46,11 @@ abbrev pub SamePlace : HintSeat → HintSeat → Type 0
 SamePlace old new =
     (new.table ≡ old.table) × (new.places ≡ old.places) × (new.place ≡ old.place)
 
--- the answer says whether the leader was rung
+-- The answer says whether the leader was rung. It is rung exactly where it was heard to sleep beyond
+-- the hint.
 abbrev pub RungOnce : HintSeat → HintSeat → Rung → Type 0
-RungOnce old new Nobody = new.rings ≡ old.rings
-RungOnce old new Leader = new.rings ≡ old.rings + 1
+RungOnce old new Nobody = (new.rings ≡ old.rings) × (new.heard ≤ new.tick)
+RungOnce old new Leader = (new.rings ≡ old.rings + 1) × (new.tick < new.heard)
 
 -- whether an answer says that the leader was rung
 abbrev pub is_leader_rung : Rung → Bool

@@ -18,15 +18,17 @@ leading until seen found dealt = record {
   hint = 0;
   owes = false;
   rings = 0;
+  heard = 0;
 }
 
 -- the one that leads, of a bell without a place, before it ever said that it sleeps
 abbrev pub first_leader : SeatView
 first_leader = leading 0 0 false 0
 
--- the one that writes the hint of a place, and has rung so often
-abbrev pub writing : ℕ → ℕ → Bool → ℕ → SeatView
-writing place hint owes rings = record {
+-- the one that writes the hint of a place, has rung so often, and last heard that the leader sleeps
+-- until so long
+abbrev pub writing : ℕ → ℕ → Bool → ℕ → ℕ → SeatView
+writing place hint owes rings heard = record {
   leads = false;
   until = 0;
   seen = 0;
@@ -37,6 +39,7 @@ writing place hint owes rings = record {
   hint = hint;
   owes = owes;
   rings = rings;
+  heard = heard;
 }
 
 -- the leader, once one place more has a hint
@@ -45,15 +48,19 @@ dealing v = record v { dealt = v.dealt + 1 }
 
 -- who writes that hint
 abbrev pub dealt_hint : SeatView → SeatView
-dealt_hint v = writing v.dealt NEVER false 0
+dealt_hint v = writing v.dealt NEVER false 0 0
 
 -- it wrote that hint, and has yet to ask until when the leader sleeps
 abbrev pub having_written : SeatView → ℕ → SeatView
-having_written v h = record v { hint = h; owes = true }
+having_written v h = record v { hint = h; owes = true; heard = 0 }
 
--- it asked, and the leader sleeps no longer than until its hint
-abbrev pub having_asked : SeatView → SeatView
-having_asked v = record v { owes = false }
+-- it asked, and heard that the leader sleeps no longer than until its hint
+abbrev pub having_asked : SeatView → ℕ → SeatView
+having_asked v until = record v { owes = false; heard = until }
+
+-- it asked, and heard that the leader sleeps beyond its hint
+abbrev pub having_heard : SeatView → ℕ → SeatView
+having_heard v until = record v { heard = until }
 
 -- it rang the leader
 abbrev pub having_rung : SeatView → SeatView

@@ -54,7 +54,7 @@ impl<A: Allocator> Closer<A> {
         let _ = &self.hint;
     }
 
-    /// Closes for good, and rings the leader where it sleeps.
+    /// Closes for good, and rings the leader exactly where it sleeps.
     pub fn close(&mut self) -> Rung
         ensures closed { self.new.is_closed ≡ true }
         ensures rung { RungOnce self.old.hint self.new.hint result }

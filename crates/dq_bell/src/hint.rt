@@ -35,11 +35,12 @@ impl<A: Allocator> Model for Hint<A> {
       place = s.place;
       tick = s.tick;
       rings = s.seat.me.0.rings;
+      heard = s.seat.me.0.heard;
     } };
 
     ghost invariant = { λ s.
         IsSeatOf s.seat.table_id (arc_value s.table).shared.table_id (arc_value s.table).shared.key s.places
-        × (s.seat.me.0 ≡ writing s.place s.tick false s.seat.me.0.rings) × (s.place < s.places) };
+        × (s.seat.me.0 ≡ writing s.place s.tick false s.seat.me.0.rings s.seat.me.0.heard) × (s.place < s.places) };
 }
 
 impl<A: Allocator> Hint<A> {
@@ -51,7 +52,7 @@ impl<A: Allocator> Hint<A> {
         self.tick
     }
 
-    /// Writes the hint, and then asks until when the leader sleeps. Rings it where it sleeps beyond the hint.
+    /// Writes the hint, and then asks until when the leader sleeps. Rings it exactly where that is beyond the hint.
     #[inline]
     pub fn set(&mut self, tick: u64) -> Rung
         ensures written { self.new.tick ≡ tick }

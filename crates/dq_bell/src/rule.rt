@@ -27,6 +27,8 @@ pub struct SeatView {
     pub owes: bool,
     /// How often it rang the leader.
     pub rings: u64,
+    /// Until when it heard that the leader sleeps, and 0 if it hasn't asked since it wrote the hint.
+    pub heard: u64,
 }
 
 pub(crate) struct BellRule;

@@ -1,5 +1,5 @@
 //! Who sleeps, by index, each with the `W` that wakes it.
-ghost use Rattle.std.specs.Prelude.{◌≡◌, ℕ, ◌<◌, ◌≤◌, true, false, length, is_some, slice_index_or, slice_set, IfOk, IfErr};
+ghost use Rattle.std.specs.Prelude.{◌≡◌, ℕ, ◌+◌, ◌<◌, ◌≤◌, true, false, length, is_some, slice_index_or, slice_set, IfOk, IfErr};
 ghost use Rattle.dq_bell.specs.Lines.{SleepsAt, IsAwakeAt, AllSleepOn, CallsOne};
 
 use std::alloc::{AllocError, Allocator, Global};
@@ -76,6 +76,7 @@ impl<W: Drop, A: Allocator> Sleepers<W, A> {
     pub fn grow(&mut self, at: usize) -> Result<(), AllocError>
         ensures room { IfOk result (λ _. at ≤ length self.old → at < length self.new) }
         ensures more { length self.old ≤ length self.new }
+        ensures few { length self.new ≤ length self.old + 1 }
         ensures same { AllSleepOn self.old self.new }
     {
         if at >= self.calls.len() {

@@ -21,13 +21,13 @@ use Rattle.dq_core.specs.Sweeps.{Reaps}
 use Rattle.dq_core.specs.Words.{word_at}
 use Rattle.dq_core.proofs.RunsMoves.{put_same}
 use Rattle.dq_core.proofs.Ways.{table_row_is}
-use Rattle.dq_growing.specs.Cores.{CoreRow, AreCores, HaveOwnNumbers, IsCoreAt, OnCoreAt, TakesIn, TakeRefused, InsertsIn, InsertsBeside, closed_error, with_core}
+use Rattle.dq_growing.specs.Cores.{CoreRow, AreCores, HaveOwnNumbers, IsCoreAt, OnCoreAt, TakesIn, TakeRefused, GivesDrained, InsertsIn, InsertsBeside, closed_error, with_core}
 use Rattle.dq_growing.specs.Moving.{IfTo, IfCameOut, GoesOnIn}
 use Rattle.dq_growing.specs.Notes.{Book, AreNotes, ArePastBy, AllArePast, SameNotes, Forgets, meant_place, with_id, numbers_of, or_own, user_at}
 use Rattle.dq_growing.specs.Polls.{PollsRow, PollsCore, RestsIn, DoesPiece, DoesPoll, IfPieceOut, noting_in, told}
 use Rattle.dq_growing.specs.Runs.{StoreCall, IsUsedId, GaveOut, KeepsId, KeepsIds, KeepsIdsBeside, GivesId, GoesByStoreCalls, NoneFrom, StandsUntil, StoreEntriesLeaveOnce, StoreEndedStaysEnded, CoresGiveNoneAnew}
 use Rattle.dq_growing.specs.Stands.{IsThere, IsPastAt, IsPastIn, AgesAs, Ages, OneLeaves, HasEntry, HasNoEntry, StandsAlike}
-use Rattle.dq_growing.specs.Store.{StoreState, IsStore, HasFor, HasOneValue, NoneStandsFor, GoesOnFor, GoesOut, NotesAfter, NotesAnswered, piece_as}
+use Rattle.dq_growing.specs.Store.{StoreState, IsStore, StandsFor, HasFor, HasOneValue, NoneStandsFor, GoesOnFor, GoesOut, NotesAfter, NotesAnswered, piece_as}
 use Rattle.dq_growing.specs.declared.cores.TakeError.{TakeError}
 use Rattle.dq_growing.specs.declared.moving.Moved.{Moved}
 use Rattle.dq_growing.specs.declared.moving.Moved.TheVariants.{To, Out}
@@ -140,18 +140,30 @@ module _ {T W : Type 0} where
       (k.stays v has)
 
   -- a call after a call
+  then_one : (s m t : StoreState T W) (u : EntryId) → KeepsId s m u → KeepsId m t u → KeepsId s t u
+  then_one s m t u a b = record {
+    given = b.given;
+    stays = λ v z. ⊎_elim
+        (λ (x : HasFor m u v). b.stays v x)
+        (λ (none : NoneStandsFor m u). inr (λ e y. let f = b.stood e.value (e, y, refl) in none f.0 f.1))
+        (a.stays v z);
+    stood = λ v z. a.stood v (b.stood v z);
+  }
+
   pub then_keep : (s m t : StoreState T W) → KeepsIds s m → KeepsIds m t → KeepsIds s t
-  then_keep s m t one two u given =
+  then_keep s m t one two u given = let a = one u given in then_one s m t u a (two u a.given)
+
+  pub then_keep_beside : (c : Core T W) (s m t : StoreState T W) → KeepsIdsBeside c s m → KeepsIds m t → KeepsIdsBeside c s t
+  then_keep_beside c s m t one two u past given = let a = one u past given in then_one s m t u a (two u a.given)
+
+  -- a core that has drained comes in again
+  pub back_in_keep : (c : Core T W) (s m t : StoreState T W) → GivesDrained s.cores c m.cores → KeepsIds s m → KeepsIdsBeside c m t → KeepsIds s t
+  back_in_keep c s m t gives one two u given =
       let a = one u given in
-      let b = two u a.given in
-      record {
-        given = b.given;
-        stays = λ v z. ⊎_elim
-            (λ (x : HasFor m u v). b.stays v x)
-            (λ (none : NoneStandsFor m u). inr (λ e y. let f = b.stood e.value (e, y, refl) in none f.0 f.1))
-            (a.stays v z);
-        stood = λ v z. a.stood v (b.stood v z);
-      }
+      then_one s m t u a (two u (λ number. given.1 gives.place c gives.drained.0 (sym number)) a.given)
+
+  pub all_keep : (s : StoreState T W) → KeepsIds s s
+  all_keep s u given = record { given = given; stays = λ v z. inl z; stood = λ v z. z }
 
   -- one id, where the cores age as its places do, and what stands has the users that it had
   module _ (s t : StoreState T W) (law : IsStore s) (u : EntryId) (given : IsUsedId s u) (own : AgesAs s.cores t.cores u)
@@ -205,19 +217,22 @@ module _ {T W : Type 0} where
   keeps_forgotten s t p o law ages f none =
       keeps_ids s t law ages (λ q e z. forgets_user s.notes t.notes p o f q (λ is. let P : EntryId → Type 0 = λ k. HasEntry t.cores k e in none e (subst P is z)))
 
-  -- one value stands under a user's id
-  pub one_value : (s : StoreState T W) → IsStore s → AreCores s.cores → (u : EntryId) (v w : T) → HasFor s u v → HasFor s u w → v ≡ w
-  one_value s law has u v w y z =
-      let P : EntryId → Type 0 = λ k. HasEntry s.cores k z.0 in
-      let there = y.1.2 in
-      let other = subst P (sym (apart s law y.1.0 z.1.0 y.0 z.0 y.1.2 z.1.2 (y.1.1 ∙ sym z.1.1))) z.1.2 in
+  -- one entry stands under a user's id
+  pub one_entry : (s : StoreState T W) → IsStore s → AreCores s.cores → (u : EntryId) (e f : Entry T) → StandsFor s u e → StandsFor s u f → e ≡ f
+  one_entry s law has u e f y z =
+      let P : EntryId → Type 0 = λ k. HasEntry s.cores k f in
+      let there = y.2 in
+      let other = subst P (sym (apart s law y.0 z.0 e f y.2 z.2 (y.1 ∙ sym z.1))) z.2 in
       let place = has.apart other.0 there.0 other.1 there.1 other.2 there.2 (sym other.3.shard ∙ there.3.shard) in
       let A : ℕ → Type 0 = λ k. IsCoreAt s.cores.cores k other.1 in
       let same = one_at s.cores.cores there.0 other.1 there.1 (subst A place other.2) there.2 in
-      let Q : Core T W → Type 0 = λ k. IsThere k y.1.0 z.0 in
+      let Q : Core T W → Type 0 = λ k. IsThere k y.0 f in
       let x = subst Q same other.3 in
-      let alike = some_is y.0 z.0 (sym there.3.linked ∙ x.linked) in
-      sym y.2 ∙ (ap (λ e. e.value) alike ∙ z.2)
+      some_is e f (sym there.3.linked ∙ x.linked)
+
+  -- and one value
+  pub one_value : (s : StoreState T W) → IsStore s → AreCores s.cores → (u : EntryId) (v w : T) → HasFor s u v → HasFor s u w → v ≡ w
+  one_value s law has u v w y z = sym y.2 ∙ (ap (λ e. e.value) (one_entry s law has u y.0 z.0 y.1 z.1) ∙ z.2)
 
   -- an entry goes on
   pub keeps_going : (s t : StoreState T W) (w : EntryId) (d : ℕ) → IsStore s → IsStore t → AreCores s.cores → AreCores t.cores → Ages s.cores t.cores → GoesOnFor s w d t → KeepsIds s t
@@ -309,7 +324,7 @@ module _ {T W : Type 0} where
       )
 
   -- what a poll of the cores gave out, none stands there any more
-  abbrev LeavesRow : CoreRow T W → CoreRow T W → Expired T → Type 0
+  abbrev pub LeavesRow : CoreRow T W → CoreRow T W → Expired T → Type 0
   LeavesRow s t x = HasNoEntry t x.key.entry × ((e : Entry T) × HasEntry s x.key.entry e × (e.value ≡ x.value))
 
   pub polled_none : (Did : ℕ → Piece T → Core T W → Core T W → Type 0) (s t : CoreRow T W) (tick : ℕ) (made : Result (Piece T) CoreError)

@@ -1,17 +1,31 @@
 -- What holds over any list of a store's calls.
-use Rattle.std.specs.Prelude.{◌≡◌, ◌≢◌, ◌⊎◌, ◌<◌, ◌≤◌, List, [], ◌∷◌, Option, Some, None}
+use Rattle.std.specs.Prelude.{◌≡◌, ◌≢◌, ◌⊎◌, ℕ, ◌<◌, ◌≤◌, List, [], ◌∷◌, Option, Some, None}
 use Rattle.dq_ticks.specs.declared.keys.EntryId.{EntryId}
 use Rattle.dq_core.specs.Core.{Core, machine}
 use Rattle.dq_core.specs.Folds.{FoldedCore, folded_machine}
+use Rattle.dq_core.specs.Machine.{Entry}
 use Rattle.dq_growing.specs.Cores.{CoreRow, GivesDrained}
 use Rattle.dq_growing.specs.Notes.{ArePastBy, numbers_of}
 use Rattle.dq_growing.specs.Stands.{IsPastIn}
-use Rattle.dq_growing.specs.Store.{StoreState, HasFor, HasOneValue, NoneStandsFor, GoesOut}
+use Rattle.dq_growing.specs.Store.{StoreState, StandsFor, HasFor, HasOneValue, NoneStandsFor, GoesOut}
+use Rattle.dq_growing.specs.declared.moving.NextDeadline.{NextDeadline}
+use Rattle.dq_growing.specs.declared.moving.NextDeadline.TheVariants.{Same, At, SameIfAfter}
 
 -- a call: what it gave out, under its user's id and with its value, and the store that it left
 pub record StoreCall (T W : Type 0) : Type 0 where
   pub gave : Option (EntryId × T)
   pub left : StoreState T W
+
+-- a deadline in force isn't before a tick; what was cancelled has none
+abbrev pub IsNotBefore : ℕ → Option ℕ → Type 0
+IsNotBefore tick None = Unit {0}
+IsNotBefore tick (Some due) = tick ≤ due
+
+-- a move asks for no deadline of its own
+abbrev pub KeepsItsDeadline : NextDeadline → Type 0
+KeepsItsDeadline Same = Unit {0}
+KeepsItsDeadline (At tick) = ⊥
+KeepsItsDeadline (SameIfAfter tick) = Unit {0}
 
 module _ {T W : Type 0} where
   -- an entry has had an id: its number is a used one, and no new entry gets the id
@@ -33,6 +47,26 @@ module _ {T W : Type 0} where
   abbrev pub KeepsIdsBeside : Core T W → StoreState T W → StoreState T W → Type 0
   KeepsIdsBeside c s t =
       (u : EntryId) → ArePastBy (numbers_of u) c → IsUsedId s u → KeepsId s t u
+
+  -- whatever stands under an id isn't due before a tick
+  abbrev pub NotDueBefore : StoreState T W → EntryId → ℕ → Type 0
+  NotDueBefore s u tick = (e : Entry T) → StandsFor s u e → IsNotBefore tick e.due
+
+  -- the deadline of what stands under an id didn't fall
+  abbrev pub HoldsDeadline : StoreState T W → StoreState T W → EntryId → Type 0
+  HoldsDeadline s t u = (tick : ℕ) → NotDueBefore s u tick → NotDueBefore t u tick
+
+  -- so of each id that an entry has had
+  abbrev pub HoldsDeadlines : StoreState T W → StoreState T W → Type 0
+  HoldsDeadlines s t = (u : EntryId) → IsUsedId s u → HoldsDeadline s t u
+
+  -- so of each such id but one
+  abbrev pub HoldsOtherDeadlines : EntryId → StoreState T W → StoreState T W → Type 0
+  HoldsOtherDeadlines id s t = (u : EntryId) → u ≢ id → IsUsedId s u → HoldsDeadline s t u
+
+  -- a tick isn't before the deadline of what stands under an id, which is live
+  abbrev pub LeavesInForce : StoreState T W → EntryId → ℕ → Type 0
+  LeavesInForce s u at = (tick : ℕ) → NotDueBefore s u tick → tick ≤ at
 
   -- no entry had had an id, and one has it now
   abbrev pub GivesId : StoreState T W → EntryId → StoreState T W → Type 0

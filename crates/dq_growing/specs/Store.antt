@@ -25,7 +25,7 @@ use Rattle.dq_growing.specs.Cores.{CoreRow, IsCoreAt, OnCoreOr, TakeRefused, mis
 use Rattle.dq_growing.specs.Polls.{PollsRow, PeeksIn}
 use Rattle.dq_growing.specs.Stands.{HasEntry, IsPastIn, OneChanges, OneComes, OthersStand}
 use Rattle.dq_growing.specs.Moving.{IsTakenOut, IsBaseIn, Relocates, HasBegunIn}
-use Rattle.dq_growing.specs.Notes.{Book, AreNotes, AllArePast, SameNotes, LosesNote, IsNoted}
+use Rattle.dq_growing.specs.Notes.{Book, AreNotes, AllArePast, SameNotes, LosesNote, IsNoted, HasNoteRoom}
 use Rattle.dq_growing.specs.Notes.{with_id, user_at, meant_place}
 use Rattle.dq_growing.specs.declared.cores.TakeError.{TakeError}
 use Rattle.dq_growing.specs.declared.cores.TakeError.TheVariants.{UsedNumber}
@@ -228,10 +228,12 @@ module _ {T W : Type 0} where
       (made : Result (Moved T) CoreError) × Relocates shared p next (made, r.1) s.cores t.cores
       × (r.0 ≡ answer_as u made) × NotesAnswered s.notes u p made t.notes
 
-  -- memory for a note was refused
+  -- memory for a note was refused: there was none for one more
   abbrev pub HasNoMemory : StoreState T W → Result (Moved T) CoreError × Option T →
       StoreState T W → Type 0
-  HasNoMemory s r t = (r ≡ (Err NoMemory, None)) × (t.cores ≡ s.cores) × SameNotes s.notes t.notes
+  HasNoMemory s r t =
+      (r ≡ (Err NoMemory, None)) × (t.cores ≡ s.cores) × SameNotes s.notes t.notes
+      × (¬ HasNoteRoom s.notes)
 
   -- a move by a user's id
   abbrev pub RelocatesFor : Bool → StoreState T W → EntryId → NextDeadline →

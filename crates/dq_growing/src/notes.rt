@@ -1,6 +1,6 @@
 //! Where moved entries are, by the ids that their users have.
 
-ghost use Rattle.std.specs.Prelude.{◌≡◌, true, false, ◌<◌, ◌≤◌, IfOk, OnOk, None, Some};
+ghost use Rattle.std.specs.Prelude.{OnErr, ◌≡◌, true, false, ◌<◌, ◌≤◌, IfOk, OnOk, None, Some};
 ghost use Rattle.dq_ticks.specs.Keys.{EntryName};
 ghost use Rattle.dq_growing.specs.Notes.{numbers_of, note_mark, with_id, HasNone, ArePastBy, ArePastIn, AllArePast, user_at, meant_place, SetsPair, SamePairs, TakesPair, AreNotes, HasNoteRoom, SameNotes, IsNoted, Forgets};
 
@@ -120,6 +120,7 @@ impl<A: Allocator + Clone> PairTable<A> {
         ensures same { SamePairs self.old self.new }
         ensures room { OnOk result (0 < self.new.room) }
         ensures kept { self.old.room ≤ self.new.room }
+        ensures refused { OnErr result (self.old.room ≡ 0) }
     {
         self.map.reserve(1)
     }
@@ -257,6 +258,7 @@ impl<A: Allocator + Clone> Notes<A> {
     pub fn reserve(&mut self) -> Result<(), AllocError>
         ensures same { SameNotes self.old self.new }
         ensures room { OnOk result (HasNoteRoom self.new) }
+        ensures refused { OnErr result (¬ HasNoteRoom self.old) }
     {
         self.places.reserve()?;
         self.users.reserve()

@@ -12,6 +12,7 @@ ghost use Rattle.std.specs.Prelude.{◌≡◌, ◌≤◌, ◌⊎◌, max, true, 
 ghost use Rattle.dq_core.specs.Core.{Core};
 ghost use Rattle.dq_core.specs.Folds.{IsFoldable};
 ghost use Rattle.dq_growing.specs.Moving.{HasOpenRoom};
+ghost use Rattle.dq_growing.specs.Runs.{HoldsDeadlines, KeepsIds, KeepsIdsBeside};
 ghost use Rattle.dq_growing.specs.Sizing.{anew, clear_slots, slots_in, with_work, HasNoWork, MayNoteWork, HasClearAt, IsRoomier, IsRoomiest, HasNoneToOpen, HasNoRoom, OnlyOpens, ComesInto, OpensIf, OpensWanted, StaysOpen, WasBeside, AllWere, IsNearlyDrained, TellsStraggler, IsStraggler, NoStraggler, MayMake, MayOpen, OpensOne};
 ghost use Rattle.dq_growing.specs.declared.TheConstants.{NEVER};
 ghost use Rattle.dq_growing.specs.declared.sizing.TheConstants.{CORES};
@@ -271,6 +272,10 @@ impl Sizing {
 
         // No more changes than which core is open.
         ensures opens { OnlyOpens store.old store.new }
+
+        // No id is given anew, and no deadline falls.
+        ensures keeps { KeepsIds store.old store.new }
+        ensures holds { HoldsDeadlines store.old store.new }
         ensures notes { MayNoteWork self.old self.new }
     {
         if has_open_room(store.cores()) {
@@ -290,6 +295,8 @@ impl Sizing {
         ensures none { result ≡ false → HasNoneToOpen any_will_do store.old.cores }
         ensures kept { result ≡ false → store.new ≡ store.old }
         ensures opens { OnlyOpens store.old store.new }
+        ensures keeps { KeepsIds store.old store.new }
+        ensures holds { HoldsDeadlines store.old store.new }
         ensures notes { MayNoteWork self.old self.new }
     {
         let room = roomiest(store.cores(), any_will_do);
@@ -373,7 +380,12 @@ impl Sizing {
         // It is open where the open one has no free slot; else it is, or the one that was still is.
         ensures opens { OnOk result (OpensWanted store.old.cores store.new.cores) }
         ensures stands { SameStand (StandsFor store.old) (StandsFor store.new) }
-        ensures back { IfErr result (λ c. (c ≡ core) × (store.new.cores ≡ store.old.cores)) }
+
+        // No id is given anew but those that the core gives anew, and no deadline falls.
+        ensures keeps { KeepsIdsBeside core store.old store.new }
+        ensures holds { HoldsDeadlines store.old store.new }
+        ensures back { IfErr result (λ c. (c ≡ core) × (store.new.cores ≡ store.old.cores)
+            × (store.new.notes ≡ store.old.notes)) }
 
         // The way of the sweeps begins anew, and it is noted that there may be something to do.
         ensures notes { self.new
@@ -439,7 +451,13 @@ impl Sizing {
         // It was a core that isn't open. That one stays open.
         ensures drained { IfSome result (λ c. IsFoldable c × WasBeside store.old.cores c) }
         ensures opens { StaysOpen store.old.cores store.new.cores }
+        ensures were { AllWere store.old.cores store.new.cores }
+        ensures notes { store.new.notes ≡ store.old.notes }
         ensures stands { SameStand (StandsFor store.old) (StandsFor store.new) }
+
+        // No id is given anew, and no deadline falls.
+        ensures keeps { KeepsIds store.old store.new }
+        ensures holds { HoldsDeadlines store.old store.new }
 
         // The way of the sweeps begins anew, unless the store is as it was. No work is noted any more.
         ensures anew { OnSome result (self.new.sweep ≡ anew self.old.sweep store.old.cores) }
@@ -471,7 +489,10 @@ impl Sizing {
         ensures drained { IfSome result (λ c. IsFoldable c × WasBeside store.old.cores c) }
         ensures were { AllWere store.old.cores store.new.cores }
         ensures opens { StaysOpen store.old.cores store.new.cores }
+        ensures notes { store.new.notes ≡ store.old.notes }
         ensures stands { SameStand (StandsFor store.old) (StandsFor store.new) }
+        ensures keeps { KeepsIds store.old store.new }
+        ensures holds { HoldsDeadlines store.old store.new }
     {
         let slots = slots(store.cores());
         let Some(core) = store.take_drained() else {
@@ -578,7 +599,10 @@ fn take_in<T, W: Words, A: Allocator + Clone>(
 ) -> Result<(), DelayCore<T, W, A>>
     ensures comes { OnOk result (ComesInto store.old core store.new) }
     ensures opens { OnOk result (OpensIf is_needed store.old.cores store.new.cores) }
+    ensures notes { store.new.notes ≡ store.old.notes }
     ensures stands { SameStand (StandsFor store.old) (StandsFor store.new) }
+    ensures keeps { KeepsIdsBeside core store.old store.new }
+    ensures holds { HoldsDeadlines store.old store.new }
     ensures back { IfErr result (λ c. (c ≡ core) × (store.new.cores ≡ store.old.cores)) }
 {
     core.law();

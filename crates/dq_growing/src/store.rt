@@ -3,11 +3,11 @@
 ghost use Rattle.dq_core.specs.declared.errors.CoreError.TheVariants.{Worn};
 ghost use Rattle.std.specs.Prelude.{◌≡◌, ◌≤◌, ◌↔◌, IsTrue, IfSome, IfNone, IfErr, IfOk, OnOk, OnErr, Ok, Err, None, Some};
 ghost use Rattle.dq_growing.specs.Cores.{InsertsIn, TakesIn, GivesDrained, NoneDrained};
-ghost use Rattle.dq_growing.specs.Runs.{GivesId, KeepsIds, KeepsIdsBeside};
+ghost use Rattle.dq_growing.specs.Runs.{GivesId, HoldsDeadlines, HoldsOtherDeadlines, KeepsIds, KeepsIdsBeside, KeepsItsDeadline, LeavesInForce, NotDueBefore};
 ghost use Rattle.dq_ticks.specs.Keys.{EntryName};
 ghost use Rattle.dq_growing.specs.Stands.{OneLeaves, SameStand, KeepsWords};
 ghost use Rattle.dq_growing.specs.Store.{key_as, key_told, removed_as, expired_as, moved_as, answer_as, NotesMoved, NotesAnswered, IsStore, KeysAreApart, StandsFor, ComesFor, GoesOnFor, RemovesFor, RemovesIfDueFor, TellsFor, RelocatesFor, PollsFor, PeeksFor, piece_as, NotesAfter, ReapsFor, ResetsFor, TakeRefusedFor, TellsPlaceFor, ResetsThere, HasBegunFor, HasOneValue, GoesOut};
-ghost use Rattle.dq_growing.specs.Moving.{IfTo, IfCameOut, HasBegunIn};
+ghost use Rattle.dq_growing.specs.Moving.{IfTo, IfCameOut, UnlessTo, HasBegunIn};
 ghost use Rattle.dq_growing.specs.Polls.{DoesPoll, DoesPiece, IfPieceOut};
 ghost use Rattle.dq_growing.specs.Notes.{HasNoteRoom, AllArePast, user_at, with_id};
 
@@ -215,9 +215,14 @@ impl<T, W: Words, A: Allocator + Clone> Store<T, W, A> {
         // No entry had had its id. No call gives an id anew, and the entry of each stands or has left.
         ensures gives { IfOk result.0 (λ k. GivesId self.old k.entry self.new) }
         ensures keeps { KeepsIds self.old self.new }
+
+        // No deadline falls, and the entry isn't due before its own.
+        ensures holds { HoldsDeadlines self.old self.new }
+        ensures due { IfOk result.0 (λ k. NotDueBefore self.new k.entry when) }
     {
         self.cores.law();
         let answer = self.cores.insert(value, when);
+        self.cores.law();
         answer
     }
 
@@ -240,6 +245,10 @@ impl<T, W: Words, A: Allocator + Clone> Store<T, W, A> {
         ensures removes { RemovesFor W.shared self.old entry.now result self.new }
         ensures words { KeepsWords W.origin W.begun self.old.cores self.new.cores }
         ensures keeps { KeepsIds self.old self.new }
+
+        // No deadline falls, and the entry leaves at none before the one that it had.
+        ensures holds { HoldsDeadlines self.old self.new }
+        ensures in_force { IfOk result (λ x. LeavesInForce self.old entry.now x.deadline) }
     {
         let Some(place) = self.notes.place(entry) else {
             return Err(CoreError::Missing);
@@ -281,6 +290,11 @@ impl<T, W: Words, A: Allocator + Clone> Store<T, W, A> {
         ensures removes { RemovesIfDueFor W.shared self.old entry.now tick result self.new }
         ensures words { KeepsWords W.origin W.begun self.old.cores self.new.cores }
         ensures keeps { KeepsIds self.old self.new }
+
+        // No deadline falls, and the entry leaves at none before the one that it had.
+        ensures holds { HoldsDeadlines self.old self.new }
+        ensures in_force { IfOk result
+            (λ found. IfSome found (λ x. LeavesInForce self.old entry.now x.deadline)) }
     {
         let Some(place) = self.notes.place(entry) else {
             return Err(CoreError::Missing);
@@ -306,6 +320,7 @@ impl<T, W: Words, A: Allocator + Clone> Store<T, W, A> {
         ensures tells { TellsFor W.shared self.old entry.now result self.new }
         ensures words { KeepsWords W.origin W.begun self.old.cores self.new.cores }
         ensures keeps { KeepsIds self.old self.new }
+        ensures holds { HoldsDeadlines self.old self.new }
     {
         let Some(place) = self.notes.place(entry) else {
             return Err(CoreError::Missing);
@@ -349,6 +364,18 @@ impl<T, W: Words, A: Allocator + Clone> Store<T, W, A> {
         ensures relocates { RelocatesFor W.shared self.old entry.now next result self.new }
         ensures words { KeepsWords W.origin W.begun self.old.cores self.new.cores }
         ensures keeps { KeepsIds self.old self.new }
+
+        // No deadline falls, unless another is asked for: then that of the entry alone may. It goes on at
+        // the one that is told, which else isn't before the one that it had, nor does it leave before.
+        ensures holds { HoldsOtherDeadlines entry.now self.old self.new }
+        ensures same { KeepsItsDeadline next → HoldsDeadlines self.old self.new }
+        ensures unless { UnlessTo result.0 (HoldsDeadlines self.old self.new) }
+        ensures due { IfOk result.0
+            (λ moved. IfTo moved (λ _ deadline. NotDueBefore self.new entry.now deadline)) }
+        ensures told { KeepsItsDeadline next → IfOk result.0
+            (λ moved. IfTo moved (λ _ deadline. LeavesInForce self.old entry.now deadline)) }
+        ensures in_force { IfOk result.0
+            (λ moved. IfCameOut moved (λ x. LeavesInForce self.old entry.now x.deadline)) }
     {
         let Some(place) = self.notes.place(entry) else {
             return (Err(CoreError::Missing), None);
@@ -378,6 +405,11 @@ impl<T, W: Words, A: Allocator + Clone> Store<T, W, A> {
             (λ x. GoesOut self.old x.key.entry x.value self.new) }
         ensures words { KeepsWords W.origin W.begun self.old.cores self.new.cores }
         ensures keeps { KeepsIds self.old self.new }
+
+        // No deadline falls, and what comes out leaves at none before the one that it had.
+        ensures holds { HoldsDeadlines self.old self.new }
+        ensures in_force { IfPieceOut result
+            (λ x. LeavesInForce self.old x.key.entry x.deadline) }
     {
         self.cores.law();
         let made = self.cores.poll(tick);
@@ -399,6 +431,11 @@ impl<T, W: Words, A: Allocator + Clone> Store<T, W, A> {
             (λ x. GoesOut self.old x.key.entry x.value self.new) }
         ensures words { KeepsWords W.origin W.begun self.old.cores self.new.cores }
         ensures keeps { KeepsIds self.old self.new }
+
+        // No deadline falls, and what comes out leaves at none before the one that it had.
+        ensures holds { HoldsDeadlines self.old self.new }
+        ensures in_force { IfPieceOut result
+            (λ x. LeavesInForce self.old x.key.entry x.deadline) }
     {
         self.cores.law();
         let made = self.cores.poll_some(tick, most);
@@ -437,13 +474,21 @@ impl<T, W: Words, A: Allocator + Clone> Store<T, W, A> {
         ensures resets { ResetsFor W.shared self.old entry.now when result self.new }
         ensures words { KeepsWords W.origin W.begun self.old.cores self.new.cores }
         ensures keeps { KeepsIds self.old self.new }
+
+        // No other deadline falls, and none where it is refused. Its own isn't before the one asked for.
+        ensures holds { HoldsOtherDeadlines entry.now self.old self.new }
+        ensures stays { OnErr result.0 (HoldsDeadlines self.old self.new) }
+        ensures due { OnOk result.0 (NotDueBefore self.new entry.now when) }
     {
         let Some(place) = self.notes.place(entry) else {
             return (Err(missing_at(when)), None);
         };
         self.cores.law();
         let error = match self.cores.reset(&place, when) {
-            Ok(key) => return (Ok(key_as(entry, key)), None),
+            Ok(key) => {
+                self.cores.law();
+                return (Ok(key_as(entry, key)), None);
+            }
             Err(error) => error,
         };
         if !is_worn(error) {
@@ -468,6 +513,11 @@ impl<T, W: Words, A: Allocator + Clone> Store<T, W, A> {
         ensures resets { ResetsThere W.shared self.old entry.now when result self.new }
         ensures words { KeepsWords W.origin W.begun self.old.cores self.new.cores }
         ensures keeps { KeepsIds self.old self.new }
+
+        // No other deadline falls, and none where it is refused. Its own isn't before the one asked for.
+        ensures holds { HoldsOtherDeadlines entry.now self.old self.new }
+        ensures stays { OnErr result (HoldsDeadlines self.old self.new) }
+        ensures due { OnOk result (NotDueBefore self.new entry.now when) }
     {
         let Some(place) = self.notes.place(entry) else {
             return Err(missing_at(when));
@@ -477,6 +527,7 @@ impl<T, W: Words, A: Allocator + Clone> Store<T, W, A> {
             Ok(key) => key,
             Err(error) => return Err(error),
         };
+        self.cores.law();
         Ok(key_as(entry, key))
     }
 
@@ -489,6 +540,7 @@ impl<T, W: Words, A: Allocator + Clone> Store<T, W, A> {
         ensures reaps { ReapsFor W.shared self.old entry.now result self.new }
         ensures words { KeepsWords W.origin W.begun self.old.cores self.new.cores }
         ensures keeps { KeepsIds self.old self.new }
+        ensures holds { HoldsDeadlines self.old self.new }
     {
         let Some(place) = self.notes.place(entry) else {
             return Err(ReapError::Missing);
@@ -521,6 +573,7 @@ impl<T, W: Words, A: Allocator + Clone> Store<T, W, A> {
         ensures back { IfErr result (λ e. (e.1 ≡ core) × (self.new.cores ≡ self.old.cores)) }
         ensures notes { self.new.notes ≡ self.old.notes }
         ensures keeps { KeepsIdsBeside core self.old self.new }
+        ensures holds { HoldsDeadlines self.old self.new }
     {
         core.law();
         if !self.notes.are_past_in(&core) {
@@ -538,6 +591,7 @@ impl<T, W: Words, A: Allocator + Clone> Store<T, W, A> {
             × (self.new.cores ≡ self.old.cores)) }
         ensures notes { self.new.notes ≡ self.old.notes }
         ensures keeps { KeepsIds self.old self.new }
+        ensures holds { HoldsDeadlines self.old self.new }
     {
         self.cores.law();
         let core = self.cores.take_drained();

@@ -1,6 +1,7 @@
 //! How cancelled entries are freed where there is time: a few slots of a core at once, round and round.
 
 ghost use Rattle.std.specs.Prelude.{◌≡◌, ◌<◌, ◌↔◌, true, false, MatchOption, None, IsTrue};
+ghost use Rattle.dq_growing.specs.Runs.{HoldsDeadlines, KeepsIds};
 ghost use Rattle.dq_growing.specs.Sizing.{WayGoesOn, TakesOff, SweepsNext, TellsQuiet, way_for};
 
 use crate::NEVER;
@@ -89,6 +90,10 @@ impl Sizing {
         ensures left { IsTrue result ↔ (0 < (way_for self.old.sweep cancels store.old.cores).left) }
         ensures noted { self.new.sweep.cancels ≡ cancels }
 
+        // No id is given anew, and no deadline falls.
+        ensures keeps { KeepsIds store.old store.new }
+        ensures holds { HoldsDeadlines store.old store.new }
+
         // If there is quiet since these cancels, no slot is left and there is no work.
         ensures quiet { TellsQuiet self.new cancels store.new }
         ensures rest { self.new
@@ -123,6 +128,8 @@ impl Sizing {
     fn sweep_some<T, W: Words, A: Allocator + Clone>(&mut self, store: &mut Store<T, W, A>)
         ensures sweeps { SweepsNext W.shared 256
             self.old.sweep store.old self.new.sweep store.new }
+        ensures keeps { KeepsIds store.old store.new }
+        ensures holds { HoldsDeadlines store.old store.new }
         ensures rest { self.new ≡ record self.old { sweep = self.new.sweep } }
     {
         let cores = store.cores().count();

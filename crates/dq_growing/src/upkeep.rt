@@ -5,7 +5,7 @@ ghost use Rattle.std.specs.Fn.{FnOnceReturnsAtMut};
 ghost use Rattle.dq_growing.specs.Cores.{OnCoreAt, SweepsFrom, TellsNextIn};
 ghost use Rattle.dq_growing.specs.Notes.{HasNoteRoom, SameNotes, meant_place};
 ghost use Rattle.dq_growing.specs.Polls.{TakesDeferredIn};
-ghost use Rattle.dq_growing.specs.Runs.{KeepsIds};
+ghost use Rattle.dq_growing.specs.Runs.{HoldsDeadlines, KeepsIds};
 ghost use Rattle.dq_growing.specs.Stands.{KeepsWords};
 ghost use Rattle.dq_growing.specs.Store.{ChangesFor, ChangesThere, HasFor, NoneStandsFor, TellsFirstIn, TellsFrom, TellsPlaceFor};
 
@@ -121,6 +121,7 @@ impl<T, W: Words, A: Allocator + Clone> Store<T, W, A> {
             × (self.new.cores ≡ self.old.cores) }
         ensures notes { self.new.notes ≡ self.old.notes }
         ensures keeps { KeepsIds self.old self.new }
+        ensures holds { HoldsDeadlines self.old self.new }
     {
         let opens = self.cores.open(place);
         opens
@@ -132,6 +133,7 @@ impl<T, W: Words, A: Allocator + Clone> Store<T, W, A> {
             ≡ record self.old.cores { opened = length self.old.cores.cores } }
         ensures notes { self.new.notes ≡ self.old.notes }
         ensures keeps { KeepsIds self.old self.new }
+        ensures holds { HoldsDeadlines self.old self.new }
     {
         self.cores.close();
     }
@@ -145,6 +147,7 @@ impl<T, W: Words, A: Allocator + Clone> Store<T, W, A> {
         ensures notes { SameNotes self.old.notes self.new.notes }
         ensures room { OnOk result (HasNoteRoom self.new.notes) }
         ensures keeps { KeepsIds self.old self.new }
+        ensures holds { HoldsDeadlines self.old self.new }
     {
         self.cores.reserve(cores)?;
         let reserved = self.notes.reserve();
@@ -163,6 +166,7 @@ impl<T, W: Words, A: Allocator + Clone> Store<T, W, A> {
         ensures notes { self.new.notes ≡ self.old.notes }
         ensures words { KeepsWords W.origin W.begun self.old.cores self.new.cores }
         ensures keeps { KeepsIds self.old self.new }
+        ensures holds { HoldsDeadlines self.old self.new }
     {
         let swept = self.cores.sweep_some(place, from, count);
         swept
@@ -174,6 +178,7 @@ impl<T, W: Words, A: Allocator + Clone> Store<T, W, A> {
         ensures takes { TakesDeferredIn self.old.cores result self.new.cores }
         ensures notes { self.new.notes ≡ self.old.notes }
         ensures keeps { KeepsIds self.old self.new }
+        ensures holds { HoldsDeadlines self.old self.new }
     {
         self.cores.law();
         let value = self.cores.take_deferred();

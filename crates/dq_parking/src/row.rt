@@ -13,7 +13,7 @@
 //! lets the lock go, wakes who has left, and drops what is deferred; `unlock` is for what drops nothing. A value's drop
 //! is a user's code: it may call the queue, and it may panic. So it runs while the lock is free, and where it panics the
 //! shard is whole.
-ghost use Rattle.std.specs.Prelude.{◌≡◌, ℕ, ◌<◌, ◌≤◌, ◌^◌, IfNone, IfOk, IfErr, IsTrue, vec_len, vec_capacity};
+ghost use Rattle.std.specs.Prelude.{◌≡◌, ℕ, ◌+◌, ◌<◌, ◌≤◌, ◌^◌, true, IfNone, IfSome, IfOk, IfErr, IsTrue, vec_len, vec_capacity};
 ghost use Rattle.std.specs.Sync.Mutex.{mutex_guard_value};
 ghost use Rattle.dq_core.specs.Calls.{IsConfig};
 ghost use Rattle.dq_core.specs.declared.errors.CoreError.TheVariants.{NoMemory};
@@ -58,6 +58,12 @@ pub trait Shard {
     /// Whether it is one and the other but for what is deferred.
     ghost same: { Self → Self → Type 0 };
 
+    /// How many values are deferred.
+    ghost deferred_in: { Self → ℕ };
+
+    /// Whether none is deferred where the next insert's entry goes.
+    ghost has_room: { Self → Type 0 };
+
     /// What it keeps. The call does nothing, and is for proofs.
     fn law(&self)
         ensures { keeps self.now };
@@ -68,16 +74,23 @@ pub trait Shard {
         ensures { IsTrue result → stands self.now place places };
 
     /// How many values are deferred: those that were freed and aren't dropped yet. Constant time.
-    fn deferred(&self) -> usize;
+    fn deferred(&self) -> usize
+        ensures { result ≡ deferred_in self.now };
 
     /// Takes out the value that is deferred where the next insert's entry goes, if one is.
     fn take_displaced(&mut self) -> Option<Self::Value>
         ensures same { same self.old self.new }
-        ensures kept { IfNone result (self.new ≡ self.old) };
+        ensures one { IfSome result (λ _. deferred_in self.old ≡ deferred_in self.new + 1) }
+        ensures kept { IfNone result (self.new ≡ self.old) }
+        ensures room { IfNone result (has_room self.new) };
 
     /// Takes out a value for the thread that drops what is deferred, as `WatchedCore::take_one`.
     fn take_one(&mut self, is_mine: &mut bool) -> Option<Self::Value>
-        ensures { same self.old self.new };
+        ensures same { same self.old self.new }
+        ensures one { IfSome result (λ _. deferred_in self.old ≡ deferred_in self.new + 1) }
+        ensures kept { IfNone result (self.new ≡ self.old) }
+        ensures mine { IfSome result (λ _. is_mine.new ≡ true) }
+        ensures all { is_mine.old ≡ true → IfNone result (deferred_in self.new ≡ 0) };
 
     /// Ends the dropping before its time, as `WatchedCore::end_dropping`.
     fn end_dropping(&mut self, is_mine: &mut bool)
@@ -263,7 +276,8 @@ impl<S: Shard, A: Allocator> Row<S, A> {
 /// values are deferred.
 #[inline(always)]
 pub fn unlock<S: Shard>(shard: MutexGuard<'_, S>, pending: PendingWake<S::Next>) -> usize
-    ensures { S.keeps (mutex_guard_value shard.entry) }
+    ensures law { S.keeps (mutex_guard_value shard.entry) }
+    ensures deferred { result ≡ S.deferred_in (mutex_guard_value shard.entry) }
 {
     shard.law();
     let deferred = shard.deferred();
@@ -285,6 +299,7 @@ where
         requires { place < self.now }
         ensures law { S.keeps (mutex_guard_value result) }
         ensures place { S.stands (mutex_guard_value result) place self.now }
+        ensures room { S.has_room (mutex_guard_value result) }
     {
         for _ in rt.forever() {
             let mut shard = self.lock(rt, place);

@@ -4,9 +4,10 @@
 //! It stands behind a lock, and whoever is woken may call the queue at once. So each call hands over who leaves by it,
 //! and that one is woken once the lock is free.
 ghost use Rattle.std.specs.Prelude.{◌≡◌, ◌↔◌, ◌+◌, ◌<◌, ◌≤◌, ◌⊎◌, nat_lt, if◌then◌else◌, true, false, Some, None};
-ghost use Rattle.std.specs.Prelude.{length, vec_capacity, IfOk, IfErr, IfSome, IsErr, OnErr, IsErrOf};
+ghost use Rattle.std.specs.Prelude.{length, vec_capacity, IfOk, IfErr, IfSome, IfNone, IsErr, OnErr, IsErrOf};
 ghost use Rattle.dq_ticks.specs.declared.TheConstants.{LAST_TICK};
-ghost use Rattle.dq_core.specs.Deferring.{answered_at, deferred_value_at, out_at, with_deferred, DefersValues};
+ghost use Rattle.dq_core.specs.Deferring.{answered_at, deferred_value_at, out_at, waiting_in, with_deferred};
+ghost use Rattle.dq_core.specs.Deferring.{DefersValues, TakesDeferredValue};
 ghost use Rattle.dq_core.specs.AtTheCall.{IfOut, IfRests};
 ghost use Rattle.dq_core.specs.Core.{machine};
 ghost use Rattle.dq_core.specs.Calls.{Inserts, Resets, Removes, Polls, TellsDeadline, base_for, IsMissing};
@@ -267,6 +268,7 @@ impl<T, N: Drop, A: Allocator> WatchedCore<T, N, A> {
     /// Takes out a value for a thread that drops it once the lock is free, and then calls again. `is_mine` is false at
     /// its first call, and tells whether it is at it. None where no more are deferred, and it is over; or where
     /// another thread is at it, or this one further up: it drops these too.
+    #[tactic(auto, using(dq_core::proofs::Dropped::took_one))]
     pub fn take_one(&mut self, is_mine: &mut bool) -> Option<T>
         ensures stays { (self.new.core ≡ record self.old.core { deferred = self.new.core.deferred })
             × (self.new.parked ≡ self.old.parked) }
@@ -274,6 +276,13 @@ impl<T, N: Drop, A: Allocator> WatchedCore<T, N, A> {
             × ((self.old.is_dropping ≡ false) ⊎ (is_mine.old ≡ true))) }
         ensures over { (result ≡ None) → (is_mine.new ≡ false)
             × ((self.new.is_dropping ≡ false) ⊎ (is_mine.old ≡ false)) }
+        ensures takes { IfSome result
+            (λ v. TakesDeferredValue self.old.core.deferred (Some v) self.new.core.deferred) }
+        ensures one { IfSome result (λ _. waiting_in self.old.core.deferred
+            ≡ waiting_in self.new.core.deferred + 1) }
+        ensures kept { IfNone result (self.new.core ≡ self.old.core) }
+        ensures none { ((self.old.is_dropping ≡ false) ⊎ (is_mine.old ≡ true))
+            → IfNone result (waiting_in self.new.core.deferred ≡ 0) }
     {
         if self.is_dropping && !*is_mine {
             return None;

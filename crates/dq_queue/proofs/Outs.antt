@@ -1,30 +1,40 @@
 -- What a store's answers say of the true words.
-use Rattle.std.proofs.Common.{true, ◌≡◌, ℕ, zero, suc, ◌+◌, ◌<◌, ◌≤◌, List, [], ◌∷◌, length, get_or, set, min, sym, refl, ap, ◌∙◌, subst, ⊎_elim, length-set, get_or-set_same, arith, Option, Some, None, Result, Ok, Err, IfOk}
+use Rattle.std.proofs.Common.{true, ◌≡◌, ◌≢◌, ℕ, zero, suc, ◌+◌, ◌<◌, ◌≤◌, List, [], ◌∷◌, length, get_or, set, min, sym, refl, ap, ◌∙◌, subst, ⊎_elim, length-set, get_or-set_same, arith, inl, inr, Option, Some, None, Result, Ok, Err, IfOk}
 use Rattle.atomic_table.specs.Table.{State}
 use mathlib.Core.Option.{some, some-injective, some-ne-none}
 use lib.ListN.{get_elem?}
 use Rattle.dq_ticks.specs.declared.keys.EntryId.{EntryId}
 use Rattle.dq_ticks.specs.declared.keys.Key.{Key}
+use Rattle.dq_ticks.specs.declared.words.Mark.{Mark}
+use Rattle.dq_ticks.specs.declared.words.Mark.TheVariants.{ExpiredMark, RemovedMark}
 use Rattle.dq_ticks.specs.declared.words.Parts.{Parts}
 use Rattle.dq_ticks.specs.Word.{word, stamp_of, mark_of, field_of, mark_number, mark_by, packed, parts_of}
-use Rattle.dq_core.specs.Words.{never, word_at, expired}
+use Rattle.dq_core.specs.Words.{Learned, never, word_at, live, expired, removed}
 use Rattle.dq_core.specs.Slots.{Row}
 use Rattle.dq_core.specs.declared.errors.CoreError.{CoreError}
+use Rattle.dq_core.specs.declared.errors.CoreError.TheVariants.{Missing}
 use Rattle.dq_core.specs.declared.outcomes.Expired.{Expired}
+use Rattle.dq_core.specs.declared.outcomes.Removed.{Removed}
 use Rattle.dq_core.specs.declared.outcomes.Turn.TheVariants.{Out, Waiting, Idle}
 use Rattle.dq_core.specs.declared.outcomes.Piece.{Piece}
 use Rattle.dq_core.specs.declared.outcomes.Piece.TheVariants.{Answer, Working}
 use Rattle.dq_core.specs.Core.{Core, IsLawfulCore, table_of, machine}
-use Rattle.dq_core.specs.Calls.{IsTurn, TurnRow, noting, Inserts}
+use Rattle.dq_core.specs.Calls.{IsTurn, TurnRow, noting, Inserts, IsRemoved}
 use Rattle.dq_core.specs.Machine.{Machine, Entry, RunOf, IsOnTheWay, table_at}
 use Rattle.dq_growing.specs.Cores.{CoreRow, IsCoreAt, HasAt, EachOf, OnCoreAt, InsertsBeside, IsClosed, closed_error}
+use Rattle.dq_growing.specs.declared.moving.Moved.{Moved}
+use Rattle.dq_growing.specs.declared.moving.Moved.TheVariants.{To, Out as MovedOut}
+use Rattle.dq_growing.specs.declared.moving.NextDeadline.{NextDeadline}
+use Rattle.dq_growing.specs.Moving.{IfTo, IfCameOut, IsTakenOut, Relocates}
+use Rattle.dq_growing.specs.Runs.{KeepsItsDeadline}
 use Rattle.dq_growing.specs.Notes.{with_id, or_own, user_at, place_by, meant_place}
 use Rattle.dq_growing.specs.Stands.{HasEntry, KeepsWords}
 use Rattle.dq_growing.specs.Polls.{PollsRow, PollsCore, DoesPiece, IfPieceOut, noting_in}
-use Rattle.dq_growing.specs.Store.{StoreState, IsStore, PollsFor, expired_as, piece_as}
+use Rattle.dq_growing.specs.Store.{StoreState, IsStore, PollsFor, answer_as, expired_as, piece_as}
+use Rattle.dq_growing.proofs.Holding.{next_same}
 use Rattle.dq_growing.proofs.Keeping.{told_out, way_stood}
 use Rattle.dq_growing.proofs.Rows.{one_at}
-use Rattle.dq_growing.proofs.Standing.{some_is}
+use Rattle.dq_growing.proofs.Standing.{some_is, set_other}
 use Rattle.dq_words.specs.declared.views.View.{View}
 use Rattle.dq_words.specs.declared.views.Write.{Write}
 use Rattle.dq_words.specs.Word.{parts_row}
@@ -36,7 +46,7 @@ use Rattle.dq_words.specs.Plays.{Covers}
 use Rattle.dq_words.specs.Seats.{Sat}
 use Rattle.dq_words.specs.Together.{IsBeside}
 use Rattle.dq_queue.specs.Calls.{KeepsPromise}
-use Rattle.dq_queue.specs.Endings.{InEachTable, EndsInForce, WasGivenOnce, IsKeptCore, CameInForce, KeepsWhatItShowed, CameOutOf, StoreOutsAreInForce, StoreInsertsAreGiven}
+use Rattle.dq_queue.specs.Endings.{InEachTable, EndsInForce, WasGivenOnce, IsKeptCore, CameInForce, KeepsWhatItShowed, CameOutOf, IsOutsideOpen, present_key, TakenOutOf, LeavesAsTold, MovesInForce, StoreOutsAreInForce, StoreInsertsAreGiven, StoreMovesAreInForce, StoreRemovalsAreInForce}
 use Rattle.dq_queue.specs.Words.{PromiseView}
 use Rattle.dq_queue.proofs.Claims.{table_by}
 
@@ -78,10 +88,10 @@ length_table [] known = omega arith
 length_table (r ∷ rows) [] = omega arith
 length_table (r ∷ rows) (w ∷ known) = omega (arith, length_table rows known)
 
--- a slot that has had an expired word was ended so
-had_expired : (n s d i : ℕ) (views : List View) → n ≡ word s 2 d → d ≤ 4398046511103
-    → Had n i views → IsIn (file i s views).ends (2, d)
-had_expired n s d i views is small = ⊎_elim
+-- a slot that has had an expired or a removed word was ended so
+had_over : (n s m d i : ℕ) (views : List View) → n ≡ word s m d → 1 < m → m < 4 → d ≤ 4398046511103
+    → Had n i views → IsIn (file i s views).ends (m, d)
+had_over n s m d i views is over mark small = ⊎_elim
     (λ (never_used : n ≡ 0). absurd (omega arith))
     (λ (had : (t : ℕ) × HadAt n t (file i t views)). let t = had.0 in ⊎_elim
     (λ (living : (e : ℕ) × (n ≡ word t 0 e) × (e ≤ 4398046511103) × Among (file i t views) e).
@@ -89,22 +99,22 @@ had_expired n s d i views is small = ⊎_elim
     (⊎_elim
     (λ (cancelled : (e : ℕ) × (n ≡ word t 1 0) × IsIn (file i t views).cancels e).
     let now = cancelled.1 in absurd (omega arith))
-    (λ (ended : (m : ℕ) × (e : ℕ) × (n ≡ word t m e) × (1 < m) × (m < 4) × (e ≤ 4398046511103) × IsIn (file i t views).ends (m, e)).
+    (λ (ended : (m' : ℕ) × (e : ℕ) × (n ≡ word t m' e) × (1 < m') × (m' < 4) × (e ≤ 4398046511103) × IsIn (file i t views).ends (m', e)).
     let now = ended.2 in let more = ended.3 in let less = ended.4 in let low = ended.5 in
     let same_stamp : t ≡ s = omega arith in
-    let same_mark : ended.0 ≡ 2 = omega arith in
+    let same_mark : ended.0 ≡ m = omega arith in
     let same_deadline : ended.1 ≡ d = omega arith in
     subst (λ (x : ℕ × ℕ × ℕ). IsIn (file i x.0 views).ends (x.1, x.2)) (λ q. (same_stamp q, same_mark q, same_deadline q)) ended.6))
     had.1)
 
 -- what the keeper saw, where it has the first view
 module _ (w : View) (t : State ℕ View) (r : Ruled (length w.seen) t) (at : get_elem? t.views 0 ≡ some w) where
-  out_in_force : EndsAreInForce → (k : Key) (d : ℕ) → k.entry.index < length w.seen
-      → get_or w.seen k.entry.index 0 ≡ word k.stamp 2 d → d ≤ 4398046511103 → EndsInForce k d t
-  out_in_force in_force k d inside seen small =
+  over_in_force : EndsAreInForce → (mark : Mark) (k : Key) (d : ℕ) → 1 < mark_number mark → mark_number mark < 4 → k.entry.index < length w.seen
+      → get_or w.seen k.entry.index 0 ≡ word k.stamp (mark_number mark) d → d ≤ 4398046511103 → EndsInForce mark k d t
+  over_in_force in_force mark k d over less inside seen small =
       let had = (r.kept.sees 0 w at).had k.entry.index inside in
-      let ended = had_expired _ k.stamp d k.entry.index t.views seen small had in
-      (ended, (in_force _ t r k.entry.index k.stamp).0 (2, d) ended)
+      let ended = had_over _ k.stamp (mark_number mark) d k.entry.index t.views seen over less small had in
+      (ended, (in_force _ t r k.entry.index k.stamp).0 (mark_number mark, d) ended)
 
   given_once : StampsEndOnce → (k : Key) (d : ℕ) → k.entry.index < length w.seen
       → get_or w.seen k.entry.index 0 ≡ word k.stamp 0 d → 0 < k.stamp → WasGivenOnce k t
@@ -147,15 +157,15 @@ module _ {T : Type 0} where
       let noted : c.noted ≡ m.noted = ap (λ n. n.noted) step.7 in
       let at_noted : x.deadline ≤ c.noted = omega (arith, noted, step.5) in
       let last = law.core.noted_bound in
-      (λ t r at. out_in_force c.words.view t r at in_force x.key x.deadline (omega arith) seen (omega arith), at_noted)
+      (λ t r at. over_in_force c.words.view t r at in_force ExpiredMark x.key x.deadline (omega arith) (omega arith) (omega arith) seen (omega arith), at_noted)
 
-  -- what came out in force kept what was promised
-  keeps : (c : Core T Sat) (x : Expired T) → CameInForce c x → KeepsWhatItShowed c x
-  keeps c x out p beside =
+  -- what ended in force kept what was promised
+  keeps : (c : Core T Sat) (mark : Mark) (k : Key) (d : ℕ) → InEachTable c.words.view (EndsInForce mark k d) → KeepsWhatItShowed c k d
+  keeps c mark k d out p beside =
       let stood = beside.1 in
-      let ended = (out.0 stood.0 stood.1 stood.2).0 in
-      let P : List Write → Type 0 = λ ws. IsIn (ends_at x.key.entry.index x.key.stamp ws) (2, x.deadline) in
-      beside.0 x.key.entry.index x.key.stamp (2, x.deadline) (subst P (writes_first stood.0.views c.words.view stood.2) ended)
+      let ended = (out stood.0 stood.1 stood.2).0 in
+      let P : List Write → Type 0 = λ ws. IsIn (ends_at k.entry.index k.stamp ws) (mark_number mark, d) in
+      beside.0 k.entry.index k.stamp (mark_number mark, d) (subst P (writes_first stood.0.views c.words.view stood.2) ended)
 
   -- the piece of a core that took an entry out
 
@@ -194,7 +204,7 @@ module _ {T : Type 0} where
             let f = way_stood true on.before.slots.last_stamp _ m answered.run.1.0 answered.run.1.1 answered.run.1.2 y.key.entry.index _ answered.run.2.0.1.1 in
             (f.0, (core.place, on.before, on.at, record { shard = answered.run.2.1; linked = f.1; born = f.2 }));
         in_force = out;
-        kept = λ law. keeps on.after y (out law);
+        kept = λ law. keeps on.after ExpiredMark y.key y.deadline (out law).0;
       }
 
   -- by what the piece of the cores' poll made
@@ -270,3 +280,120 @@ given T once s t value when k beside inserted = ⊎_elim
     (λ (closed : IsClosed s.cores × ((Ok k, beside) ≡ (Err (closed_error when, value), None)) × (t.cores ≡ s.cores)).
     absurd (ok_not_err _ _ (ap (λ p. p.0) closed.1)))
     inserted
+
+-- what the keeper learned of a live word has the stamp that it knew
+learned_stamp : (w : Parts) (s d : ℕ) → Learned true w (live s d) → w.stamp ≡ s
+learned_stamp w s d (inl is) = ap (λ (p : Parts). p.stamp) (sym is)
+learned_stamp w s d (inr (shared, mark, inl (is, low, high))) = ap (λ (p : Parts). p.stamp) (sym is)
+learned_stamp w s d (inr (shared, mark, inr is)) = ap (λ (p : Parts). p.stamp) (sym is)
+
+-- a removed word's deadline is one of a word
+small_field : (n : ℕ) (d : ℕ) → field_of n ≡ d → d ≤ 4398046511103
+small_field n d is = omega arith
+
+module _ {T : Type 0} where
+  -- what a removal took out
+  taken_in_force : EndsAreInForce → (b c : Core T Sat) (id : EntryId) (x : Removed T) → IsRemoved true b id x c → IsKeptCore c
+      → InEachTable c.words.view (EndsInForce RemovedMark (present_key b id) x.deadline)
+  taken_in_force in_force b c id x r law =
+      let i = id.index in
+      let m = r.run.0 in
+      let table : length (machine c).table ≡ length m.table = ap (λ n. length n.table) r.run.2.5 ∙ length-set m.table i _ in
+      let inside = r.run.3.0 in
+      let few = length_table c.slots.rows c.known in
+      let known : length c.known ≡ length c.words.view.seen = ap length law.known ∙ length_row c.words.view.seen in
+      let size : length c.known ≡ length b.known = ap length r.known ∙ length-set b.known i (removed x.key.stamp x.deadline) in
+      let seen = seen_word c.known b.known c.words.view.seen i (removed x.key.stamp x.deadline) law.known r.known (omega arith) in
+      let at : word_at c.known i ≡ removed x.key.stamp x.deadline = rw r.known (get_or-set_same b.known i (removed x.key.stamp x.deadline) never (omega arith)) in
+      let here : parts_of (get_or c.words.view.seen i 0) ≡ removed x.key.stamp x.deadline = sym (row_at c.words.view.seen i) ∙ ap (λ ws. word_at ws i) (sym law.known) ∙ at in
+      let small = small_field (get_or c.words.view.seen i 0) x.deadline (ap (λ (p : Parts). p.field) here) in
+      let P : ℕ → Type 0 = λ n. InEachTable c.words.view (EndsInForce RemovedMark (record { entry = id; stamp = n }) x.deadline) in
+      subst P (sym (learned_stamp (word_at b.known i) x.key.stamp x.deadline r.learned))
+      (λ t q first. over_in_force c.words.view t q first in_force RemovedMark (record { entry = id; stamp = x.key.stamp }) x.deadline (omega arith) (omega arith) (omega arith) seen small)
+
+  -- what was taken out of a core that is left as the removal left it
+  taken_of : EndsAreInForce → (s t : StoreState T Sat) (p : EntryId) (x : Removed T) (m : CoreRow T Sat) (taken : IsTakenOut true p x s.cores m)
+      → IsCoreAt t.cores.cores taken.place taken.after → TakenOutOf s p x.deadline t
+  taken_of in_force s t p x m taken still =
+      let b = taken.before in
+      let c = taken.after in
+      let out : IsKeptCore c → InEachTable c.words.view (EndsInForce RemovedMark (present_key b p) x.deadline) = λ law. taken_in_force in_force b c p x taken.did law in
+      record {
+        core = taken.place;
+        before = b;
+        after = c;
+        was = taken.at.0;
+        is = still;
+        number = taken.did.shard;
+        same = taken.did.same_shard;
+        in_force = out;
+        kept = λ law. keeps c RemovedMark (present_key b p) x.deadline (out law);
+      }
+
+  taken_at_place : (s m : CoreRow T Sat) (p : EntryId) (x : Removed T) (taken : IsTakenOut true p x s m) → IsCoreAt m.cores taken.place taken.after
+  taken_at_place s m p x taken =
+      let M : CoreRow T Sat → Type 0 = λ r. IsCoreAt r.cores taken.place taken.after in
+      subst M (sym taken.rest) (at_set s.cores taken.place taken.before taken.after taken.at.0)
+
+  -- where a move left another core than the open one
+  moved_of : EndsAreInForce → (s t : StoreState T Sat) (p : EntryId) (next : NextDeadline) (k : Key) (d : ℕ) (beside : Option T) → Relocates true p next (Ok (To k d), beside) s.cores t.cores
+      → KeepsItsDeadline next → IsOutsideOpen s.cores p → TakenOutOf s p d t
+  moved_of in_force s t p next k d beside (near, room, (x, m, taken, goes)) keeps_it outside =
+      let Q : ℕ → Type 0 = λ n. TakenOutOf s p n t in
+      let put = goes.1 in
+      let opened : m.opened ≡ s.cores.opened = ap (λ (r : CoreRow T Sat). r.opened) taken.rest in
+      let apart : taken.place ≢ m.opened = λ same.
+      let A : ℕ → Type 0 = λ n. IsCoreAt s.cores.cores n taken.before in
+      outside taken.before (subst A (same ∙ opened) taken.at.0) taken.at.1 in
+      let M : CoreRow T Sat → Type 0 = λ r. IsCoreAt r.cores taken.place taken.after in
+      let still : IsCoreAt t.cores.cores taken.place taken.after =
+      subst M (sym put.rest) (set_other m.cores m.opened taken.place put.after taken.after apart (taken_at_place s.cores m p x taken)) in
+      subst Q (next_same next x.deadline d keeps_it goes.0) (taken_of in_force s t p x m taken still)
+
+  at_told : (s t : StoreState T Sat) (u p : EntryId) (d : ℕ) → meant_place s.notes u ≡ Some p → TakenOutOf s p d t → LeavesAsTold s u d t
+  at_told s t u p d at out place meant =
+      let P : EntryId → Type 0 = λ e. TakenOutOf s e d t in
+      subst P (sym (some_is place p (sym meant ∙ at))) out
+
+  moved_at_place : EndsAreInForce → (s t : StoreState T Sat) (u p : EntryId) (next : NextDeadline) (made : Result (Moved T) CoreError) (beside : Option T) → meant_place s.notes u ≡ Some p
+      → Relocates true p next (made, beside) s.cores t.cores → KeepsItsDeadline next → IfOk (answer_as u made) (λ moved. IfTo moved (λ k d. MovesInForce s u d t))
+  moved_at_place in_force s t u p next (Ok (To k d)) beside at did keeps_it = λ place meant outside.
+      let is : place ≡ p = some_is place p (sym meant ∙ at) in
+      let P : EntryId → Type 0 = λ e. IsOutsideOpen s.cores e in
+      let Q : EntryId → Type 0 = λ e. TakenOutOf s e d t in
+      subst Q (sym is) (moved_of in_force s t p next k d beside did keeps_it (subst P is outside))
+  moved_at_place in_force s t u p next (Ok (MovedOut x)) beside at did keeps_it = tt {0}
+  moved_at_place in_force s t u p next (Err e) beside at did keeps_it = tt {0}
+
+  out_at_place : EndsAreInForce → (s t : StoreState T Sat) (u p : EntryId) (next : NextDeadline) (made : Result (Moved T) CoreError) (beside : Option T) → meant_place s.notes u ≡ Some p
+      → Relocates true p next (made, beside) s.cores t.cores → IfOk (answer_as u made) (λ moved. IfCameOut moved (λ x. LeavesAsTold s u x.deadline t))
+  out_at_place in_force s t u p next (Ok (To k d)) beside at did = tt {0}
+  out_at_place in_force s t u p next (Ok (MovedOut y)) beside at (near, room, (x, m, taken, goes)) =
+      let M : CoreRow T Sat → Type 0 = λ r. IsCoreAt r.cores taken.place taken.after in
+      let D : Removed T → Type 0 = λ z. TakenOutOf s p z.deadline t in
+      at_told s t u p y.deadline at (subst D (sym goes.1) (taken_of in_force s t p x m taken (subst M (sym goes.3) (taken_at_place s.cores m p x taken))))
+  out_at_place in_force s t u p next (Err e) beside at did = tt {0}
+
+  -- no answer of a refusal moved an entry
+  none_moved : (r : Result (Moved T) CoreError) (e : CoreError) (P : Moved T → Type 0) → r ≡ Err e → IfOk r P
+  none_moved r e P is = let Q : Result (Moved T) CoreError → Type 0 = λ x. IfOk x P in subst Q (sym is) (tt {0})
+
+pub moves : (T : Type 0) → EndsAreInForce → StoreMovesAreInForce T
+moves T in_force s t u next r (inl (p, at, inl (is, cores, notes, room))) =
+    let refused = ap (λ y. y.0) is in
+    ((λ keeps_it. none_moved r.0 _ (λ moved. IfTo moved (λ k d. MovesInForce s u d t)) refused), none_moved r.0 _ (λ moved. IfCameOut moved (λ x. LeavesAsTold s u x.deadline t)) refused)
+moves T in_force s t u next r (inl (p, at, inr (made, did, is, notes))) =
+    let P : Result (Moved T) CoreError → Type 0 = λ x. IfOk x (λ moved. IfTo moved (λ k d. MovesInForce s u d t)) in
+    let Q : Result (Moved T) CoreError → Type 0 = λ x. IfOk x (λ moved. IfCameOut moved (λ y. LeavesAsTold s u y.deadline t)) in
+    ((λ keeps_it. subst P (sym is) (moved_at_place in_force s t u p next made r.1 at did keeps_it)), subst Q (sym is) (out_at_place in_force s t u p next made r.1 at did))
+moves T in_force s t u next r (inr (none, (is, same))) =
+    let refused = ap (λ y. y.0) is in
+    ((λ keeps_it. none_moved r.0 _ (λ moved. IfTo moved (λ k d. MovesInForce s u d t)) refused), none_moved r.0 _ (λ moved. IfCameOut moved (λ x. LeavesAsTold s u x.deadline t)) refused)
+
+pub removals : (T : Type 0) → EndsAreInForce → StoreRemovalsAreInForce T
+removals T in_force s t u (Ok x) (inl (p, at, (y, taken, is, lost))) =
+    let D : Removed T → Type 0 = λ z. TakenOutOf s p z.deadline t in
+    let E : ℕ → Type 0 = λ n. LeavesAsTold s u n t in
+    subst E (sym (ap (λ (z : Removed T). z.deadline) is)) (at_told s t u p y.deadline at (taken_of in_force s t p y t.cores taken (taken_at_place s.cores t.cores p y taken)))
+removals T in_force s t u (Ok x) (inr (none, (is, same))) = absurd (ok_not_err x Missing is)
+removals T in_force s t u (Err e) did = tt {0}

@@ -1,5 +1,5 @@
 -- What a shard's calls leave of the ids that entries have had, and what follows over its history.
-use Rattle.std.proofs.Common.{◌≡◌, ◌⊎◌, ℕ, List, [], ◌∷◌, ◌++◌, Some, Result, Ok, Err, IfOk, refl, sym, ap, ◌∙◌, subst, inl, inr, ⊎_elim, append_assoc}
+use Rattle.std.proofs.Common.{◌≡◌, ◌≢◌, ◌⊎◌, ℕ, List, [], ◌∷◌, ◌++◌, Option, Some, Result, Ok, Err, IfOk, refl, sym, ap, ◌∙◌, subst, inl, inr, ⊎_elim, append_assoc}
 use Rattle.dq_ticks.specs.declared.keys.Key.{Key}
 use Rattle.dq_ticks.specs.declared.keys.EntryId.{EntryId}
 use Rattle.dq_core.specs.declared.errors.CoreError.{CoreError}
@@ -12,15 +12,24 @@ use Rattle.dq_growing.specs.declared.moving.Moved.TheVariants.{To, Out}
 use Rattle.dq_growing.specs.Cores.{CoreRow}
 use Rattle.dq_growing.specs.Moving.{IfCameOut}
 use Rattle.dq_growing.specs.Notes.{Book}
-use Rattle.dq_growing.specs.Runs.{IsUsedId, KeepsId, GivesId}
+use Rattle.dq_growing.specs.Runs.{IsUsedId, KeepsId, GivesId, KeepsItsDeadline, NotDueBefore, HoldsDeadline}
 use Rattle.dq_growing.specs.Stands.{OneLeaves}
 use Rattle.dq_growing.specs.Store.{StoreState, StandsFor, HasFor, HasOneValue, NoneStandsFor, ComesFor, GoesOut}
+use Rattle.dq_growing.specs.declared.moving.NextDeadline.{NextDeadline}
+use Rattle.dq_growing.specs.declared.moving.NextDeadline.TheVariants.{Same, At, SameIfAfter}
+use Rattle.dq_growing.proofs.Pairing.{one_or_two}
 use Rattle.dq_growing.proofs.Standing.{some_is}
 use Rattle.dq_growing.proofs.Stored.{stored}
 use Rattle.dq_words.specs.Seats.{Sat}
-use Rattle.dq_queue.specs.Calls.{IsStoreCall, StoreTakesIn, HasOnly, ComesNew}
-use Rattle.dq_queue.specs.Runs.{ByCall, ByEach, BringsNone, StandsOn, LeavesWith, StaysEnded, LeftOnce, ShardEntriesLeaveOnce, ShardEndedStaysEnded}
+use Rattle.dq_queue.specs.Calls.{IsStoreCall, StoreTakesIn, StoreResets, StoreRelocates, HasOnly, ComesNew}
+use Rattle.dq_queue.specs.Runs.{ByCall, ByEach, BringsNone, StandsOn, LeavesWith, StaysEnded, LeftOnce, SetsDeadline, SetsNone, LeavesNoSooner, StaysDue, EntriesLeaveOnceIn, EndedStaysEndedIn, DeadlinesHoldIn}
 use Rattle.dq_queue.specs.Shards.{Held, IsAsLeft, IsStoreHistory}
+
+-- a move asks for no deadline, or for one
+next_keeps : (next : NextDeadline) → KeepsItsDeadline next ⊎ (¬ KeepsItsDeadline next)
+next_keeps Same = inl (tt {0})
+next_keeps (At tick) = inr (λ keeps. keeps)
+next_keeps (SameIfAfter tick) = inl (tt {0})
 
 module _ {T : Type 0} where
   -- what a removal or a move gave out, and what an insert put in
@@ -65,6 +74,51 @@ module _ {T : Type 0} where
   keeps_id u s t (inr (inr (inr (inr (inr (inr (inl y))))))) brings used = let did = y.1 in did.3 u used
   keeps_id u s t (inr (inr (inr (inr (inr (inr (inr (inl y)))))))) brings used = let did = y.3 in did.1 u used
   keeps_id u s t (inr (inr (inr (inr (inr (inr (inr (inr y)))))))) brings used = let did = y.2 in did.1 u used
+
+  reset_holds : (u : EntryId) (s t : StoreState T Sat) (id : EntryId) (when : ℕ) (r : Result Key CoreError × Option T) → StoreResets id when r s t → (¬ SetsDeadline u s t) → IsUsedId s u
+      → HoldsDeadline s t u
+  reset_holds u s t id when (Ok k, beside) did sets used =
+      ⊎_elim
+      (λ (is : u ≡ id). let P : EntryId → Type 0 = λ e. StoreResets e when (Ok k, beside) s t in absurd (sets (inl (when, k, beside, subst P (sym is) did))))
+      (λ (ne : u ≢ id). did.2 u ne used)
+      (one_or_two u id)
+  reset_holds u s t id when (Err e, beside) did sets used = did.3 u used
+
+  move_holds : (u : EntryId) (s t : StoreState T Sat) (id : EntryId) (next : NextDeadline) (r : Result (Moved T) CoreError × Option T) → StoreRelocates id next r s t → (¬ SetsDeadline u s t)
+      → IsUsedId s u → HoldsDeadline s t u
+  move_holds u s t id next (Ok (To k d), beside) did sets used =
+      ⊎_elim
+      (λ (keeps : KeepsItsDeadline next). did.5 keeps u used)
+      (λ (asks : ¬ KeepsItsDeadline next). ⊎_elim
+      (λ (is : u ≡ id). let P : EntryId → Type 0 = λ e. StoreRelocates e next (Ok (To k d), beside) s t in absurd (sets (inr (next, k, d, beside, asks, subst P (sym is) did))))
+      (λ (ne : u ≢ id). did.3 u ne used)
+      (one_or_two u id))
+      (next_keeps next)
+  move_holds u s t id next (Ok (Out x), beside) did sets used = did.4 u used
+  move_holds u s t id next (Err e, beside) did sets used = did.4 u used
+
+  -- a call that gave an entry no deadline held the one that it had
+  none_set : (u : EntryId) (s t : StoreState T Sat) → IsStoreCall s t → (¬ SetsDeadline u s t) → IsUsedId s u → HoldsDeadline s t u
+  none_set u s t (inl y) sets used = let did = y.3 in did.4 u used
+  none_set u s t (inr (inl y)) sets used = let did = y.2 in did.3 u used
+  none_set u s t (inr (inr (inl y))) sets used = reset_holds u s t y.0 y.1 y.2 y.3 sets used
+  none_set u s t (inr (inr (inr (inl y)))) sets used = let did = y.2 in did.2 u used
+  none_set u s t (inr (inr (inr (inr (inl y))))) sets used = let did = y.3 in did.3 u used
+  none_set u s t (inr (inr (inr (inr (inr (inl y)))))) sets used = let did = y.2 in did.4 u used
+  none_set u s t (inr (inr (inr (inr (inr (inr (inl y))))))) sets used = let did = y.1 in did.4 u used
+  none_set u s t (inr (inr (inr (inr (inr (inr (inr (inl y)))))))) sets used = move_holds u s t y.0 y.1 y.2 y.3 sets used
+  none_set u s t (inr (inr (inr (inr (inr (inr (inr (inr y)))))))) sets used = let did = y.2 in did.2 u used
+
+  pub holds_due : (u : EntryId) (s t : StoreState T Sat) → IsStoreCall s t → SetsNone u s t → IsUsedId s u → HoldsDeadline s t u
+  holds_due u s t did (inl moves) used = let m = moves.5 in m.5 moves.4 u used
+  holds_due u s t did (inr sets) used = none_set u s t did sets used
+
+  leaves_due : (u : EntryId) (tick : ℕ) (s t : StoreState T Sat) → NotDueBefore s u tick → LeavesNoSooner u tick s t
+  leaves_due u tick s t none = record {
+    removed = λ x did. did.4 tick none;
+    moved = λ next x beside did. did.7 tick none;
+    polled = λ at most x did is. let P : EntryId → Type 0 = λ k. NotDueBefore s k tick in did.4 tick (subst P (sym is) none);
+  }
 
   -- what that makes of an entry
 
@@ -112,6 +166,24 @@ module _ {T : Type 0} where
         let did = stays_ended u s.store t.store kept at.0 at.1 in
         (t, history.2, kept.given, did.0, (by_call (StaysEnded u) e es x xs s t history.3 history.2 did, r.4))
 
+    abbrev Due : ℕ → List (Entry (Held T)) → Type 0
+    Due tick es = (k : Held T) × IsAsLeft (es ++ x ∷ xs) k × IsUsedId k.store u × NotDueBefore k.store u tick × ByEach (StaysDue u tick) es (x ∷ xs)
+
+    pub due_since : (tick : ℕ) → NotDueBefore h.store u tick → (es : List (Entry (Held T))) → IsStoreHistory (es ++ x ∷ xs) → ByEach (BringsNone u) es (x ∷ xs)
+        → ByEach (SetsNone u) es (x ∷ xs) → Due tick es
+    due_since tick none [] history brings sets = (h, left, used, none, tt {0})
+    due_since tick none (e ∷ es) history brings sets =
+        let r = due_since tick none es history.6 brings.1 sets.1 in
+        let s = history.0 in
+        let t = history.1 in
+        let same = one_left es x xs r.0 s r.1 history.3 in
+        let P : Held T → Type 0 = λ k. IsUsedId k.store u × NotDueBefore k.store u tick in
+        let at = subst P same (r.2, r.3) in
+        let kept = keeps_id u s.store t.store history.5 (brings.0 s t history.3 history.2) at.0 in
+        let held = holds_due u s.store t.store history.5 (sets.0 s t history.3 history.2) at.0 tick at.1 in
+        let did : StaysDue u tick s.store t.store = (held, leaves_due u tick s.store t.store at.1) in
+        (t, history.2, kept.given, held, (by_call (StaysDue u tick) e es x xs s t history.3 history.2 did, r.4))
+
     abbrev Either : T → List (Entry (Held T)) → StoreState T Sat → Type 0
     Either v es s = (HasOnly s u v × ByEach (StandsOn u v) es (x ∷ xs)) ⊎ (NoneStandsFor s u × LeftOnce u v es (x ∷ xs))
 
@@ -157,14 +229,22 @@ module _ {T : Type 0} where
         let kept = keeps_id u s.store t.store history.5 (brings.0 s t history.3 history.2) at.0 in
         (t, history.2, kept.given, one_more v e es s t history.3 history.2 at.0 kept at.1)
 
-pub leave_once : (T : Type 0) → ShardEntriesLeaveOnce T
-leave_once T log history u v h since is only =
+-- over a history
+
+pub leave_once : {T : Type 0} (log : List (Entry (Held T))) → IsStoreHistory log → EntriesLeaveOnceIn log
+leave_once {T} log history u v h since is only =
     let P : List (Entry (Held T)) → Type 0 = λ k. IsStoreHistory k in
     let r = goes_since is.entry is.before h is.left u is.used v only since (subst P is.all history) is.brought in
     ⊎_elim (λ y. inl y.1) (λ y. inr y.1) r.3
 
-pub ended_stays : (T : Type 0) → ShardEndedStaysEnded T
-ended_stays T log history u h since is none =
+pub ended_stays : {T : Type 0} (log : List (Entry (Held T))) → IsStoreHistory log → EndedStaysEndedIn log
+ended_stays {T} log history u h since is none =
     let P : List (Entry (Held T)) → Type 0 = λ k. IsStoreHistory k in
     let r = ended_since is.entry is.before h is.left u is.used none since (subst P is.all history) is.brought in
+    r.4
+
+pub deadlines_hold : {T : Type 0} (log : List (Entry (Held T))) → IsStoreHistory log → DeadlinesHoldIn log
+deadlines_hold {T} log history u tick h since is none sets =
+    let P : List (Entry (Held T)) → Type 0 = λ k. IsStoreHistory k in
+    let r = due_since is.entry is.before h is.left u is.used tick none since (subst P is.all history) is.brought sets in
     r.4

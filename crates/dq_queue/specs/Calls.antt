@@ -1,5 +1,6 @@
--- What one call does to what lies behind a shard's lock. Each keeps the ids that entries have had.
-use Rattle.std.specs.Prelude.{◌≡◌, ◌⊎◌, ℕ, true, Option, Some, Result, IfOk, IfErr, IfSome, IfNone, OnOk}
+-- What one call does to what lies behind a shard's lock. Each keeps the ids that entries have had, and
+-- the deadline of each entry but one that it gives another.
+use Rattle.std.specs.Prelude.{◌≡◌, ◌⊎◌, ℕ, true, Option, Some, Result, IfOk, IfErr, IfSome, IfNone, OnOk, OnErr}
 use Rattle.dq_ticks.specs.declared.keys.Key.{Key}
 use Rattle.dq_ticks.specs.declared.keys.EntryId.{EntryId}
 use Rattle.dq_core.specs.declared.errors.CoreError.{CoreError}
@@ -10,9 +11,9 @@ use Rattle.dq_core.specs.Core.{Core}
 use Rattle.dq_growing.specs.declared.cores.TakeError.{TakeError}
 use Rattle.dq_growing.specs.Cores.{InsertsIn, TakesIn, GivesDrained, NoneDrained}
 use Rattle.dq_growing.specs.Notes.{Book, meant_place}
-use Rattle.dq_growing.specs.Moving.{IfCameOut}
+use Rattle.dq_growing.specs.Moving.{IfTo, IfCameOut, UnlessTo}
 use Rattle.dq_growing.specs.Polls.{DoesPiece, IfPieceOut}
-use Rattle.dq_growing.specs.Runs.{KeepsIds, KeepsIdsBeside, GivesId}
+use Rattle.dq_growing.specs.Runs.{KeepsIds, KeepsIdsBeside, GivesId, HoldsDeadlines, HoldsOtherDeadlines, KeepsItsDeadline, LeavesInForce, NotDueBefore}
 use Rattle.dq_core.specs.declared.errors.ReapError.{ReapError}
 use Rattle.dq_growing.specs.declared.moving.Moved.{Moved}
 use Rattle.dq_growing.specs.declared.moving.NextDeadline.{NextDeadline}
@@ -43,29 +44,35 @@ module _ {T : Type 0} where
       StoreState T Sat → Type 0
   StoreInserts v when r s t =
       InsertsIn s.cores v when r t.cores × (t.notes ≡ s.notes) × KeepsIds s t
-      × IfOk r.0 (λ k. ComesNew s k.entry v t)
+      × IfOk r.0 (λ k. ComesNew s k.entry v t) × HoldsDeadlines s t
+      × IfOk r.0 (λ k. NotDueBefore t k.entry when)
 
-  -- an entry is taken out, and leaves with its value
+  -- an entry is taken out, and leaves with its value, at no deadline before the one that it had
   abbrev pub StoreRemoves : EntryId → Result (Removed T) CoreError → StoreState T Sat →
       StoreState T Sat → Type 0
   StoreRemoves id r s t =
       RemovesFor true s id r t × KeepsIds s t × IfOk r (λ x. GoesOut s id x.value t)
+      × HoldsDeadlines s t × IfOk r (λ x. LeavesInForce s id x.deadline)
 
-  -- an entry gets another deadline
+  -- an entry gets another deadline; refused, none falls
   abbrev pub StoreResets : EntryId → ℕ → Result Key CoreError × Option T → StoreState T Sat →
       StoreState T Sat → Type 0
-  StoreResets id when r s t = ResetsFor true s id when r t × KeepsIds s t
+  StoreResets id when r s t =
+      ResetsFor true s id when r t × KeepsIds s t × HoldsOtherDeadlines id s t
+      × OnErr r.0 (HoldsDeadlines s t) × OnOk r.0 (NotDueBefore t id when)
 
   -- an entry's deadline is told
   abbrev pub StoreTells : EntryId → Result ℕ CoreError → StoreState T Sat → StoreState T Sat → Type 0
-  StoreTells id r s t = TellsFor true s id r t × KeepsIds s t
+  StoreTells id r s t = TellsFor true s id r t × KeepsIds s t × HoldsDeadlines s t
 
-  -- a tick is noted, and a piece of a poll is done; what comes out leaves with its value
+  -- a tick is noted, and a piece of a poll is done; what comes out leaves with its value, at no
+  -- deadline before the one that it had
   abbrev pub StorePollsSome : ℕ → ℕ → Result (Piece T) CoreError → StoreState T Sat →
       StoreState T Sat → Type 0
   StorePollsSome tick most r s t =
       PollsFor (DoesPiece true most) s tick r t × KeepsIds s t
-      × IfPieceOut r (λ x. GoesOut s x.key.entry x.value t)
+      × IfPieceOut r (λ x. GoesOut s x.key.entry x.value t) × HoldsDeadlines s t
+      × IfPieceOut r (λ x. LeavesInForce s x.key.entry x.deadline)
 
   -- a piece of a poll, of which what comes out keeps what a call promised
   abbrev pub StorePollsBeside : PromiseView → ℕ → ℕ → Result (Piece T) CoreError →
@@ -79,26 +86,32 @@ module _ {T : Type 0} where
       StoreState T Sat → StoreState T Sat → Type 0
   StoreTakesIn c r s t =
       OnOk r (TakesIn s.cores c t.cores) × IfErr r (λ e. (e.1 ≡ c) × (t.cores ≡ s.cores))
-      × (t.notes ≡ s.notes) × KeepsIdsBeside c s t
+      × (t.notes ≡ s.notes) × KeepsIdsBeside c s t × HoldsDeadlines s t
 
   -- a core that has drained is taken out; none is exactly where none has
   abbrev pub StoreGives : Option (Core T Sat) → StoreState T Sat → StoreState T Sat → Type 0
   StoreGives r s t =
       IfSome r (λ c. GivesDrained s.cores c t.cores)
       × IfNone r (NoneDrained s.cores × (t.cores ≡ s.cores)) × (t.notes ≡ s.notes)
-      × KeepsIds s t
+      × KeepsIds s t × HoldsDeadlines s t
 
-  -- an entry goes on in the open core, or leaves with its value
+  -- an entry goes on in the open core, or leaves with its value; unless a deadline is asked for, it
+  -- goes on at none before the one that it had
   abbrev pub StoreRelocates : EntryId → NextDeadline → Result (Moved T) CoreError × Option T →
       StoreState T Sat → StoreState T Sat → Type 0
   StoreRelocates id next r s t =
       RelocatesFor true s id next r t × KeepsIds s t
       × IfOk r.0 (λ moved. IfCameOut moved (λ x. GoesOut s id x.value t))
+      × HoldsOtherDeadlines id s t × UnlessTo r.0 (HoldsDeadlines s t)
+      × (KeepsItsDeadline next → HoldsDeadlines s t)
+      × (KeepsItsDeadline next → IfOk r.0 (λ moved. IfTo moved (λ k d. LeavesInForce s id d)))
+      × IfOk r.0 (λ moved. IfCameOut moved (λ x. LeavesInForce s id x.deadline))
+      × IfOk r.0 (λ moved. IfTo moved (λ k d. NotDueBefore t id d))
 
   -- a cancelled entry is freed
   abbrev pub StoreReaps : EntryId → Result (Unit {0}) ReapError → StoreState T Sat →
       StoreState T Sat → Type 0
-  StoreReaps id r s t = ReapsFor true s id r t × KeepsIds s t
+  StoreReaps id r s t = ReapsFor true s id r t × KeepsIds s t × HoldsDeadlines s t
 
   -- one call took a store from one state to another
   abbrev pub IsStoreCall : StoreState T Sat → StoreState T Sat → Type 0

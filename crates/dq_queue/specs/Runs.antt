@@ -1,15 +1,22 @@
 -- What holds over all calls of a shard's history, whoever made them.
-use Rattle.std.specs.Prelude.{◌≡◌, ◌⊎◌, List, [], ◌∷◌, ◌++◌, Some}
+use Rattle.std.specs.Prelude.{◌≡◌, ◌⊎◌, ℕ, ◌≤◌, Ok, Option, List, [], ◌∷◌, ◌++◌, Some}
 use Rattle.dq_ticks.specs.declared.keys.EntryId.{EntryId}
+use Rattle.dq_ticks.specs.declared.keys.Key.{Key}
+use Rattle.dq_core.specs.declared.outcomes.Expired.{Expired}
+use Rattle.dq_core.specs.declared.outcomes.Removed.{Removed}
+use Rattle.dq_core.specs.declared.outcomes.Turn.TheVariants.{Out as CameOut}
+use Rattle.dq_core.specs.declared.outcomes.Piece.TheVariants.{Answer}
 use Rattle.dq_core.specs.Core.{Core}
 use Rattle.dq_journal.specs.declared.views.Entry.{Entry}
 use Rattle.dq_growing.specs.Cores.{TakesIn}
 use Rattle.dq_growing.specs.Notes.{ArePastBy, numbers_of}
-use Rattle.dq_growing.specs.Runs.{IsUsedId, GivesId}
+use Rattle.dq_growing.specs.Runs.{IsUsedId, GivesId, KeepsItsDeadline, NotDueBefore}
 use Rattle.dq_growing.specs.Store.{StoreState, NoneStandsFor, GoesOut}
+use Rattle.dq_growing.specs.declared.moving.Moved.TheVariants.{To, Out}
+use Rattle.dq_growing.specs.declared.moving.NextDeadline.{NextDeadline}
 use Rattle.dq_words.specs.Seats.{Sat}
-use Rattle.dq_queue.specs.Calls.{HasOnly}
-use Rattle.dq_queue.specs.Shards.{Held, IsAsLeft, IsStoreHistory}
+use Rattle.dq_queue.specs.Calls.{HasOnly, StoreRemoves, StoreResets, StoreRelocates, StorePollsSome}
+use Rattle.dq_queue.specs.Shards.{Held, IsAsLeft}
 
 module _ {T : Type 0} where
   -- the call of an entry did so, from what the entries before it had left to what it left
@@ -81,11 +88,43 @@ module _ {T : Type 0} where
       (u : EntryId) (h : Held T) (since : List (Entry (Held T))) (is : IsSince log u h since) →
       NoneStandsFor h.store u → ByEach (StaysEnded u) since (is.entry ∷ is.before)
 
--- so in each history of a shard
-abbrev pub ShardEntriesLeaveOnce : Type 0 → Type 0
-ShardEntriesLeaveOnce T =
-    (log : List (Entry (Held T))) → IsStoreHistory log → EntriesLeaveOnceIn log
+  -- a call gave an entry a deadline that was asked for: a reset did, or a move
+  abbrev pub SetsDeadline : EntryId → StoreState T Sat → StoreState T Sat → Type 0
+  SetsDeadline u s t =
+      ((when : ℕ) × (k : Key) × (beside : Option T) × StoreResets u when (Ok k, beside) s t)
+      ⊎ ((next : NextDeadline) × (k : Key) × (d : ℕ) × (beside : Option T)
+      × (¬ KeepsItsDeadline next) × StoreRelocates u next (Ok (To k d), beside) s t)
 
-abbrev pub ShardEndedStaysEnded : Type 0 → Type 0
-ShardEndedStaysEnded T =
-    (log : List (Entry (Held T))) → IsStoreHistory log → EndedStaysEndedIn log
+  -- a move took an entry on that asked for no deadline
+  abbrev pub MovesOn : EntryId → StoreState T Sat → StoreState T Sat → Type 0
+  MovesOn u s t =
+      (next : NextDeadline) × (k : Key) × (d : ℕ) × (beside : Option T) × KeepsItsDeadline next
+      × StoreRelocates u next (Ok (To k d), beside) s t
+
+  -- No call did, or it was a move that asks for none: what that did, a move could have done that
+  -- asks for the deadline which the entry had.
+  abbrev pub SetsNone : EntryId → StoreState T Sat → StoreState T Sat → Type 0
+  SetsNone u s t = MovesOn u s t ⊎ (¬ SetsDeadline u s t)
+
+  -- if a call took an entry out, by a removal, a move or a poll, then at no deadline before a tick
+  pub record LeavesNoSooner (u : EntryId) (tick : ℕ) (s t : StoreState T Sat) : Type 0 where
+    pub removed : (x : Removed T) → StoreRemoves u (Ok x) s t → tick ≤ x.deadline
+    pub moved :
+        (next : NextDeadline) (x : Removed T) (beside : Option T) →
+        StoreRelocates u next (Ok (Out x), beside) s t → tick ≤ x.deadline
+    pub polled :
+        (at most : ℕ) (x : Expired T) → StorePollsSome at most (Ok (Answer (CameOut x))) s t →
+        x.key.entry ≡ u → tick ≤ x.deadline
+
+  -- an entry isn't due before a tick, and if the call took it out, then at no deadline before that
+  abbrev pub StaysDue : EntryId → ℕ → StoreState T Sat → StoreState T Sat → Type 0
+  StaysDue u tick s t = NotDueBefore t u tick × LeavesNoSooner u tick s t
+
+  -- In a history the deadline of an entry never falls, and it leaves at none before the one that it
+  -- had, whoever calls, unless a call gives it one that was asked for.
+  abbrev pub DeadlinesHoldIn : List (Entry (Held T)) → Type 0
+  DeadlinesHoldIn log =
+      (u : EntryId) (tick : ℕ) (h : Held T) (since : List (Entry (Held T)))
+      (is : IsSince log u h since) → NotDueBefore h.store u tick →
+      ByEach (SetsNone u) since (is.entry ∷ is.before) →
+      ByEach (StaysDue u tick) since (is.entry ∷ is.before)

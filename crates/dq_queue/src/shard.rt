@@ -9,7 +9,7 @@ ghost use Rattle.dq_queue.specs.Calls.{StoreInserts, StoreRemoves, StoreResets, 
 ghost use Rattle.dq_queue.specs.Calls.{KeepsPromise, StorePollsBeside};
 ghost use Rattle.dq_queue.specs.Calls.{StoreTakesIn, StoreGives, StoreRelocates, StoreReaps};
 ghost use Rattle.dq_queue.specs.Claims.{AreClaimed, AreClaimsOf, ClaimsWords, IsOfItsWords, KeepsClaims};
-ghost use Rattle.dq_queue.specs.Runs.{EndedStaysEndedIn, EntriesLeaveOnceIn};
+ghost use Rattle.dq_queue.specs.Runs.{DeadlinesHoldIn, EndedStaysEndedIn, EntriesLeaveOnceIn};
 ghost use Rattle.dq_queue.specs.Shards.{MadeOnce, OneMore, IsStoreHistory, unnamed};
 
 use crate::endings;
@@ -337,6 +337,7 @@ impl<T, J: Rooms, A: Allocator> Shard<T, J, A> {
         // Whoever made the calls, each entry leaves at most once, and what has ended stays ended.
         ensures leaves { EntriesLeaveOnceIn self.old.history.log }
         ensures ended { EndedStaysEndedIn self.old.history.log }
+        ensures due { DeadlinesHoldIn self.old.history.log }
         ensures same { (me.new.shard ≡ me.old.shard) × (self.new.held ≡ self.old.held)
             × (self.new.history.log ≡ self.old.history.log) }
     {

@@ -1,8 +1,11 @@
 -- The parked law: it stands where the wheel does, and as it is told of a shard.
-use Rattle.std.proofs.Common.{◌≡◌, ℕ, true, false, refl, ap, Option, Some, None}
+use Rattle.std.proofs.Common.{◌≡◌, ℕ, ◌+◌, true, false, refl, sym, ap, Option, Some, None, IfSome}
 use Rattle.std.proofs.lemmas.Bool.{leb-true, le-leb}
 use Rattle.dq_core.specs.Core.{Core}
+use Rattle.dq_core.specs.Deferring.{waiting_in, TakesDisplaced}
 use Rattle.dq_core.specs.Readers.{with_words}
+use Rattle.dq_core.specs.Slots.{SlotRows, DeferredValues}
+use Rattle.dq_core.proofs.Dropped.{took_one}
 use Rattle.dq_words.specs.Seats.{Sat}
 use Rattle.dq_parking.specs.declared.parked.Parked.{Parked}
 use Rattle.dq_parking.specs.Attending.{MayWait}
@@ -19,6 +22,11 @@ none_waits None = refl
 none_waits (Some p) = refl
 
 module _ {T : Type 0} where
+  -- one fewer waits where one came out of the slot that the next insert fills
+  pub one_displaced : (s : SlotRows T) (a b : DeferredValues T) (r : Option T) → TakesDisplaced s a r b → IfSome r (λ v. waiting_in a ≡ waiting_in b + 1)
+  one_displaced s a b None t = tt
+  one_displaced s a b (Some v) t = sym (took_one a b v (t.0.0, (t.1.0, t.1.3, t.1.4)))
+
   -- a queue with the same wheel keeps the parked law
   pub parked_still : (b c : Core T Sat) (p : Option (Parked ℕ)) → c.wheel ≡ b.wheel → MayWait lasts_until b p → MayWait lasts_until c p
   parked_still b c None same law = law

@@ -1,7 +1,7 @@
 //! What a queue's row and a stream ask of a shard behind its lock, and of the poller that waits for it, one at a time; and
 //! what a stream asks of the queue.
 ghost use Rattle.std.specs.Prelude.{◌≡◌, true, Some, option_map};
-ghost use Rattle.dq_core.specs.Deferring.{waiting_in};
+ghost use Rattle.dq_core.specs.Deferring.{WillDisplace, waiting_in};
 ghost use Rattle.dq_parking.specs.Parking.{poller};
 ghost use Rattle.dq_shards.specs.declared.errors.QueueError.TheVariants.{Unknown};
 ghost use Rattle.dq_shards.specs.Shard.{IsParked, IsShard};
@@ -88,6 +88,10 @@ impl<T, A: Allocator> Shard for ShardState<T, A> {
 
     ghost same = { λ s t. t ≡ record s { core = record s.core { deferred = t.core.deferred } } };
 
+    ghost deferred_in = { λ s. waiting_in s.core.deferred };
+
+    ghost has_room = { λ s. ¬ WillDisplace s.core.slots s.core.deferred };
+
     #[tactic(auto, using(crate::proofs::Parking::told))]
     fn law(&self) {
         self.watched.core.law();
@@ -104,6 +108,7 @@ impl<T, A: Allocator> Shard for ShardState<T, A> {
     }
 
     #[inline(always)]
+    #[tactic(auto, using(crate::proofs::Parking::one_displaced))]
     fn take_displaced(&mut self) -> Option<T> {
         self.watched.core.take_displaced()
     }

@@ -1,6 +1,7 @@
 //! Extends, cancels and looks by `&self`, from any thread, which need no caller.
 ghost use Rattle.std.specs.Prelude.{◌≡◌, ◌≤◌, length, IfErr, IfOk, MatchOption};
 ghost use Rattle.dq_ticks.specs.declared.TheConstants.{LAST_TICK};
+ghost use Rattle.dq_words.specs.declared.keeper.WordsError.TheVariants.{NoMemory};
 ghost use Rattle.dq_words.specs.OpenCalls.{HasSlot, ShowsCancel, ShowsExtend, ShowsLook};
 ghost use Rattle.dq_words.specs.OpenCalls.{OpenExtendRefused, OpenLookRefused, OpenRefused};
 
@@ -20,6 +21,7 @@ impl<A: Allocator> Keeper<A> {
     pub fn open(&mut self) -> Result<OpenWords<A>, WordsError>
         ensures same_table { IfOk result (λ w. w.table ≡ self.old.table) }
         ensures rows { IfOk result (λ w. w.rows ≡ length self.old.view.seen) }
+        ensures refused { IfErr result (λ e. e ≡ NoMemory) }
         ensures unchanged { self.new ≡ self.old }
     {
         Ok(self.seat.open()?)

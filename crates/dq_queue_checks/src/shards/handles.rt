@@ -6,13 +6,14 @@ use super::keys::Named::Nth;
 use super::keys::{Answer, Call, Keys};
 use super::play::{Letters, by_handle, by_name};
 use super::same;
-use dq_core::CoreError;
+use dq_core::{CallError, CoreError, Look, Turn};
 use dq_shards::{Handle, HandlesOut, QueueConfig, QueueError, SharedDelayQueue, Totals};
 use dq_words::Caller;
 use std::alloc::Global;
 use std::process::Abort;
 use std::sync::Wait;
 use std::test::Fail;
+use std::thread::{Threads, join};
 
 // What is asked of a queue or of the last of its handles, with the answer.
 #[derive(Clone, Copy)]
@@ -192,4 +193,60 @@ fn issue_by_lend(rt: HostRuntime) -> Result<(), Fail> {
         Step::Counts(1, 1024),
     ];
     plays(&rt, 2, steps)
+}
+
+// The deadline of what a poll takes out; none where nothing is due.
+fn polled<R: Wait>(rt: &R, queue: &Letters, tick: u64) -> Result<Option<u64>, QueueError> {
+    Ok(match queue.poll(rt, 0, tick)? {
+        Turn::Out(expired) => Some(expired.deadline),
+        _ => None,
+    })
+}
+
+// One thread extends an entry by ten ticks while another polls when it is due. It comes out then, and the extend is
+// refused; or it comes out at the deadline that the extend was told.
+fn extends_beside_a_poll<R>(
+    rt: &R,
+    queue: &Letters,
+    handle: &mut Handle,
+    due: u64,
+) -> Result<(), QueueError>
+where
+    R: Abort + Wait + Threads + Sync,
+{
+    let later = due.saturating_add(10);
+    let key = queue.insert_or_drop(rt, 0, 'a', due)?;
+    let (extended, out) = join(
+        rt,
+        || handle.extend(&key, later),
+        || polled(rt, queue, due.saturating_add(5)),
+    );
+    match extended {
+        Ok(told) => {
+            same(rt, due, (told, out?), (later, None));
+            same(rt, due, polled(rt, queue, later)?, Some(later));
+        }
+        Err(refused) => {
+            let how = Look::LookExpired(due);
+            same(
+                rt,
+                due,
+                (refused, out?),
+                (CallError::Ended { how }, Some(due)),
+            );
+        }
+    }
+    Ok(())
+}
+
+// promise: shards.poll-piece
+#[test]
+fn an_extend_beside_a_poll_is_kept_or_refused(rt: HostRuntime) -> Result<(), Fail> {
+    let queue = SharedDelayQueue::new(rt.alloc(), QueueConfig::of(1, 4))?;
+    let mut handle = queue.handle(&rt)?;
+    for round in 0..500u64 {
+        let due = round.saturating_mul(100).saturating_add(10);
+        extends_beside_a_poll(&rt, &queue, &mut handle, due)?;
+    }
+    Ok(())
 }

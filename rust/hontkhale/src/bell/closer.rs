@@ -23,7 +23,7 @@ impl Closer {
         self.is_closed
     }
 
-    /// Closes for good, and rings the leader where it sleeps.
+    /// Closes for good, and rings the leader exactly where it sleeps.
     pub fn close(&mut self) -> Rung {
         self.is_closed = true;
         self.hint.set(0)

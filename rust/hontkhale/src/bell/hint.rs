@@ -21,7 +21,7 @@ impl Hint {
         self.tick
     }
 
-    /// Writes the hint, and then asks until when the leader sleeps. Rings it where it sleeps beyond the hint.
+    /// Writes the hint, and then asks until when the leader sleeps. Rings it exactly where that is beyond the hint.
     #[inline]
     pub fn set(&mut self, tick: u64) -> Rung {
         self.table.store((self.place + 1) * APART, tick);

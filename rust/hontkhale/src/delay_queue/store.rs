@@ -282,16 +282,20 @@ impl<T> ShardStore<T> {
         self.note_left();
     }
 
-    /// Takes a live entry out of its slot, and puts it into one of the open core.
+    /// Moves a live entry of a core that drains into the open one, and tells whether it did.
     #[cold]
-    fn relocate(&mut self, entry: &EntryId) -> Result<(), KeyError> {
-        if !self.finds_room(true) {
-            return Err(KeyError::NoMemory);
+    fn relocate(&mut self, entry: &EntryId) -> bool {
+        let open = self.store.cores().opened();
+        // Another core that is open now may be the entry's own.
+        if !self.finds_room(true) || self.store.cores().opened() != open {
+            return false;
         }
         // It is due when it was, so the hint stays.
-        self.store.relocate(entry, NextDeadline::Same).0.map_err(refused)?;
-        self.note_moved();
-        Ok(())
+        let moves = self.store.relocate(entry, NextDeadline::Same).0.is_ok();
+        if moves {
+            self.note_moved();
+        }
+        moves
     }
 
     /// Takes a live entry out where its deadline isn't after a tick, and gives its value.
@@ -487,7 +491,7 @@ impl<T> ShardStore<T> {
             return false;
         };
         match self.store.deadline(&entry) {
-            Ok(deadline) if deadline > now => self.relocate(&entry).is_ok(),
+            Ok(deadline) if deadline > now => self.relocate(&entry),
             // It comes out without being moved.
             Ok(_) => false,
             Err(_) => {
@@ -554,5 +558,24 @@ impl Counts {
     pub fn begin_late_anew(&mut self) {
         (self.late, self.latest) = ([0; POWERS], 0);
         self.counted_late = self.expired;
+    }
+}
+
+#[cfg(test)]
+mod tests {
+    use crate::DelayQueue;
+    use std::time::Duration;
+
+    /// Where the open core is full, the one of the last few entries may have the most room, and be the one that is opened.
+    #[test]
+    fn no_entry_is_moved_within_the_open_core() {
+        let queue = DelayQueue::builder().shards(1).build();
+        let insert = |value| queue.insert(value, Duration::from_secs(1_000)).expect("room");
+        let keys: Vec<_> = (0..64 + 128).map(insert).collect();
+        assert!(keys[3..64].iter().all(|key| queue.remove(key).is_ok()));
+        let mut store = queue.shared.lock(0);
+        assert!(store.sizing.straggler(&store.store).is_some());
+        assert!(!store.move_straggler(0));
+        assert_eq!((store.store.cores().opened(), store.counts.moved), (0, 0));
     }
 }

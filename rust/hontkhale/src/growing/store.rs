@@ -260,7 +260,9 @@ impl<T, W: Words> Store<T, W> {
             return (Err(missing_at(when)), None);
         };
         let error = match self.cores.reset(&place, when) {
-            Ok(key) => return (Ok(key_as(entry, key)), None),
+            Ok(key) => {
+                return (Ok(key_as(entry, key)), None);
+            }
             Err(error) => error,
         };
         if !is_worn(error) {

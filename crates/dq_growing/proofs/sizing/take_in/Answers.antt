@@ -1,5 +1,7 @@
 use Rattle.std.proofs.Common.{◌≡◌, false, true, rules}
 use Rattle.dq_growing.proofs.Sizes.{stays, takes_same, comes_same, opens_as, opens_only, stays_open}
+use Rattle.dq_growing.proofs.Keeping.{then_keep_beside}
+use Rattle.dq_growing.proofs.Holding.{comes_hold, opened_comes}
 use Rattle.dq_growing.proofs.sizing.take_in.Goals as goal
 
 pub returns-in-Err-clause-stands : goal.returns-in-Err-clause-stands
@@ -24,3 +26,12 @@ pub returns-clause-stands : goal.returns-clause-stands
 returns-clause-stands g c =
     let opens = opens_only c.take_in.new.self c.open.new.self c.open.result _ c.open.ensures.opens c.open.ensures.refused c.open.ensures.notes in
     comes_same c.args.store.now c.take_in.new.self c.open.new.self c.args.core c.law.ensures.shard c.in_default.ensures.takes c.in_default.ensures.notes opens
+
+pub returns-clause-keeps : goal.returns-clause-keeps
+returns-clause-keeps g c = then_keep_beside c.args.core c.args.store.now c.take_in.new.self c.open.new.self c.take_in.ensures.keeps c.open.ensures.keeps
+
+pub returns-clause-holds : goal.returns-clause-holds
+returns-clause-holds g c =
+    comes_hold c.args.store.now c.open.new.self c.args.core c.law.ensures.shard c.in_default.ensures.takes.may.0
+    (opened_comes c.args.store.now c.take_in.new.self c.open.new.self c.args.core c.open.result _ c.in_default.ensures.takes c.in_default.ensures.notes
+    c.open.ensures.opens c.open.ensures.refused c.open.ensures.notes)

@@ -1,4 +1,4 @@
-use Rattle.std.proofs.Common.{sym, refl, inl, inr}
+use Rattle.std.proofs.Common.{sym}
 use Rattle.dq_growing.proofs.Sizes.{clear_as, clear_room, opens_or_stays, still}
 use Rattle.dq_growing.proofs.sizing.Sizing.finds_room.Goals as goal
 

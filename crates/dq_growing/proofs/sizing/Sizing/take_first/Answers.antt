@@ -1,5 +1,8 @@
+use Rattle.std.proofs.Common.{◌∙◌}
 use Rattle.dq_growing.specs.Store.{StandsFor}
 use Rattle.dq_growing.proofs.Sizes.{all_were, comes_were, gives_open, gives_same, gives_were, same_open, stays, then_open, then_stand, then_were, was_beside}
+use Rattle.dq_growing.proofs.Keeping.{back_in_keep}
+use Rattle.dq_growing.proofs.Holding.{were_hold}
 use Rattle.dq_growing.proofs.sizing.Sizing.take_first.Goals as goal
 
 pub returns-in_default-clause-were : goal.returns-in_default-clause-were
@@ -61,3 +64,29 @@ returns-clause-opens g c =
     then_open c.args.store.now.cores c.take_drained.new.self.cores c.take_in.new.store.cores
     (gives_open c.args.store.now.cores c.take_drained.new.self.cores c.in-Some.core c.in-Some.ensures.gives)
     c.in_default-take_in.ensures.opens
+
+pub returns-in-Err-clause-keeps : goal.returns-in-Err-clause-keeps
+returns-in-Err-clause-keeps g c =
+    back_in_keep c.in-Some.core c.args.store.now c.take_drained.new.self c.take_in.new.store c.in-Some.ensures.gives c.take_drained.ensures.keeps c.take_in.ensures.keeps
+
+pub returns-clause-keeps : goal.returns-clause-keeps
+returns-clause-keeps g c =
+    back_in_keep c.in-Some.core c.args.store.now c.take_drained.new.self c.take_in.new.store c.in-Some.ensures.gives c.take_drained.ensures.keeps c.take_in.ensures.keeps
+
+pub returns-in-Err-clause-holds : goal.returns-in-Err-clause-holds
+returns-in-Err-clause-holds g c =
+    were_hold c.args.store.now c.take_in.new.store
+    (then_were c.args.store.now.cores c.take_drained.new.self.cores c.take_in.new.store.cores
+    (gives_were c.args.store.now.cores c.take_drained.new.self.cores c.in-Some.core c.in-Some.ensures.gives)
+    (all_were c.take_drained.new.self.cores c.take_in.new.store.cores c.in-Err.ensures.back.1))
+    (c.take_in.ensures.notes ∙ c.take_drained.ensures.notes)
+
+pub returns-clause-holds : goal.returns-clause-holds
+returns-clause-holds g c =
+    let gives = c.in-Some.ensures.gives in
+    were_hold c.args.store.now c.take_in.new.store
+    (comes_were c.args.store.now.cores c.take_drained.new.self.cores c.take_in.new.store.cores c.in-Some.core
+    (was_beside c.args.store.now.cores c.take_drained.new.self.cores c.in-Some.core gives)
+    (gives_were c.args.store.now.cores c.take_drained.new.self.cores c.in-Some.core gives)
+    c.in_default-take_in.ensures.comes.0)
+    (c.take_in.ensures.notes ∙ c.take_drained.ensures.notes)

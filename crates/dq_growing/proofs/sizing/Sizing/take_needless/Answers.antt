@@ -1,7 +1,9 @@
-use Rattle.std.proofs.Common.{refl, subst}
+use Rattle.std.proofs.Common.{refl, subst, ◌∙◌}
 use Rattle.dq_growing.specs.Cores.{AreCores}
 use Rattle.dq_growing.specs.Store.{StandsFor, StoreState}
 use Rattle.dq_growing.proofs.Sizes.{all_stand, all_were, beside_before, same_open, then_open, then_stand, then_were}
+use Rattle.dq_growing.proofs.Keeping.{all_keep, then_keep}
+use Rattle.dq_growing.proofs.Holding.{were_hold}
 use Rattle.dq_growing.proofs.sizing.Sizing.take_needless.Goals as goal
 
 pub returns-then-not-has_needless-clause-opens : goal.returns-then-not-has_needless-clause-opens
@@ -9,7 +11,7 @@ returns-then-not-has_needless-clause-opens g c = same_open c.args.store.now.core
 
 pub loop-turn-init : goal.loop-turn-init
 loop-turn-init g c =
-    (all_stand (StandsFor c.args.store.now), all_were c.args.store.now.cores c.args.store.now.cores refl, same_open c.args.store.now.cores c.args.store.now.cores refl)
+    (all_stand (StandsFor c.args.store.now), all_were c.args.store.now.cores c.args.store.now.cores refl, same_open c.args.store.now.cores c.args.store.now.cores refl, refl, all_keep c.args.store.now)
 
 pub loop-turn-preserved : goal.loop-turn-preserved
 loop-turn-preserved g c =
@@ -18,6 +20,8 @@ loop-turn-preserved g c =
       then_stand (StandsFor c.args.store.now) (StandsFor c.loop-turn.store) (StandsFor c.take_first.new.store) i.0 t.stands,
       then_were c.args.store.now.cores c.loop-turn.store.cores c.take_first.new.store.cores i.1 t.were,
       then_open c.args.store.now.cores c.loop-turn.store.cores c.take_first.new.store.cores i.2 t.opens,
+      t.notes ∙ i.3,
+      then_keep c.args.store.now c.loop-turn.store c.take_first.new.store i.4 t.keeps,
     )
 
 pub returns-in-Some-clause-drained : goal.returns-in-Some-clause-drained
@@ -35,3 +39,22 @@ returns-in-Some-clause-opens g c =
 pub returns-in-Some-clause-stands : goal.returns-in-Some-clause-stands
 returns-in-Some-clause-stands g c =
     then_stand (StandsFor c.args.store.now) (StandsFor c.loop-turn.store) (StandsFor c.take_first.new.store) c.loop-turn.invariant.0 c.take_first.ensures.stands
+
+pub returns-then-not-has_needless-clause-were : goal.returns-then-not-has_needless-clause-were
+returns-then-not-has_needless-clause-were g c = all_were c.args.store.now.cores c.args.store.now.cores refl
+
+pub returns-in-Some-clause-were : goal.returns-in-Some-clause-were
+returns-in-Some-clause-were g c =
+    then_were c.args.store.now.cores c.loop-turn.store.cores c.take_first.new.store.cores c.loop-turn.invariant.1 c.take_first.ensures.were
+
+pub returns-in-Some-clause-keeps : goal.returns-in-Some-clause-keeps
+returns-in-Some-clause-keeps g c = then_keep c.args.store.now c.loop-turn.store c.take_first.new.store c.loop-turn.invariant.4 c.take_first.ensures.keeps
+
+pub returns-in-Some-clause-holds : goal.returns-in-Some-clause-holds
+returns-in-Some-clause-holds g c =
+    were_hold c.args.store.now c.take_first.new.store
+    (then_were c.args.store.now.cores c.loop-turn.store.cores c.take_first.new.store.cores c.loop-turn.invariant.1 c.take_first.ensures.were)
+    (c.take_first.ensures.notes ∙ c.loop-turn.invariant.3)
+
+pub returns-clause-holds : goal.returns-clause-holds
+returns-clause-holds g c = were_hold c.args.store.now c.loop-turn.store c.loop-turn.invariant.1 c.loop-turn.invariant.3

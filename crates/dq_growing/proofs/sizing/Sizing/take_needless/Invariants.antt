@@ -1,3 +1,5 @@
+use Rattle.std.specs.Prelude.{◌≡◌}
+use Rattle.dq_growing.specs.Runs.{KeepsIds}
 use Rattle.dq_growing.specs.Sizing.{AllWere, StaysOpen}
 use Rattle.dq_growing.specs.Stands.{SameStand}
 use Rattle.dq_growing.specs.Store.{StandsFor}
@@ -5,4 +7,4 @@ use Rattle.dq_growing.proofs.sizing.Sizing.take_needless.Given as goal
 
 abbrev pub invariant-loop-turn : goal.invariant-loop-turn
 invariant-loop-turn g l =
-    SameStand (StandsFor l.fn.store) (StandsFor l.store) × AllWere l.fn.store.cores l.store.cores × StaysOpen l.fn.store.cores l.store.cores
+    SameStand (StandsFor l.fn.store) (StandsFor l.store) × AllWere l.fn.store.cores l.store.cores × StaysOpen l.fn.store.cores l.store.cores × (l.store.notes ≡ l.fn.store.notes) × KeepsIds l.fn.store l.store

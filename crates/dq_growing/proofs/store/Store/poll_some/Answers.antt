@@ -1,6 +1,7 @@
 use Rattle.dq_growing.proofs.Stored.{stored, law_after}
 use Rattle.dq_growing.specs.Polls.{DoesPiece}
 use Rattle.dq_growing.proofs.Keeping.{goes_after, keeps_after, polled_none, piece_gone}
+use Rattle.dq_growing.proofs.Holding.{pieces_raise, piece_at, polled_at, polled_raises, holds_after, piece_in_force}
 use Rattle.dq_growing.proofs.store.Store.poll_some.Goals as goal
 
 pub invariant_of-self : goal.invariant_of-self
@@ -27,3 +28,19 @@ returns-clause-goes_out g c =
     rw (c.note_out-answer.ensures.answer, ← c.self.view_is)
     (goes_after (stored i.cores i.notes) (stored p.new.self c.note_out-answer.new.notes) p.result c.self.invariant p.ensures.ages c.note_out-answer.ensures.notes
     (polled_none (DoesPiece g.W.Words.shared c.args.most) i.cores p.new.self c.args.tick p.result (piece_gone g.W.Words.shared c.args.most) c.law.ensures p.ensures.polls))
+
+pub returns-clause-holds : goal.returns-clause-holds
+returns-clause-holds g c =
+    let i = c.self.inside in
+    let p = c.poll_some-made in
+    rw (← c.self.view_is)
+    (holds_after (stored i.cores i.notes) (stored p.new.self c.note_out-answer.new.notes) p.result
+    (polled_raises g.W.Words.origin g.W.Words.begun (DoesPiece g.W.Words.shared c.args.most) i.cores p.new.self c.args.tick p.result (pieces_raise g.W.Words.shared c.args.most) p.ensures.words p.ensures.polls) c.note_out-answer.ensures.notes
+    (polled_none (DoesPiece g.W.Words.shared c.args.most) i.cores p.new.self c.args.tick p.result (piece_gone g.W.Words.shared c.args.most) c.law.ensures p.ensures.polls))
+
+pub returns-clause-in_force : goal.returns-clause-in_force
+returns-clause-in_force g c =
+    let i = c.self.inside in
+    let p = c.poll_some-made in
+    rw (c.note_out-answer.ensures.answer, ← c.self.view_is)
+    (piece_in_force (stored i.cores i.notes) p.result (polled_at (DoesPiece g.W.Words.shared c.args.most) i.cores p.new.self c.args.tick p.result (piece_at g.W.Words.shared c.args.most) p.ensures.polls))

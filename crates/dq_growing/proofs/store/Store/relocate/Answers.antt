@@ -1,9 +1,10 @@
-use Rattle.std.proofs.Common.{inl, inr, sym, ◌∙◌}
+use Rattle.std.proofs.Common.{inl, inr, refl, sym, ◌∙◌}
 use Rattle.dq_growing.proofs.Aging.{all_age}
 use Rattle.dq_growing.proofs.Standing.{all_same}
 use Rattle.dq_growing.proofs.Stored.{stored, law_reserved, same_reserved, moved_free, moved_law, moved_goes, moved_begun, moved_out, moved_refused, moved_notes}
 use Rattle.dq_growing.proofs.Standing.{all_words}
 use Rattle.dq_growing.proofs.Keeping.{keeps_reserved, keeps_moved}
+use Rattle.dq_growing.proofs.Holding.{row_same, holds_reserved, holds_moved, holds_unless, moved_due, told_in_force, out_in_force}
 use Rattle.dq_growing.proofs.store.Store.relocate.Goals as goal
 
 pub invariant_of-self : goal.invariant_of-self
@@ -96,3 +97,84 @@ returns-clause-keeps g c =
     (keeps_moved (stored i.cores i.notes) r.new.self c.reserve.new.self a.new.notes c.args.entry.now c.in-Some.place c.self.invariant
     (sym c.place.ensures ∙ c.in-Some.is) c.reserve.ensures.same r.result.0 r.ensures.ages c.law-4.ensures a.ensures.notes r.ensures.goes_on r.ensures.past r.ensures.came_out
     c.law-2.ensures c.law-3.ensures)
+
+pub returns-then-is_err-clause-holds : goal.returns-then-is_err-clause-holds
+returns-then-is_err-clause-holds g c =
+    let i = c.self.inside in
+    rw (← c.self.view_is) (λ w ne given. holds_reserved (stored i.cores i.notes) i.cores c.reserve.new.self (λ q. row_same i.cores i.cores q refl) c.reserve.ensures.same w given)
+
+pub returns-then-is_err-clause-same : goal.returns-then-is_err-clause-same
+returns-then-is_err-clause-same g c =
+    let i = c.self.inside in
+    rw (← c.self.view_is) (λ keeps. holds_reserved (stored i.cores i.notes) i.cores c.reserve.new.self (λ q. row_same i.cores i.cores q refl) c.reserve.ensures.same)
+
+pub returns-then-is_err-clause-unless : goal.returns-then-is_err-clause-unless
+returns-then-is_err-clause-unless g c =
+    let i = c.self.inside in
+    rw (← c.self.view_is) (holds_reserved (stored i.cores i.notes) i.cores c.reserve.new.self (λ q. row_same i.cores i.cores q refl) c.reserve.ensures.same)
+
+pub returns-clause-holds : goal.returns-clause-holds
+returns-clause-holds g c =
+    let i = c.self.inside in
+    let r = c.relocate-answer in
+    let a = c.note_answer-answer in
+    let moved = holds_moved g.W.Words.origin g.W.Words.begun g.W.Words.shared (stored i.cores i.notes) r.new.self c.reserve.new.self a.new.notes c.args.entry.now c.in-Some.place c.args.next c.self.invariant
+    (sym c.place.ensures ∙ c.in-Some.is) c.reserve.ensures.same r.result.0 r.result.1
+    (moved_law (stored i.cores i.notes) r.new.self c.reserve.new.self a.new.notes c.args.entry.now c.in-Some.place c.self.invariant
+    (sym c.place.ensures ∙ c.in-Some.is) c.reserve.ensures.same r.result.0 r.ensures.ages c.law-4.ensures a.ensures.notes r.ensures.goes_on r.ensures.past)
+    c.law-3.ensures r.ensures.words a.ensures.notes r.ensures.relocates r.ensures.goes_on r.ensures.came_out in
+    rw (← c.self.view_is) (λ w ne given. moved w (λ is. absurd (ne is)))
+
+pub returns-clause-same : goal.returns-clause-same
+returns-clause-same g c =
+    let i = c.self.inside in
+    let r = c.relocate-answer in
+    let a = c.note_answer-answer in
+    let moved = holds_moved g.W.Words.origin g.W.Words.begun g.W.Words.shared (stored i.cores i.notes) r.new.self c.reserve.new.self a.new.notes c.args.entry.now c.in-Some.place c.args.next c.self.invariant
+    (sym c.place.ensures ∙ c.in-Some.is) c.reserve.ensures.same r.result.0 r.result.1
+    (moved_law (stored i.cores i.notes) r.new.self c.reserve.new.self a.new.notes c.args.entry.now c.in-Some.place c.self.invariant
+    (sym c.place.ensures ∙ c.in-Some.is) c.reserve.ensures.same r.result.0 r.ensures.ages c.law-4.ensures a.ensures.notes r.ensures.goes_on r.ensures.past)
+    c.law-3.ensures r.ensures.words a.ensures.notes r.ensures.relocates r.ensures.goes_on r.ensures.came_out in
+    rw (← c.self.view_is) (λ keeps w given. moved w (λ is. keeps))
+
+pub returns-clause-unless : goal.returns-clause-unless
+returns-clause-unless g c =
+    let i = c.self.inside in
+    let r = c.relocate-answer in
+    let a = c.note_answer-answer in
+    rw (a.ensures.answer, ← c.self.view_is)
+    (holds_unless g.W.Words.origin g.W.Words.begun g.W.Words.shared (stored i.cores i.notes) r.new.self c.reserve.new.self a.new.notes c.args.entry.now c.in-Some.place c.args.next c.self.invariant
+    (sym c.place.ensures ∙ c.in-Some.is) c.reserve.ensures.same r.result.0 r.result.1
+    (moved_law (stored i.cores i.notes) r.new.self c.reserve.new.self a.new.notes c.args.entry.now c.in-Some.place c.self.invariant
+    (sym c.place.ensures ∙ c.in-Some.is) c.reserve.ensures.same r.result.0 r.ensures.ages c.law-4.ensures a.ensures.notes r.ensures.goes_on r.ensures.past)
+    c.law-3.ensures r.ensures.words a.ensures.notes r.ensures.relocates r.ensures.goes_on r.ensures.came_out)
+
+pub returns-clause-told : goal.returns-clause-told
+returns-clause-told g c =
+    let i = c.self.inside in
+    let r = c.relocate-answer in
+    let a = c.note_answer-answer in
+    rw (a.ensures.answer, ← c.self.view_is)
+    (λ keeps. told_in_force g.W.Words.origin g.W.Words.begun g.W.Words.shared (stored i.cores i.notes) r.new.self c.reserve.new.self a.new.notes c.args.entry.now c.in-Some.place c.args.next c.self.invariant
+    (sym c.place.ensures ∙ c.in-Some.is) c.reserve.ensures.same r.result.0 r.result.1 r.ensures.relocates keeps)
+
+pub returns-clause-in_force : goal.returns-clause-in_force
+returns-clause-in_force g c =
+    let i = c.self.inside in
+    let r = c.relocate-answer in
+    let a = c.note_answer-answer in
+    rw (a.ensures.answer, ← c.self.view_is)
+    (out_in_force g.W.Words.origin g.W.Words.begun g.W.Words.shared (stored i.cores i.notes) r.new.self c.reserve.new.self a.new.notes c.args.entry.now c.in-Some.place c.args.next c.self.invariant
+    (sym c.place.ensures ∙ c.in-Some.is) c.reserve.ensures.same r.result.0 r.result.1 r.ensures.relocates)
+
+pub returns-clause-due : goal.returns-clause-due
+returns-clause-due g c =
+    let i = c.self.inside in
+    let r = c.relocate-answer in
+    let a = c.note_answer-answer in
+    rw (a.ensures.answer)
+    (moved_due g.W.Words.origin g.W.Words.begun g.W.Words.shared (stored i.cores i.notes) r.new.self c.reserve.new.self a.new.notes c.args.entry.now c.in-Some.place c.args.next c.self.invariant
+    (sym c.place.ensures ∙ c.in-Some.is) c.reserve.ensures.same r.result.0
+    (moved_law (stored i.cores i.notes) r.new.self c.reserve.new.self a.new.notes c.args.entry.now c.in-Some.place c.self.invariant
+    (sym c.place.ensures ∙ c.in-Some.is) c.reserve.ensures.same r.result.0 r.ensures.ages c.law-4.ensures a.ensures.notes r.ensures.goes_on r.ensures.past)
+    c.law-3.ensures a.ensures.notes r.ensures.goes_on)

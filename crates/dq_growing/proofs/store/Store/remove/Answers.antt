@@ -1,7 +1,9 @@
 use Rattle.std.proofs.Common.{Ok, Err, sym, ◌∙◌}
 use Rattle.dq_growing.proofs.Aging.{removes_age}
-use Rattle.dq_growing.proofs.Stored.{stored, law_same_notes, law_forgets, leaves_for, same_for, removes_for, removal_refused}
+use Rattle.dq_growing.proofs.Moves.{taken_out}
+use Rattle.dq_growing.proofs.Stored.{stored, place_is, law_same_notes, law_forgets, leaves_for, same_for, removes_for, removal_refused}
 use Rattle.dq_growing.proofs.Keeping.{keeps_noted, keeps_forgotten}
+use Rattle.dq_growing.proofs.Holding.{removes_raise, each_raises, taken_at, others_raise, holds_noted, holds_forgotten, leaves_in_force}
 use Rattle.dq_growing.proofs.store.Store.remove.Goals as goal
 
 pub invariant_of-self : goal.invariant_of-self
@@ -60,3 +62,26 @@ returns-clause-keeps g c =
     rw (← c.self.view_is)
     (keeps_forgotten (stored i.cores i.notes) (stored c.remove.new.self c.forget.new.self) c.in-Some.place c.forget.result c.self.invariant
     (removes_age g.W.Words.shared i.cores c.remove.new.self c.in-Some.place (Ok c.in-Ok.removed) _ c.law.ensures c.in-Ok.ensures.removes) c.forget.ensures c.in-Ok.ensures.leaves.gone)
+
+pub returns-in-Err-clause-holds : goal.returns-in-Err-clause-holds
+returns-in-Err-clause-holds g c =
+    let i = c.self.inside in
+    let p = c.in-Some.place in
+    rw (← c.self.view_is)
+    (holds_noted (stored i.cores i.notes) c.remove.new.self
+    (each_raises g.W.Words.origin g.W.Words.begun i.cores c.remove.new.self p.shard _ _ c.remove.ensures.words c.in-Err.ensures.removes (λ b k x. removes_raise g.W.Words.shared b k p (Err c.in-Err.error) x)))
+
+pub returns-clause-holds : goal.returns-clause-holds
+returns-clause-holds g c =
+    let i = c.self.inside in
+    rw (← c.self.view_is)
+    (holds_forgotten (stored i.cores i.notes) (stored c.remove.new.self c.forget.new.self) c.in-Some.place c.forget.result
+    (others_raise i.cores c.remove.new.self c.in-Some.place c.in-Ok.removed.value c.in-Ok.ensures.leaves) c.forget.ensures c.in-Ok.ensures.leaves.gone)
+
+pub returns-clause-in_force : goal.returns-clause-in_force
+returns-clause-in_force g c =
+    let i = c.self.inside in
+    let p = c.in-Some.place in
+    rw (c.removed_as.ensures, ← c.self.view_is)
+    (leaves_in_force (stored i.cores i.notes) c.args.entry.now p c.in-Ok.removed.deadline (place_is i.notes c.args.entry.now p c.self.invariant.noted (sym c.place.ensures ∙ c.in-Some.is))
+    (taken_at g.W.Words.shared i.cores c.remove.new.self p c.in-Ok.removed (taken_out g.W.Words.shared i.cores c.remove.new.self p c.in-Ok.removed c.in-Ok.ensures.removes)))

@@ -1,8 +1,10 @@
 use Rattle.std.proofs.Common.{Ok, Err, inl, refl, sym, ◌∙◌}
 use Rattle.dq_growing.proofs.Aging.{removes_age, tells_age}
-use Rattle.dq_growing.proofs.Stored.{stored, law_same_notes, law_forgets, leaves_for, same_for, removes_for, removal_refused, due_taken, due_later, due_refused}
+use Rattle.dq_growing.proofs.Moves.{taken_out}
+use Rattle.dq_growing.proofs.Stored.{stored, place_is, law_same_notes, law_forgets, leaves_for, same_for, removes_for, removal_refused, due_taken, due_later, due_refused}
 use Rattle.dq_growing.proofs.Keeping.{keeps_noted, keeps_forgotten}
 use Rattle.dq_growing.proofs.Standing.{removes_leaves, refusal_same, look_same}
+use Rattle.dq_growing.proofs.Holding.{removes_raise, tells_raise, each_raises, taken_at, others_raise, holds_noted, holds_forgotten, leaves_in_force}
 use Rattle.dq_growing.proofs.store.Store.remove_if_due.Goals as goal
 
 pub invariant_of-self : goal.invariant_of-self
@@ -111,3 +113,39 @@ returns-clause-keeps g c =
     (keeps_forgotten (stored i.cores i.notes) (stored c.remove_if_due.new.self c.forget.new.self) c.in-Some.place c.forget.result c.self.invariant
     (removes_age g.W.Words.shared i.cores c.remove_if_due.new.self c.in-Some.place (Ok c.in-Ok-Some.removed) _ c.law.ensures due.1) c.forget.ensures
     (removes_leaves g.W.Words.shared i.cores c.remove_if_due.new.self c.in-Some.place ⊥ c.law.ensures c.in-Ok-Some.removed due.1).gone)
+
+pub returns-in-Ok-None-clause-holds : goal.returns-in-Ok-None-clause-holds
+returns-in-Ok-None-clause-holds g c =
+    let i = c.self.inside in
+    let p = c.in-Some.place in
+    let due = due_later g.W.Words.shared i.cores c.remove_if_due.new.self c.in-Some.place c.args.tick _ c.in-Ok-None.field-0-is c.in-Ok-None.ensures.removes in
+    rw (← c.self.view_is)
+    (holds_noted (stored i.cores i.notes) c.remove_if_due.new.self
+    (each_raises g.W.Words.origin g.W.Words.begun i.cores c.remove_if_due.new.self p.shard _ _ c.remove_if_due.ensures.words due.2 (λ b k x. tells_raise g.W.Words.shared b k p (Ok due.0) x)))
+
+pub returns-in-Err-clause-holds : goal.returns-in-Err-clause-holds
+returns-in-Err-clause-holds g c =
+    let i = c.self.inside in
+    let p = c.in-Some.place in
+    rw (← c.self.view_is)
+    (holds_noted (stored i.cores i.notes) c.remove_if_due.new.self
+    (each_raises g.W.Words.origin g.W.Words.begun i.cores c.remove_if_due.new.self p.shard _ _ c.remove_if_due.ensures.words
+    (due_refused g.W.Words.shared i.cores c.remove_if_due.new.self p c.args.tick c.in-Err.error c.in-Err.ensures.removes) (λ b k x. removes_raise g.W.Words.shared b k p (Err c.in-Err.error) x)))
+
+pub returns-clause-holds : goal.returns-clause-holds
+returns-clause-holds g c =
+    let i = c.self.inside in
+    let due = due_taken g.W.Words.shared i.cores c.remove_if_due.new.self c.in-Some.place c.args.tick _ c.in-Ok-Some.removed c.in-Ok-Some.field-0-is c.in-Ok-Some.ensures.removes in
+    let leaves = removes_leaves g.W.Words.shared i.cores c.remove_if_due.new.self c.in-Some.place ⊥ c.law.ensures c.in-Ok-Some.removed due.1 in
+    rw (← c.self.view_is)
+    (holds_forgotten (stored i.cores i.notes) (stored c.remove_if_due.new.self c.forget.new.self) c.in-Some.place c.forget.result
+    (others_raise i.cores c.remove_if_due.new.self c.in-Some.place c.in-Ok-Some.removed.value leaves) c.forget.ensures leaves.gone)
+
+pub returns-clause-in_force : goal.returns-clause-in_force
+returns-clause-in_force g c =
+    let i = c.self.inside in
+    let p = c.in-Some.place in
+    let due = due_taken g.W.Words.shared i.cores c.remove_if_due.new.self c.in-Some.place c.args.tick _ c.in-Ok-Some.removed c.in-Ok-Some.field-0-is c.in-Ok-Some.ensures.removes in
+    rw (c.removed_as.ensures, ← c.self.view_is)
+    (leaves_in_force (stored i.cores i.notes) c.args.entry.now p c.in-Ok-Some.removed.deadline (place_is i.notes c.args.entry.now p c.self.invariant.noted (sym c.place.ensures ∙ c.in-Some.is))
+    (taken_at g.W.Words.shared i.cores c.remove_if_due.new.self p c.in-Ok-Some.removed (taken_out g.W.Words.shared i.cores c.remove_if_due.new.self p c.in-Ok-Some.removed due.1)))

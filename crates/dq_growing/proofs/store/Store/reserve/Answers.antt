@@ -1,6 +1,8 @@
+use Rattle.std.proofs.Common.{ap}
 use Rattle.dq_growing.proofs.Aging.{all_age}
 use Rattle.dq_growing.proofs.Stored.{stored, law_reserved, law_same_cores}
 use Rattle.dq_growing.proofs.Keeping.{keeps_noted, keeps_reserved, same_age}
+use Rattle.dq_growing.proofs.Holding.{row_same, holds_noted, holds_reserved}
 use Rattle.dq_growing.proofs.store.Store.reserve.Goals as goal
 
 pub invariant_of-self-2 : goal.invariant_of-self-2
@@ -21,3 +23,14 @@ pub returns-in_err-reserve-clause-keeps : goal.returns-in_err-reserve-clause-kee
 returns-in_err-reserve-clause-keeps g c =
     let i = c.self.inside in
     rw (← c.self.view_is) (keeps_noted (stored i.cores i.notes) c.reserve.new.self c.self.invariant (same_age i.cores c.reserve.new.self c.reserve.ensures))
+
+pub returns-clause-holds : goal.returns-clause-holds
+returns-clause-holds g c =
+    let i = c.self.inside in
+    let cores = c.reserve.new.self in
+    rw (← c.self.view_is) (holds_reserved (stored i.cores i.notes) cores c.reserve-reserved.new.self (λ q. row_same i.cores cores q (ap (λ k. k.cores) c.reserve.ensures)) c.reserve-reserved.ensures.same)
+
+pub returns-in_err-reserve-clause-holds : goal.returns-in_err-reserve-clause-holds
+returns-in_err-reserve-clause-holds g c =
+    let i = c.self.inside in
+    rw (← c.self.view_is) (holds_noted (stored i.cores i.notes) c.reserve.new.self (λ q. row_same i.cores c.reserve.new.self q (ap (λ k. k.cores) c.reserve.ensures)))

@@ -1,5 +1,7 @@
+use Rattle.std.proofs.Common.{◌+◌}
 use Rattle.dq_growing.proofs.Stored.{stored, law_same_notes}
 use Rattle.dq_growing.proofs.Keeping.{keeps_noted}
+use Rattle.dq_growing.proofs.Holding.{swept_raises, holds_noted}
 use Rattle.dq_growing.proofs.store.Store.sweep_some.Goals as goal
 
 pub invariant_of-self : goal.invariant_of-self
@@ -16,3 +18,11 @@ returns-clause-keeps g c =
     let i = c.self.inside in
     let a = c.sweep_some-swept in
     rw (← c.self.view_is) (keeps_noted (stored i.cores i.notes) a.new.self c.self.invariant a.ensures.ages)
+
+pub returns-clause-holds : goal.returns-clause-holds
+returns-clause-holds g c =
+    let i = c.self.inside in
+    let a = c.sweep_some-swept in
+    rw (← c.self.view_is)
+    (holds_noted (stored i.cores i.notes) a.new.self
+    (swept_raises g.W.Words.origin g.W.Words.begun g.W.Words.shared i.cores a.new.self c.args.place c.args.from (c.args.from + c.args.count) a.result a.ensures.words a.ensures.sweeps))

@@ -1,5 +1,6 @@
 use Rattle.dq_growing.proofs.Stored.{stored, deferred_ages, law_takes_deferred}
 use Rattle.dq_growing.proofs.Keeping.{keeps_noted}
+use Rattle.dq_growing.proofs.Holding.{deferred_raises, holds_noted}
 use Rattle.dq_growing.proofs.store.Store.take_deferred.Goals as goal
 
 pub invariant_of-self : goal.invariant_of-self
@@ -13,3 +14,9 @@ returns-clause-keeps g c =
     let i = c.self.inside in
     let a = c.take_deferred-value in
     rw (← c.self.view_is) (keeps_noted (stored i.cores i.notes) a.new.self c.self.invariant (deferred_ages i.cores a.new.self a.result c.law.ensures a.ensures))
+
+pub returns-clause-holds : goal.returns-clause-holds
+returns-clause-holds g c =
+    let i = c.self.inside in
+    let a = c.take_deferred-value in
+    rw (← c.self.view_is) (holds_noted (stored i.cores i.notes) a.new.self (deferred_raises i.cores a.new.self a.result a.ensures))

@@ -1,6 +1,7 @@
 use Rattle.std.proofs.Common.{inl, refl}
 use Rattle.dq_growing.proofs.Stored.{stored, law_answers, on_ok, refused_for}
 use Rattle.dq_growing.proofs.Keeping.{takes_keep}
+use Rattle.dq_growing.proofs.Holding.{holds_takes}
 use Rattle.dq_growing.proofs.store.Store.take_in.Goals as goal
 
 pub invariant_of-self : goal.invariant_of-self
@@ -31,3 +32,9 @@ returns-clause-keeps g c =
     let a = c.take_in-answer in
     let past = c.are_past_in.ensures.yes c.if-not-are_past_in.false in
     rw (← c.self.view_is) (takes_keep (stored i.cores i.notes) a.new.self c.args.core a.result c.self.invariant c.law.ensures.shard past a.ensures.takes a.ensures.refused)
+
+pub returns-clause-holds : goal.returns-clause-holds
+returns-clause-holds g c =
+    let i = c.self.inside in
+    let a = c.take_in-answer in
+    rw (← c.self.view_is) (holds_takes (stored i.cores i.notes) a.new.self c.args.core a.result c.law.ensures.shard a.ensures.takes a.ensures.refused)

@@ -15,4 +15,4 @@ pub returns-clause-tells : goal.returns-clause-tells
 returns-clause-tells g c =
     let made = c.deadline-answer in
     let P : Held _ → Type 0 = λ h. StoreTells c.args.entry.now made.result h.store made.new.self in
-    subst P c.self.view_is (made.ensures.tells, made.ensures.keeps)
+    subst P c.self.view_is (made.ensures.tells, made.ensures.keeps, made.ensures.holds)

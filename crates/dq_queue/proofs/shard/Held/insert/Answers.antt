@@ -21,4 +21,6 @@ returns-clause-inserts g c =
       made.ensures.notes,
       made.ensures.keeps,
       came_new c.self.inside.store made.new.self c.args.value c.args.when made.result.0 made.ensures.comes made.ensures.gives c.law-2.ensures.one,
+      made.ensures.holds,
+      made.ensures.due,
     )

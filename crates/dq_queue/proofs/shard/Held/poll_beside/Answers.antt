@@ -25,7 +25,7 @@ returns-clause-polls g c =
     let made = c.poll_some-answer in
     let P : Held _ → Type 0 = λ h. StorePollsSome c.args.tick c.args.most made.result h.store c.beside.new.self in
     let Q : StoreState _ Sat → Type 0 = λ t. StorePollsSome c.args.tick c.args.most made.result c.self.inside.store t in
-    subst P c.self.view_is (subst Q (sym c.beside.ensures.same.0) (made.ensures.polls, made.ensures.keeps, made.ensures.goes_out))
+    subst P c.self.view_is (subst Q (sym c.beside.ensures.same.0) (made.ensures.polls, made.ensures.keeps, made.ensures.goes_out, made.ensures.holds, made.ensures.in_force))
 
 pub returns-clause-claims : goal.returns-clause-claims
 returns-clause-claims g c =

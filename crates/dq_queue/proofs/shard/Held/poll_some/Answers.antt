@@ -9,7 +9,7 @@ pub returns-clause-polls : goal.returns-clause-polls
 returns-clause-polls g c =
     let made = c.poll_some-answer in
     let P : Held _ → Type 0 = λ h. StorePollsSome c.args.tick c.args.most made.result h.store made.new.self in
-    subst P c.self.view_is (made.ensures.polls, made.ensures.keeps, made.ensures.goes_out)
+    subst P c.self.view_is (made.ensures.polls, made.ensures.keeps, made.ensures.goes_out, made.ensures.holds, made.ensures.in_force)
 
 pub returns-clause-claims : goal.returns-clause-claims
 returns-clause-claims g c =

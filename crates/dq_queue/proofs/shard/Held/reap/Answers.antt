@@ -15,4 +15,4 @@ pub returns-clause-reaps : goal.returns-clause-reaps
 returns-clause-reaps g c =
     let made = c.reap-answer in
     let P : Held _ → Type 0 = λ h. StoreReaps c.args.entry.now made.result h.store made.new.self in
-    subst P c.self.view_is (made.ensures.reaps, made.ensures.keeps)
+    subst P c.self.view_is (made.ensures.reaps, made.ensures.keeps, made.ensures.holds)

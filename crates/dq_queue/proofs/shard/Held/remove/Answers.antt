@@ -16,4 +16,4 @@ pub returns-clause-removes : goal.returns-clause-removes
 returns-clause-removes g c =
     let made = c.remove-answer in
     let P : Held _ → Type 0 = λ h. StoreRemoves c.args.entry.now made.result h.store made.new.self in
-    subst P c.self.view_is (made.ensures.removes, made.ensures.keeps, went_out c.self.inside.store made.new.self c.args.entry.now made.result made.ensures.leaves)
+    subst P c.self.view_is (made.ensures.removes, made.ensures.keeps, went_out c.self.inside.store made.new.self c.args.entry.now made.result made.ensures.leaves, made.ensures.holds, made.ensures.in_force)

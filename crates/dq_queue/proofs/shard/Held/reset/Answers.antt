@@ -15,4 +15,4 @@ pub returns-clause-resets : goal.returns-clause-resets
 returns-clause-resets g c =
     let made = c.reset-answer in
     let P : Held _ → Type 0 = λ h. StoreResets c.args.entry.now c.args.when made.result h.store made.new.self in
-    subst P c.self.view_is (made.ensures.resets, made.ensures.keeps)
+    subst P c.self.view_is (made.ensures.resets, made.ensures.keeps, made.ensures.holds, made.ensures.stays, made.ensures.due)

@@ -7,4 +7,4 @@ pub returns-clause-takes : goal.returns-clause-takes
 returns-clause-takes g c =
     let made = c.take_in-answer in
     let P : Held _ → Type 0 = λ h. StoreTakesIn c.args.core made.result h.store made.new.self in
-    subst P c.self.view_is (made.ensures.takes, made.ensures.back, made.ensures.notes, made.ensures.keeps)
+    subst P c.self.view_is (made.ensures.takes, made.ensures.back, made.ensures.notes, made.ensures.keeps, made.ensures.holds)

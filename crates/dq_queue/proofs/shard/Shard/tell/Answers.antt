@@ -1,8 +1,8 @@
 use Rattle.std.proofs.Common.{sym, ap, ◌∙◌, subst}
-use Rattle.dq_queue.specs.Runs.{EntriesLeaveOnceIn, EndedStaysEndedIn}
+use Rattle.dq_queue.specs.Runs.{EntriesLeaveOnceIn, EndedStaysEndedIn, DeadlinesHoldIn}
 use Rattle.dq_queue.specs.Shards.{CallerView, HeldShard}
 use Rattle.dq_queue.proofs.Histories.{one_name}
-use Rattle.dq_queue.proofs.Runs.{ended_stays, leave_once}
+use Rattle.dq_queue.proofs.Runs.{deadlines_hold, ended_stays, leave_once}
 use Rattle.dq_queue.proofs.shard.Shard.tell.Goals as goal
 
 pub tell-requires-clause-table : goal.tell-requires-clause-table
@@ -11,7 +11,10 @@ tell-requires-clause-table g c =
     one_name g.J.Rooms.history c.self.inside.history.table c.me.inside.history.table _ _ c.self.invariant.1 c.me.invariant.1 at
 
 pub returns-clause-leaves : goal.returns-clause-leaves
-returns-clause-leaves g c = let P : HeldShard _ → Type 0 = λ s. EntriesLeaveOnceIn s.history.log in subst P c.self.view_is (leave_once _ _ c.self.invariant.4)
+returns-clause-leaves g c = let P : HeldShard _ → Type 0 = λ s. EntriesLeaveOnceIn s.history.log in subst P c.self.view_is (leave_once _ c.self.invariant.4)
 
 pub returns-clause-ended : goal.returns-clause-ended
-returns-clause-ended g c = let P : HeldShard _ → Type 0 = λ s. EndedStaysEndedIn s.history.log in subst P c.self.view_is (ended_stays _ _ c.self.invariant.4)
+returns-clause-ended g c = let P : HeldShard _ → Type 0 = λ s. EndedStaysEndedIn s.history.log in subst P c.self.view_is (ended_stays _ c.self.invariant.4)
+
+pub returns-clause-due : goal.returns-clause-due
+returns-clause-due g c = let P : HeldShard _ → Type 0 = λ s. DeadlinesHoldIn s.history.log in subst P c.self.view_is (deadlines_hold _ c.self.invariant.4)

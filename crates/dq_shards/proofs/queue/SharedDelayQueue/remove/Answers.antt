@@ -10,7 +10,7 @@ returns-clause-answers g c =
     let number = c.in_ok-shard.ensures.number ∙ c.shard.ensures in
     let told = c.remove-answer.ensures in
     let does = rw c.in_ok-answer.was at told.removes in
-    (omega (arith, entered.0, c.shard.ensures), on_numbered c.args.entry.now.shard (λ old r new. ShardRemoves old c.args.entry.now r new) (Ok c.in_ok-answer.field-0) _ _ _ _ entered.1 number (c.behind-shard.view_is ∙ c.deref_mut.ensures.value) c.unlock.ensures refl (does, (told.attends.0, told.attends.1, told.attends.3, told.attends.2)))
+    (omega (arith, entered.0, c.shard.ensures), on_numbered c.args.entry.now.shard (λ old r new. ShardRemoves old c.args.entry.now r new) (Ok c.in_ok-answer.field-0) _ _ _ _ entered.1 number (c.behind-shard.view_is ∙ c.deref_mut.ensures.value) c.unlock.ensures.law refl (does, (told.attends.0, told.attends.1, told.attends.3, told.attends.2)))
 
 pub returns-in_err-answer-clause-answers : goal.returns-in_err-answer-clause-answers
 returns-in_err-answer-clause-answers g c =
@@ -20,4 +20,4 @@ returns-in_err-answer-clause-answers g c =
     let does = rw c.in_err-answer.was at told.removes in
     let refused = err_from_is_err_and c.from_residual-in_err-answer.result c.from_residual-in_err-answer.ensures.1 in
     rw (refused.1, refused.2)
-    (omega (arith, entered.0, c.shard.ensures), on_numbered c.args.entry.now.shard (λ old r new. ShardRemoves old c.args.entry.now r new) (Err c.in_err-answer.field-0.0) _ _ _ _ entered.1 number (c.behind-shard.view_is ∙ c.deref_mut.ensures.value) c.unlock.ensures refl (does, (told.attends.0, told.attends.1, told.attends.3, told.attends.2)))
+    (omega (arith, entered.0, c.shard.ensures), on_numbered c.args.entry.now.shard (λ old r new. ShardRemoves old c.args.entry.now r new) (Err c.in_err-answer.field-0.0) _ _ _ _ entered.1 number (c.behind-shard.view_is ∙ c.deref_mut.ensures.value) c.unlock.ensures.law refl (does, (told.attends.0, told.attends.1, told.attends.3, told.attends.2)))
