@@ -29,11 +29,13 @@ impl Table {
 
     #[inline(always)]
     pub(crate) fn load(&self, index: usize) -> u64 {
+        made(Made::Load);
         nth(&self.words, index).load(SeqCst)
     }
 
     #[inline(always)]
     pub(crate) fn store(&self, index: usize, new: u64) {
+        made(Made::Step);
         nth(&self.words, index).store(new, SeqCst);
     }
 
@@ -43,6 +45,7 @@ impl Table {
         if is_shared {
             self.store(index, new);
         } else {
+            made(Made::Step);
             seldom();
             nth(&self.words, index).store(new, Relaxed);
         }
@@ -51,6 +54,7 @@ impl Table {
     /// Writes `new` where `old` stands, and answers what it found.
     #[inline(always)]
     pub(crate) fn compare_exchange(&self, index: usize, old: u64, new: u64) -> u64 {
+        made(Made::Step);
         match nth(&self.words, index).compare_exchange(old, new, SeqCst, SeqCst) {
             Ok(found) | Err(found) => found,
         }
@@ -59,6 +63,7 @@ impl Table {
     /// The same, for a word that is mostly found as it is expected. A plain step unless others have the words.
     #[inline(always)]
     pub(crate) fn compare_exchange_once(&self, is_shared: bool, index: usize, old: u64, new: u64) -> u64 {
+        made(Made::Step);
         let word = nth(&self.words, index);
         if is_shared {
             return match word.compare_exchange(old, new, SeqCst, SeqCst) {
@@ -80,12 +85,54 @@ impl Table {
 
     #[inline(always)]
     pub(crate) fn fetch_max(&self, index: usize, new: u64) -> u64 {
+        made(Made::Step);
         nth(&self.words, index).fetch_max(new, SeqCst)
     }
 
     #[inline(always)]
     pub(crate) fn fetch_add(&self, index: usize, more: u64) -> u64 {
+        made(Made::Step);
         nth(&self.words, index).fetch_add(more, SeqCst)
+    }
+}
+
+/// What a function of a table makes of a word.
+enum Made {
+    Load,
+    /// Any that may change the word.
+    Step,
+}
+
+#[cfg(not(all(test, feature = "std")))]
+#[inline(always)]
+fn made(_: Made) {}
+
+/// Counts it, for tests of what a call makes.
+#[cfg(all(test, feature = "std"))]
+fn made(what: Made) {
+    counted::MADE.with(|made| {
+        let (loads, steps) = made.get();
+        made.set(match what {
+            Made::Load => (loads + 1, steps),
+            Made::Step => (loads, steps + 1),
+        });
+    });
+}
+
+#[cfg(all(test, feature = "std"))]
+pub(crate) mod counted {
+    use std::cell::Cell;
+
+    std::thread_local! {
+        pub(super) static MADE: Cell<(usize, usize)> = const { Cell::new((0, 0)) };
+    }
+
+    /// What a call answers, and how many loads and how many other steps of tables' words it made in this thread.
+    pub(crate) fn counting<R>(call: impl FnOnce() -> R) -> (R, (usize, usize)) {
+        let before = MADE.with(Cell::get);
+        let answer = call();
+        let (loads, steps) = MADE.with(Cell::get);
+        (answer, (loads - before.0, steps - before.1))
     }
 }
 

@@ -1,7 +1,7 @@
 use crate::tests::kit::Fail;
 use super::same;
 use crate::core::{CallError, Look, Steps};
-use crate::ticks::{CAPACITY_LIMIT, EntryId, Key};
+use crate::ticks::{CAPACITY_LIMIT, EntryId, Key, LAST_TICK};
 use crate::words::{Caller, Keeper, WordsError};
 
 // The key of an entry of shard 0 that was born at stamp 1.
@@ -53,5 +53,45 @@ fn bad_configs() -> Result<(), Fail> {
     }
     let keeper = Keeper::new(CAPACITY_LIMIT)?;
     same("rows", keeper.rows(), 65536);
+    Ok(())
+}
+
+// By open words an extend and a cancel make one load and one atomic step, a look one load, and what the key or the deadline
+// refuses by itself makes none.
+// promise: words.open-steps
+#[test]
+#[cfg(feature = "std")]
+fn a_call_by_open_words_makes_one_load_and_at_most_one_step() -> Result<(), Fail> {
+    use crate::words::table::counted::counting;
+
+    let mut keeper = Keeper::new(1)?;
+    let words = keeper.open()?;
+    keeper.begin(0, 1, 10);
+    let unknown = Err(CallError::Unknown);
+    let extends: &[(&str, Key, u64, Result<u64, CallError>, (usize, usize))] = &[
+        ("too far", key(0, 1), LAST_TICK + 1, Err(CallError::TooFar { limit: LAST_TICK }), (0, 0)),
+        ("no such slot", key(1, 1), 20, unknown, (0, 0)),
+        ("no stamp", key(0, 0), 20, unknown, (0, 0)),
+        ("a stamp to come", key(0, 2), 20, unknown, (1, 0)),
+        ("later", key(0, 1), 20, Ok(20), (1, 1)),
+        ("sooner", key(0, 1), 15, Ok(20), (1, 1)),
+    ];
+    for (case, key, when, answer, made) in extends {
+        same(case, counting(|| words.extend(key, *when)), (*answer, *made));
+    }
+    same("a look", counting(|| words.look(&key(0, 1))), (Ok(Look::StillLive(20)), (1, 0)));
+    let how = Look::LookCancelled;
+    let ended = Err(CallError::Ended { how });
+    let cancels: &[(&str, Key, Result<u64, CallError>, (usize, usize))] = &[
+        ("no such slot", key(1, 1), unknown, (0, 0)),
+        ("a stamp to come", key(0, 2), unknown, (1, 0)),
+        ("a cancel", key(0, 1), Ok(20), (1, 1)),
+        ("a second one", key(0, 1), ended, (1, 1)),
+    ];
+    for (case, key, answer, made) in cancels {
+        same(case, counting(|| words.cancel(key)), (*answer, *made));
+    }
+    same("an extend of what was cancelled", counting(|| words.extend(&key(0, 1), 30)), (ended, (1, 1)));
+    same("a look at it", counting(|| words.look(&key(0, 1))), (Ok(how), (1, 0)));
     Ok(())
 }
