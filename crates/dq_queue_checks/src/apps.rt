@@ -1,4 +1,4 @@
-//! The expiring cache and idle sessions: the worked rows of the cache, and refused memory.
+//! The expiring cache and idle sessions: the worked rows, and refused memory.
 
 mod calls;
 mod memo_memory;

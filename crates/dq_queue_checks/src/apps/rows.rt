@@ -3,11 +3,13 @@
 use super::same;
 use crate::apps::calls::Call::{Get, Len, Moment, NextDeadline, Purge, Put, Renew, Take};
 use crate::apps::calls::{Letters, each_answers, plays_up_to};
-use dq_apps::TtlCache;
-use dq_core::CoreError;
-use dq_ticks::LAST_STAMP;
+use dq_apps::{IdleSessions, Name, TtlCache};
+use dq_core::{CallError, CoreError, Look, Turn};
+use dq_shards::{Handle, QueueConfig, QueueError};
+use dq_ticks::{Key, LAST_STAMP};
 use std::alloc::Global;
 use std::process::Abort;
+use std::sync::Wait;
 use std::test::Fail;
 
 // The last tick, as the tables of the rows have it.
@@ -129,5 +131,103 @@ fn out_of_range(rt: &impl Abort, cache: &mut Letters) {
 #[test]
 fn put_out_of_range(rt: HostRuntime) -> Result<(), Fail> {
     out_of_range(&rt, &mut TtlCache::new(rt.alloc(), 1, LAST_STAMP)?);
+    Ok(())
+}
+
+// A call of sessions or of a handle of theirs, with its answer. Keys count from 0, in the order of logins.
+#[derive(Clone, Copy)]
+enum Visit {
+    /// Of that name at that tick.
+    Login(&'static str, u64),
+    LoginRefused(&'static str, u64, QueueError),
+    Touch(usize, u64, Result<u64, CallError>),
+    Logout(usize, Result<u64, CallError>),
+    /// At that tick a session comes out, which ended then.
+    Ends(u64, &'static str),
+    /// At that tick none comes out, and the next wake.
+    Waits(u64, u64),
+}
+
+// What a poll of the one shard gave at a tick: whether the name came out at it.
+fn is_end(turn: Result<Turn<Name>, QueueError>, now: u64, name: &str) -> bool {
+    match turn {
+        Ok(Turn::Out(ended)) => ended.deadline == now && ended.value.text() == name,
+        _ => false,
+    }
+}
+
+fn is_wait(turn: Result<Turn<Name>, QueueError>, tick: u64) -> bool {
+    match turn {
+        Ok(Turn::Waiting { next }) => next == tick,
+        _ => false,
+    }
+}
+
+// Keeps the key of a login. It tells whether there was one.
+fn keeps(keys: &mut Vec<Key>, login: Result<Key, QueueError>) -> bool {
+    match login {
+        Ok(key) => keys.push(key).is_ok(),
+        Err(_) => false,
+    }
+}
+
+// Whether a call answers as it has to.
+fn takes<R: Wait>(
+    rt: &R,
+    sessions: &IdleSessions,
+    handle: &mut Handle,
+    keys: &mut Vec<Key>,
+    visit: Visit,
+) -> bool {
+    match visit {
+        Visit::Login(name, now) => keeps(keys, sessions.login(rt, 0, name, now)),
+        Visit::LoginRefused(name, now, error) => {
+            sessions.login(rt, 0, name, now).err() == Some(error)
+        }
+        Visit::Touch(at, now, answer) => match key_at(keys.as_slice(), at) {
+            Some(key) => sessions.touch(handle, &key, now) == answer,
+            None => false,
+        },
+        Visit::Logout(at, answer) => match key_at(keys.as_slice(), at) {
+            Some(key) => sessions.logout(handle, &key) == answer,
+            None => false,
+        },
+        Visit::Ends(now, name) => is_end(sessions.next_idle(rt, 0, now), now, name),
+        Visit::Waits(now, tick) => is_wait(sessions.next_idle(rt, 0, now), tick),
+    }
+}
+
+fn key_at(keys: &[Key], at: usize) -> Option<Key> {
+    if at < keys.len() {
+        return Some(keys[at]);
+    }
+    None
+}
+
+const ENDED: CallError = CallError::Ended {
+    how: Look::LookExpired(150),
+};
+
+const VISITS: &[Visit] = &[
+    Visit::Login("ann", 0),
+    Visit::Touch(0, 50, Ok(150)),
+    Visit::Waits(100, 128),
+    Visit::Ends(150, "ann"),
+    Visit::Touch(0, 151, Err(ENDED)),
+    Visit::LoginRefused("bob", 4398046511100, QueueError::Core(TOO_FAR)),
+    Visit::Login("cy", 150),
+    Visit::Logout(1, Ok(250)),
+];
+
+// promise: sessions.login-queue sessions.into-queue-queue
+#[test]
+fn sessions_walk(rt: HostRuntime) -> Result<(), Fail> {
+    let sessions = IdleSessions::new(rt.alloc(), QueueConfig::of(1, 4), 100)?;
+    let mut handle = sessions.handle(&rt)?;
+    let mut keys = Vec::new(rt.alloc());
+    for (number, visit) in VISITS.iter().enumerate() {
+        let is = takes(&rt, &sessions, &mut handle, &mut keys, *visit);
+        same(&rt, number, is, true);
+    }
     Ok(())
 }

@@ -1,9 +1,9 @@
-//! Idle sessions: the worked row, and the border of the last tick.
+//! Idle sessions at the border of the last tick.
 
 use crate::tests::kit::Fail;
 use super::same;
 use crate::apps::{IdleSessions, Name};
-use crate::core::{CallError, CoreError, Look, Turn};
+use crate::core::{CallError, CoreError, Turn};
 use crate::shards::{Handle, QueueConfig, QueueError};
 use crate::ticks::{EntryId, Key};
 
@@ -71,37 +71,6 @@ pub fn logs_out(
     answer: Answer,
 ) {
     same("logout", sessions.logout(handle, key), answer);
-}
-
-fn walk(
-    sessions: &IdleSessions,
-    handle: &mut Handle,
-) -> Result<(), Fail> {
-    let ann = begins(sessions, "ann", 0)?;
-    touches(sessions, handle, &ann, 50, Ok(150));
-    waits(sessions, 100, Some(128));
-    ends(sessions, 150, "ann", 150);
-    let ended = CallError::Ended {
-        how: Look::LookExpired(150),
-    };
-    touches(sessions, handle, &ann, 151, Err(ended));
-    let too_far = QueueError::Core(CoreError::TooFar { limit: LAST });
-    same(
-        "bob",
-        login(sessions, "bob", 4398046511100),
-        Err(too_far),
-    );
-    let cy = begins(sessions, "cy", 150)?;
-    logs_out(sessions, handle, &cy, Ok(250));
-    Ok(())
-}
-
-// promise: sessions.login-queue sessions.into-queue-queue
-#[test]
-fn sessions_walk() -> Result<(), Fail> {
-    let sessions = sessions(IDLE)?;
-    let mut handle = sessions.handle()?;
-    walk(&sessions, &mut handle)
 }
 
 // A login and a touch at a tick end at the last one, or are refused.
