@@ -1,5 +1,5 @@
 -- The words of a shard's cores stay claimed.
-use Rattle.std.proofs.Common.{true, ◌≡◌, ◌⊎◌, ℕ, ◌<◌, ◌≤◌, ◌+◌, List, [], ◌∷◌, ◌++◌, length, get_or, sym, ap, ◌∙◌, subst, inl, inr, ⊎_elim, length-set, arith, Option, Some, None, Result, Ok, Err, OnOk}
+use Rattle.std.proofs.Common.{true, refl, IfSome, ◌≡◌, ◌⊎◌, ℕ, ◌<◌, ◌≤◌, ◌+◌, List, [], ◌∷◌, ◌++◌, length, get_or, sym, ap, ◌∙◌, subst, inl, inr, ⊎_elim, length-set, arith, Option, Some, None, Result, Ok, Err}
 use Rattle.std.proofs.lemmas.List.{get_or_default}
 use mathlib.Core.Logic.{dite}
 use native.Mathlib.Decide.{ℕ_discrete}
@@ -14,12 +14,11 @@ use Rattle.dq_core.specs.declared.outcomes.Removed.{Removed}
 use Rattle.dq_core.specs.declared.outcomes.Piece.{Piece}
 use Rattle.dq_core.specs.Core.{Core}
 use Rattle.dq_directory.specs.Claims.{Claimed, IsOf}
-use Rattle.dq_growing.specs.declared.cores.TakeError.{TakeError}
 use Rattle.dq_growing.specs.declared.moving.Moved.{Moved}
 use Rattle.dq_growing.specs.declared.moving.Moved.TheVariants.{To, Out}
 use Rattle.dq_growing.specs.declared.moving.NextDeadline.{NextDeadline}
 use Rattle.dq_growing.specs.declared.moving.NextDeadline.TheVariants.{At}
-use Rattle.dq_growing.specs.Cores.{CoreRow, IsCoreAt, OnCore, OnCoreAt, OnCoreOr, InsertsIn, GivesDrained}
+use Rattle.dq_growing.specs.Cores.{AreCores, CoreRow, HasNo, IsCoreAt, OnCore, OnCoreAt, OnCoreOr, InsertsIn, GivesDrained, TakesIn}
 use Rattle.dq_growing.specs.Moving.{GoesTo, Relocates}
 use Rattle.dq_growing.specs.Polls.{PollsRow, DoesPiece}
 use Rattle.dq_growing.specs.Stands.{KeepsWords}
@@ -28,8 +27,8 @@ use Rattle.dq_growing.proofs.Rows.{one_at, at_snoc, removed_at, snoc_long, snoc_
 use Rattle.dq_words.specs.KeeperCalls.{HasBegun}
 use Rattle.dq_words.specs.OpenCalls.{Open}
 use Rattle.dq_words.specs.Seats.{Sat}
-use Rattle.dq_queue.specs.Calls.{StoreTakesIn, StoreGives}
-use Rattle.dq_queue.specs.Claims.{IsClaimAt, AreClaimsOf, HasClaim, AgreeWith, ClaimsWords, AreClaimed, KeepsClaims, IsOfItsWords}
+use Rattle.dq_queue.specs.Calls.{StoreGives}
+use Rattle.dq_queue.specs.Claims.{IsClaimAt, AreClaimsOf, AgreeWith, AreClaimed, BringsNoCore, IsClaimed, IsOfItsWords}
 use Rattle.dq_queue.specs.Words.{PromiseView, IsPromiseOf}
 
 -- the table of a keeper
@@ -53,9 +52,15 @@ claim_more rows claims a all one j d at = ⊎_elim
     (λ (y : (j ≡ length claims) × (a ≡ d)). let P : Claimed Open → Type 0 = λ k. IsOf rows k in subst P y.1 one)
     (claim_at_snoc claims a d j at)
 
-pub ok_then : {X E : Type 0} (P Q : Type 0) (r : Result X E) → OnOk r P → (P → Q) → OnOk r Q
-ok_then P Q (Ok x) p f = f p
-ok_then P Q (Err e) p f = tt {0}
+-- with one claim more the others are there still, and that one
+pub claim_before : (claims : List (Claimed Open)) (a : Claimed Open) (j : ℕ) (k : Claimed Open) → IsClaimAt claims j k → IsClaimAt (claims ++ a ∷ []) j k
+claim_before claims a j k at =
+    let long = snoc_long claims a in
+    let inside = at.0 in
+    (omega (arith, inside, long), snoc_before claims a k j inside ∙ at.1)
+
+pub claim_last : (claims : List (Claimed Open)) (a : Claimed Open) → IsClaimAt (claims ++ a ∷ []) (length claims) a
+claim_last claims a = let long = snoc_long claims a in (omega (arith, long), snoc_last claims a a)
 
 module _ {T : Type 0} where
   -- no core comes or goes
@@ -139,7 +144,7 @@ module _ {T : Type 0} where
   resets_long s t u when r beside (inr y) = same_store s t y.1.1
 
   -- each core after a call has the number and the words of the one that stood there before
-  pub came_from : (s t : CoreRow T Sat) → KeepsWords table_by HasBegun s t → SameLength s t → (i : ℕ) (c : Core T Sat) → IsCoreAt t.cores i c
+  came_from : (s t : CoreRow T Sat) → KeepsWords table_by HasBegun s t → SameLength s t → (i : ℕ) (c : Core T Sat) → IsCoreAt t.cores i c
       → (b : Core T Sat) × IsCoreAt s.cores i b × (c.shard ≡ b.shard) × (c.words.table ≡ b.words.table)
   came_from s t keeps long i c at =
       let inside = at.0 in
@@ -149,16 +154,19 @@ module _ {T : Type 0} where
       let same = one_at t.cores i k.0 c k.1 at in
       (b, was, ap (λ (x : Core T Sat). x.shard) (sym same) ∙ k.2, ap (λ (x : Core T Sat). x.words.table) (sym same) ∙ k.3)
 
-  pub stay_claimed : (s t : StoreState T Sat) → KeepsWords table_by HasBegun s.cores t.cores → SameLength s.cores t.cores → KeepsClaims s t
-  stay_claimed s t keeps long claims claimed i c at =
-      let b = came_from s.cores t.cores keeps long i c at in
-      let k = claimed i b.0 b.1 in
-      (k.0, k.1, k.2, (k.3.0 ∙ sym b.2, k.3.1 ∙ sym b.3))
+  pub brings_none : (s t : StoreState T Sat) → KeepsWords table_by HasBegun s.cores t.cores → SameLength s.cores t.cores → BringsNoCore s t
+  brings_none s t keeps long i c at = let b = came_from s.cores t.cores keeps long i c at in (i, b.0, b.1, b.2, b.3)
 
-  pub still_its_words : (s t : StoreState T Sat) (p : PromiseView) → KeepsWords table_by HasBegun s.cores t.cores → SameLength s.cores t.cores → IsOfItsWords s p → IsOfItsWords t p
-  still_its_words s t p keeps long its i c at =
-      let b = came_from s.cores t.cores keeps long i c at.0 in
-      b.3 ∙ its i b.0 (b.1, sym b.2 ∙ at.1)
+  pub still_claimed : (s t : StoreState T Sat) (claims : List (Claimed Open)) → BringsNoCore s t → AreClaimed s.cores.cores claims → AreClaimed t.cores.cores claims
+  still_claimed s t claims brings claimed i c at =
+      let b = brings i c at in
+      let k = claimed b.0 b.1 b.2 in
+      (k.0, k.1, k.2, (k.3.0 ∙ sym b.3, k.3.1 ∙ sym b.4))
+
+  pub still_its_words : (s t : StoreState T Sat) (p : PromiseView) → BringsNoCore s t → IsOfItsWords s p → IsOfItsWords t p
+  still_its_words s t p brings its i c at =
+      let b = brings i c at.0 in
+      b.4 ∙ its b.0 b.1 (b.2, sym b.3 ∙ at.1)
 
   -- a promise is of the words of the core of its number
   pub its_words : (rows : List Named) (s : StoreState T Sat) (claims : List (Claimed Open)) (p : PromiseView) → AreClaimed s.cores.cores claims → AgreeWith claims p.claim → IsPromiseOf rows p → IsOfItsWords s p
@@ -167,35 +175,49 @@ module _ {T : Type 0} where
       sym k.3.1 ∙ (ap (λ (o : Open). o.table) (agree k.0 k.1 k.2 (k.3.0 ∙ at.1)) ∙ sym of.1)
 
   -- a core that drained is gone
-  gone : (s t : StoreState T Sat) (c : Core T Sat) → GivesDrained s.cores c t.cores → KeepsClaims s t
-  gone s t c gives claims claimed i d at =
+  gone_at : (s t : StoreState T Sat) (c d : Core T Sat) (gives : GivesDrained s.cores c t.cores) (i : ℕ) → IsCoreAt t.cores.cores i d
+      → ((i < gives.place) × IsCoreAt s.cores.cores i d) ⊎ ((gives.place ≤ i) × IsCoreAt s.cores.cores (i + 1) d)
+  gone_at s t c d gives i at =
       let P : CoreRow T Sat → Type 0 = λ r. IsCoreAt r.cores i d in
-      ⊎_elim
-      (λ (y : (i < gives.place) × IsCoreAt s.cores.cores i d). claimed i d y.1)
-      (λ (y : (gives.place ≤ i) × IsCoreAt s.cores.cores (i + 1) d). claimed (i + 1) d y.1)
-      (removed_at s.cores.cores gives.place i d gives.drained.0.0 (subst P gives.rest at))
+      removed_at s.cores.cores gives.place i d gives.drained.0.0 (subst P gives.rest at)
 
-  same_cores : (s t : StoreState T Sat) → t.cores ≡ s.cores → KeepsClaims s t
-  same_cores s t e claims claimed = let P : CoreRow T Sat → Type 0 = λ r. AreClaimed r.cores claims in subst P (sym e) claimed
+  gone : (s t : StoreState T Sat) (c : Core T Sat) → GivesDrained s.cores c t.cores → BringsNoCore s t
+  gone s t c gives i d at = ⊎_elim
+      (λ (y : (i < gives.place) × IsCoreAt s.cores.cores i d). (i, d, y.1, refl, refl))
+      (λ (y : (gives.place ≤ i) × IsCoreAt s.cores.cores (i + 1) d). (i + 1, d, y.1, refl, refl))
+      (gone_at s t c d gives i at)
 
-  pub gives_claimed : (s t : StoreState T Sat) (r : Option (Core T Sat)) → StoreGives r s t → KeepsClaims s t
-  gives_claimed s t (Some c) y = gone s t c y.0
-  gives_claimed s t None y = same_cores s t y.1.1
+  -- no other core had its number
+  pub none_left : (s t : StoreState T Sat) (c : Core T Sat) → AreCores s.cores → GivesDrained s.cores c t.cores → HasNo t.cores.cores c.shard
+  none_left s t c law gives i d at same = ⊎_elim
+      (λ (y : (i < gives.place) × IsCoreAt s.cores.cores i d).
+      let less = y.0 in
+      let e : i ≡ gives.place = law.apart i gives.place d c y.1 gives.drained.0 same in absurd (omega (arith, less, e)))
+      (λ (y : (gives.place ≤ i) × IsCoreAt s.cores.cores (i + 1) d).
+      let more = y.0 in
+      let e : i + 1 ≡ gives.place = law.apart (i + 1) gives.place d c y.1 gives.drained.0 same in absurd (omega (arith, more, e)))
+      (gone_at s t c d gives i at)
+
+  pub none_left_of : (s t : StoreState T Sat) (r : Option (Core T Sat)) → AreCores s.cores → StoreGives r s t → IfSome r (λ c. HasNo t.cores.cores c.shard)
+  none_left_of s t (Some c) law y = none_left s t c law y.0
+  none_left_of s t None law y = tt {0}
+
+  pub same_cores : (s t : StoreState T Sat) → t.cores ≡ s.cores → BringsNoCore s t
+  same_cores s t e i c at = let P : CoreRow T Sat → Type 0 = λ r. IsCoreAt r.cores i c in (i, c, subst P e at, refl, refl)
+
+  pub gives_none : (s t : StoreState T Sat) (r : Option (Core T Sat)) → StoreGives r s t → BringsNoCore s t
+  gives_none s t (Some c) y = gone s t c y.0
+  gives_none s t None y = same_cores s t y.1.1
 
   -- a core comes in, whose words are claimed
-  pub takes_claimed : (s t : StoreState T Sat) (c : Core T Sat) (r : Result (Unit {0}) (TakeError × Core T Sat)) (claims : List (Claimed Open)) (k : Claimed Open) → StoreTakesIn c r s t
-      → AreClaimed s.cores.cores claims → OnOk r (HasClaim claims k.number) → AgreeWith claims k → ClaimsWords k c → AreClaimed t.cores.cores claims
-  takes_claimed s t c (Ok done) claims k takes claimed has agree own = λ i d at.
+  pub comes_claimed : (s t : StoreState T Sat) (c : Core T Sat) (claims : List (Claimed Open)) → TakesIn s.cores c t.cores → AreClaimed s.cores.cores claims → IsClaimed claims c
+      → AreClaimed t.cores.cores claims
+  comes_claimed s t c claims takes claimed own i d at =
       let P : List (Core T Sat) → Type 0 = λ l. IsCoreAt l i d in
-      let here = subst P takes.0.cores at in
       ⊎_elim
       (λ (y : IsCoreAt s.cores.cores i d). claimed i d y)
-      (λ (y : (i ≡ length s.cores.cores) × (c ≡ d)).
-      let thing = agree has.0 has.1 has.2 has.3 in
-      let Q : Core T Sat → Type 0 = λ x. ClaimsWords has.1 x in
-      (has.0, has.1, has.2, subst Q y.1 (has.3 ∙ own.0, ap (λ (o : Open). o.table) thing ∙ own.1)))
-      (at_snoc s.cores.cores c d i here)
-  takes_claimed s t c (Err e) claims k takes claimed has agree own = same_cores s t takes.1.1 claims claimed
+      (λ (y : (i ≡ length s.cores.cores) × (c ≡ d)). let Q : Core T Sat → Type 0 = λ x. IsClaimed claims x in subst Q y.1 own)
+      (at_snoc s.cores.cores c d i (subst P takes.cores at))
 
   pub more_claimed : (cores : List (Core T Sat)) (was is : List (Claimed Open)) → ((j : ℕ) (k : Claimed Open) → IsClaimAt was j k → IsClaimAt is j k) → AreClaimed cores was → AreClaimed cores is
   more_claimed cores was is more claimed i c at = let k = claimed i c at in (k.0, k.1, more k.0 k.1 k.2, k.3)

@@ -6,12 +6,16 @@ use Rattle.dq_journal.specs.declared.views.Entry.{Entry}
 use Rattle.dq_journal.specs.declared.views.View.{View}
 use Rattle.dq_journal.specs.History.{entry, entries_by}
 use Rattle.dq_journal.specs.Once.{EntersOnce, IsTold, IsUnderLock}
+use Rattle.dq_core.specs.Core.{Core}
 use Rattle.dq_growing.specs.Store.{StoreState, IsStore}
 use Rattle.dq_words.specs.OpenCalls.{Open}
 use Rattle.dq_words.specs.Seats.{Sat}
 use Rattle.dq_queue.specs.Calls.{IsStoreCall}
-use Rattle.dq_queue.specs.Claims.{AreClaimed, AreClaimsOf}
+use Rattle.dq_queue.specs.Claims.{AreClaimed, AreClaimsOf, BringsNoCore}
+use Rattle.dq_queue.specs.Loans.{LoansAreKept}
 use Rattle.dq_queue.specs.Shards.{Held, CallerView, caller_of, IsAsLeft, IsStoreHistory, MadeOnce, HasCallMore}
+use Rattle.dq_queue.proofs.Claims.{still_claimed}
+use Rattle.dq_queue.proofs.Lending.{ordinary}
 
 -- what stands under the name of one number
 pub one_name : {X : Type 0} (named : ℕ → X) (a b : X) (m n : ℕ) → a ≡ named m → b ≡ named n → m ≡ n → a ≡ b
@@ -26,16 +30,43 @@ module _ {T : Type 0} where
       let P : List (Entry (Held T)) → Type 0 = λ l. IsAsLeft l b × IsStoreHistory l in
       subst P (sym (same ∙ enters.2)) (refl, (a, b, refl, follows, number, call, history))
 
-  -- after a call that was entered the history is still that which the shard's number names, and the words are claimed
-  pub stays : {X : Type 0} (rooms : ℕ) (named : ℕ → X) (rows : List Named) (old now : X) (h v w u : View (Held T)) (a b : Held T) (was is : List (Claimed Open))
-      → (a.number < rooms) × (old ≡ named a.number) × IsUnderLock h × IsAsLeft h.log a × IsStoreHistory h.log × AreClaimsOf rows was × AreClaimed a.store.cores.cores was
+  -- what a shard keeps: of its number, its history, its claims and its loans
+  abbrev Keeps : {X : Type 0} → ℕ → (ℕ → X) → (ℕ → X) → List Named → Held T → X → View (Held T) → List (Claimed Open) → X → View (Core T Sat) → Type 0
+  Keeps rooms named lent rows a table h claims register g =
+      (a.number < rooms) × (table ≡ named a.number) × IsUnderLock h × IsAsLeft h.log a × IsStoreHistory h.log × AreClaimsOf rows claims × AreClaimed a.store.cores.cores claims
+      × (register ≡ lent a.number) × IsUnderLock g × LoansAreKept h.log a.store g.log claims
+
+  -- after a call that was entered the history is still that which the shard's number names, the words are claimed, and so it is of the loans
+  pub goes_on_so : {X : Type 0} (rooms : ℕ) (named lent : ℕ → X) (rows : List Named) (old now r q : X) (h v w u : View (Held T)) (f g : View (Core T Sat)) (a b : Held T) (was is : List (Claimed Open))
+      → Keeps rooms named lent rows a old h was r f
       → b.number ≡ a.number → IsStoreCall a.store b.store → EntersOnce h v (Some b) w → u.log ≡ w.log → now ≡ old → IsUnderLock u
       → AreClaimsOf rows is × AreClaimed b.store.cores.cores is
-      → (b.number < rooms) × (now ≡ named b.number) × IsUnderLock u × IsAsLeft u.log b × IsStoreHistory u.log × AreClaimsOf rows is × AreClaimed b.store.cores.cores is
-  stays rooms named rows old now h v w u a b was is s number call enters log of under claimed =
+      → q ≡ r → IsUnderLock g → LoansAreKept (entry v.number (Some b) ∷ h.log) b.store g.log is
+      → Keeps rooms named lent rows b now u is q g
+  goes_on_so rooms named lent rows old now r q h v w u f g a b was is s number call enters log of under claimed by under_too loans =
       let on = goes_on h v w u.log a b enters log s.3 number call s.4 in
       let P : ℕ → Type 0 = λ n. n < rooms in
-      (subst P (sym number) s.0, of ∙ (s.1 ∙ ap named (sym number)), under, on.0, on.1, claimed.0, claimed.1)
+      let Q : List (Entry (Held T)) → Type 0 = λ l. LoansAreKept l b.store g.log is in (
+        subst P (sym number) s.0,
+        of ∙ (s.1 ∙ ap named (sym number)),
+        under,
+        on.0,
+        on.1,
+        claimed.0,
+        claimed.1,
+        by ∙ (s.7 ∙ ap lent (sym number)),
+        under_too,
+        subst Q (sym (log ∙ enters.2)) loans,
+      )
+
+  -- so after a call that brings no core
+  pub stays : {X : Type 0} (rooms : ℕ) (named lent : ℕ → X) (rows : List Named) (old now r : X) (h v w u : View (Held T)) (f : View (Core T Sat)) (a b : Held T) (was : List (Claimed Open))
+      → Keeps rooms named lent rows a old h was r f
+      → b.number ≡ a.number → IsStoreCall a.store b.store → EntersOnce h v (Some b) w → u.log ≡ w.log → now ≡ old → IsUnderLock u → BringsNoCore a.store b.store
+      → Keeps rooms named lent rows b now u was r f
+  stays rooms named lent rows old now r h v w u f a b was s number call enters log of under brings =
+      goes_on_so rooms named lent rows old now r r h v w u f f a b was was s number call enters log of under (s.5, still_claimed a.store b.store was brings s.6)
+      refl s.8 (ordinary h.log (entry v.number (Some b)) a b f.log was s.9 s.4 refl s.3 call brings s.6)
 
   -- the caller's call was made once
   pub once : (gives : StoreState T Sat → StoreState T Sat → Type 0) (h x u : View (Held T)) (m : ℕ) (v : CallerView T) (a b : Held T)

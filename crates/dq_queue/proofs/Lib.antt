@@ -1,4 +1,5 @@
 pub mod Claims
 pub mod Histories
+pub mod Lending
 pub mod Outs
 pub mod Runs

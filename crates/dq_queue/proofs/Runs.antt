@@ -1,5 +1,5 @@
 -- What a shard's calls leave of the ids that entries have had, and what follows over its history.
-use Rattle.std.proofs.Common.{◌≡◌, ◌≢◌, ◌⊎◌, ℕ, List, [], ◌∷◌, ◌++◌, Option, Some, Result, Ok, Err, IfOk, refl, sym, ap, ◌∙◌, subst, inl, inr, ⊎_elim, append_assoc}
+use Rattle.std.proofs.Common.{◌≡◌, ◌≢◌, ◌⊎◌, ℕ, List, [], ◌∷◌, ◌++◌, arith, set, length-set, Option, Some, Result, Ok, Err, IfOk, refl, sym, ap, ◌∙◌, subst, inl, inr, ⊎_elim, append_assoc}
 use Rattle.dq_ticks.specs.declared.keys.Key.{Key}
 use Rattle.dq_ticks.specs.declared.keys.EntryId.{EntryId}
 use Rattle.dq_core.specs.declared.errors.CoreError.{CoreError}
@@ -9,9 +9,10 @@ use Rattle.dq_journal.specs.declared.views.Entry.{Entry}
 use Rattle.dq_growing.specs.declared.cores.TakeError.{TakeError}
 use Rattle.dq_growing.specs.declared.moving.Moved.{Moved}
 use Rattle.dq_growing.specs.declared.moving.Moved.TheVariants.{To, Out}
-use Rattle.dq_growing.specs.Cores.{CoreRow}
+use Rattle.std.proofs.lemmas.List.{get_or-set_same}
+use Rattle.dq_growing.specs.Cores.{CoreRow, HasAt, InsertsIn, IsCoreAt, TakesIn, closed_error}
 use Rattle.dq_growing.specs.Moving.{IfCameOut}
-use Rattle.dq_growing.specs.Notes.{Book}
+use Rattle.dq_growing.specs.Notes.{ArePastBy, Book, numbers_of}
 use Rattle.dq_growing.specs.Runs.{IsUsedId, KeepsId, GivesId, KeepsItsDeadline, NotDueBefore, HoldsDeadline}
 use Rattle.dq_growing.specs.Stands.{OneLeaves}
 use Rattle.dq_growing.specs.Store.{StoreState, StandsFor, HasFor, HasOneValue, NoneStandsFor, ComesFor, GoesOut}
@@ -22,7 +23,7 @@ use Rattle.dq_growing.proofs.Standing.{some_is}
 use Rattle.dq_growing.proofs.Stored.{stored}
 use Rattle.dq_words.specs.Seats.{Sat}
 use Rattle.dq_queue.specs.Calls.{IsStoreCall, StoreTakesIn, StoreResets, StoreRelocates, HasOnly, ComesNew}
-use Rattle.dq_queue.specs.Runs.{ByCall, ByEach, BringsNone, StandsOn, LeavesWith, StaysEnded, LeftOnce, SetsDeadline, SetsNone, LeavesNoSooner, StaysDue, EntriesLeaveOnceIn, EndedStaysEndedIn, DeadlinesHoldIn}
+use Rattle.dq_queue.specs.Runs.{ByCall, ByEach, WasGivenIn, KeepsGivenIds, StandsOn, LeavesWith, StaysEnded, LeftOnce, SetsDeadline, SetsNone, LeavesNoSooner, StaysDue, EntriesLeaveOnceIn, EndedStaysEndedIn, DeadlinesHoldIn}
 use Rattle.dq_queue.specs.Shards.{Held, IsAsLeft, IsStoreHistory}
 
 -- a move asks for no deadline, or for one
@@ -31,7 +32,16 @@ next_keeps Same = inl (tt {0})
 next_keeps (At tick) = inr (λ keeps. keeps)
 next_keeps (SameIfAfter tick) = inl (tt {0})
 
+not_ok : {X E : Type 0} (x : X) (e : E) → Ok x ≡ Err e → ⊥
+not_ok x e same = grind arith
+
 module _ {T : Type 0} where
+  set_here : (cores : List (Core T Sat)) (i : ℕ) (b c : Core T Sat) → IsCoreAt cores i b → IsCoreAt (set cores i c) i c
+  set_here cores i b c at =
+      let long = length-set cores i c in
+      let inside = at.0 in
+      (omega (arith, long, inside), get_or-set_same cores i c c inside)
+
   -- what a removal or a move gave out, and what an insert put in
 
   pub went_out : (s t : StoreState T Sat) (u : EntryId) (r : Result (Removed T) CoreError) → IfOk r (λ x. OneLeaves (StandsFor s) (StandsFor t) u x.value)
@@ -45,12 +55,28 @@ module _ {T : Type 0} where
   moved_out s t u (Ok (Out x)) left = (left.was, left.gone)
   moved_out s t u (Err e) left = tt {0}
 
-  pub came_new : (s t : StoreState T Sat) (v : T) (when : ℕ) (r : Result Key (CoreError × T)) → IfOk r (λ k. ComesFor s k v when t) → IfOk r (λ k. GivesId s k.entry t)
-      → ((id : EntryId) → HasOneValue t id) → IfOk r (λ k. ComesNew s k.entry v t)
-  came_new s t v when (Ok k) comes gives one = let c = comes.2 in (gives, ((record { born = k.entry.born; value = v; due = Some comes.0 }, c.here, refl), one k.entry))
-  came_new s t v when (Err e) comes gives one = tt {0}
+  -- the core of a key that an insert gave is there
+  its_core : (s t : StoreState T Sat) (v : T) (when : ℕ) (k : Key) (beside : Option T) → InsertsIn s.cores v when (Ok k, beside) t.cores
+      → (i : ℕ) × (c : Core T Sat) × HasAt t.cores.cores k.entry.shard i c
+  its_core s t v when k beside (inl on) =
+      let did = on.did.0 in
+      let P : CoreRow T Sat → Type 0 = λ r. IsCoreAt r.cores s.cores.opened on.after in
+      let at : IsCoreAt (set s.cores.cores s.cores.opened on.after) s.cores.opened on.after = set_here s.cores.cores s.cores.opened on.before on.after on.at in
+      (s.cores.opened, on.after, (subst P (sym on.rest) at, did.same_shard ∙ sym did.shard))
+  its_core s t v when k beside (inr y) = absurd (not_ok k (closed_error when, v) (ap (λ (r : Result Key (CoreError × T) × Option T). r.0) y.1))
+
+  pub came_new : (s t : StoreState T Sat) (v : T) (when : ℕ) (r : Result Key (CoreError × T)) (beside : Option T) → InsertsIn s.cores v when (r, beside) t.cores → IfOk r (λ k. ComesFor s k v when t)
+      → IfOk r (λ k. GivesId s k.entry t) → ((id : EntryId) → HasOneValue t id) → IfOk r (λ k. ComesNew s k.entry v t)
+  came_new s t v when (Ok k) beside inserts comes gives one =
+      let c = comes.2 in
+      (gives, ((record { born = k.entry.born; value = v; due = Some comes.0 }, c.here, refl), one k.entry), (gives.1, its_core s t v when k beside inserts))
+  came_new s t v when (Err e) beside inserts comes gives one = tt {0}
 
   -- a call kept an id
+
+  -- no core came in that gives an id anew
+  abbrev pub BringsNone : EntryId → StoreState T Sat → StoreState T Sat → Type 0
+  BringsNone u s t = (c : Core T Sat) → TakesIn s.cores c t.cores → ArePastBy (numbers_of u) c
 
   same_id : (s : StoreState T Sat) (u : EntryId) → IsUsedId s u → KeepsId s (stored s.cores s.notes) u
   same_id s u used = record { given = used; stays = λ v z. inl z; stood = λ v z. z }
@@ -140,7 +166,7 @@ module _ {T : Type 0} where
   one_left [] x xs a b p q = some_is a b (sym p ∙ q)
   one_left (e ∷ es) x xs a b p q = some_is a b (sym p ∙ q)
 
-  by_call : (Did : StoreState T Sat → StoreState T Sat → Type 0) (e : Entry (Held T)) (es : List (Entry (Held T))) (x : Entry (Held T)) (xs : List (Entry (Held T))) (s t : Held T)
+  pub by_call : (Did : StoreState T Sat → StoreState T Sat → Type 0) (e : Entry (Held T)) (es : List (Entry (Held T))) (x : Entry (Held T)) (xs : List (Entry (Held T))) (s t : Held T)
       → IsAsLeft (es ++ x ∷ xs) s → e.left ≡ Some t → Did s.store t.store → ByCall Did e (es ++ x ∷ xs)
   by_call Did e es x xs s t was left did = λ a b p q.
       let P : Held T × Held T → Type 0 = λ y. Did y.0.store y.1.store in
@@ -148,47 +174,63 @@ module _ {T : Type 0} where
       let second = some_is t b (sym left ∙ q) in
       subst P (λ n. (first n, second n)) did
 
-  -- since a call that left a shard
-  module _ (x : Entry (Held T)) (xs : List (Entry (Held T))) (h : Held T) (left : x.left ≡ Some h) (u : EntryId) (used : IsUsedId h.store u) where
-    abbrev Ended : List (Entry (Held T)) → Type 0
-    Ended es = (k : Held T) × IsAsLeft (es ++ x ∷ xs) k × IsUsedId k.store u × NoneStandsFor k.store u × ByEach (StaysEnded u) es (x ∷ xs)
+  -- an id that had been given is a used one in the store that the history left
+  pub used_in : (log : List (Entry (Held T))) → IsStoreHistory log → KeepsGivenIds log → (u : EntryId) → WasGivenIn log u → (s : Held T) → IsAsLeft log s → IsUsedId s.store u
+  used_in [] history kept u given s at = absurd given
+  used_in (e ∷ es) history kept u (inl now) s at = let P : Held T → Type 0 = λ k. IsUsedId k.store u in subst P (some_is now.0 s (sym now.1 ∙ at)) now.2.0
+  used_in (e ∷ es) history kept u (inr older) s at =
+      let k = kept.0 u older history.0 s history.3 at in
+      k.given
 
-    pub ended_since : NoneStandsFor h.store u → (es : List (Entry (Held T))) → IsStoreHistory (es ++ x ∷ xs) → ByEach (BringsNone u) es (x ∷ xs) → Ended es
-    ended_since none [] history brings = (h, left, used, none, tt {0})
-    ended_since none (e ∷ es) history brings =
-        let r = ended_since none es history.6 brings.1 in
+  -- since a call that left a shard
+  module _ (x : Entry (Held T)) (xs : List (Entry (Held T))) (h : Held T) (left : x.left ≡ Some h) (u : EntryId) (given : WasGivenIn (x ∷ xs) u) where
+    given_then : (es : List (Entry (Held T))) → WasGivenIn (es ++ x ∷ xs) u
+    given_then [] = given
+    given_then (e ∷ es) = inr (given_then es)
+
+    used_then : (es : List (Entry (Held T))) → IsStoreHistory (es ++ x ∷ xs) → KeepsGivenIds (es ++ x ∷ xs) → (s : Held T) → IsAsLeft (es ++ x ∷ xs) s → IsUsedId s.store u
+    used_then es history kept s at = used_in (es ++ x ∷ xs) history kept u (given_then es) s at
+
+    abbrev Ended : List (Entry (Held T)) → Type 0
+    Ended es = (k : Held T) × IsAsLeft (es ++ x ∷ xs) k × NoneStandsFor k.store u × ByEach (StaysEnded u) es (x ∷ xs)
+
+    pub ended_since : NoneStandsFor h.store u → (es : List (Entry (Held T))) → IsStoreHistory (es ++ x ∷ xs) → KeepsGivenIds (es ++ x ∷ xs) → Ended es
+    ended_since none [] history kept = (h, left, none, tt {0})
+    ended_since none (e ∷ es) history kept =
+        let r = ended_since none es history.6 kept.1 in
         let s = history.0 in
         let t = history.1 in
         let same = one_left es x xs r.0 s r.1 history.3 in
-        let P : Held T → Type 0 = λ k. IsUsedId k.store u × NoneStandsFor k.store u in
-        let at = subst P same (r.2, r.3) in
-        let kept = keeps_id u s.store t.store history.5 (brings.0 s t history.3 history.2) at.0 in
-        let did = stays_ended u s.store t.store kept at.0 at.1 in
-        (t, history.2, kept.given, did.0, (by_call (StaysEnded u) e es x xs s t history.3 history.2 did, r.4))
+        let P : Held T → Type 0 = λ k. NoneStandsFor k.store u in
+        let at = subst P same r.2 in
+        let used = used_then es history.6 kept.1 s history.3 in
+        let k = kept.0 u (given_then es) s t history.3 history.2 in
+        let did = stays_ended u s.store t.store k used at in
+        (t, history.2, did.0, (by_call (StaysEnded u) e es x xs s t history.3 history.2 did, r.3))
 
     abbrev Due : ℕ → List (Entry (Held T)) → Type 0
-    Due tick es = (k : Held T) × IsAsLeft (es ++ x ∷ xs) k × IsUsedId k.store u × NotDueBefore k.store u tick × ByEach (StaysDue u tick) es (x ∷ xs)
+    Due tick es = (k : Held T) × IsAsLeft (es ++ x ∷ xs) k × NotDueBefore k.store u tick × ByEach (StaysDue u tick) es (x ∷ xs)
 
-    pub due_since : (tick : ℕ) → NotDueBefore h.store u tick → (es : List (Entry (Held T))) → IsStoreHistory (es ++ x ∷ xs) → ByEach (BringsNone u) es (x ∷ xs)
+    pub due_since : (tick : ℕ) → NotDueBefore h.store u tick → (es : List (Entry (Held T))) → IsStoreHistory (es ++ x ∷ xs) → KeepsGivenIds (es ++ x ∷ xs)
         → ByEach (SetsNone u) es (x ∷ xs) → Due tick es
-    due_since tick none [] history brings sets = (h, left, used, none, tt {0})
-    due_since tick none (e ∷ es) history brings sets =
-        let r = due_since tick none es history.6 brings.1 sets.1 in
+    due_since tick none [] history kept sets = (h, left, none, tt {0})
+    due_since tick none (e ∷ es) history kept sets =
+        let r = due_since tick none es history.6 kept.1 sets.1 in
         let s = history.0 in
         let t = history.1 in
         let same = one_left es x xs r.0 s r.1 history.3 in
-        let P : Held T → Type 0 = λ k. IsUsedId k.store u × NotDueBefore k.store u tick in
-        let at = subst P same (r.2, r.3) in
-        let kept = keeps_id u s.store t.store history.5 (brings.0 s t history.3 history.2) at.0 in
-        let held = holds_due u s.store t.store history.5 (sets.0 s t history.3 history.2) at.0 tick at.1 in
-        let did : StaysDue u tick s.store t.store = (held, leaves_due u tick s.store t.store at.1) in
-        (t, history.2, kept.given, held, (by_call (StaysDue u tick) e es x xs s t history.3 history.2 did, r.4))
+        let P : Held T → Type 0 = λ k. NotDueBefore k.store u tick in
+        let at = subst P same r.2 in
+        let used = used_then es history.6 kept.1 s history.3 in
+        let held = holds_due u s.store t.store history.5 (sets.0 s t history.3 history.2) used tick at in
+        let did : StaysDue u tick s.store t.store = (held, leaves_due u tick s.store t.store at) in
+        (t, history.2, held, (by_call (StaysDue u tick) e es x xs s t history.3 history.2 did, r.3))
 
     abbrev Either : T → List (Entry (Held T)) → StoreState T Sat → Type 0
     Either v es s = (HasOnly s u v × ByEach (StandsOn u v) es (x ∷ xs)) ⊎ (NoneStandsFor s u × LeftOnce u v es (x ∷ xs))
 
     abbrev Goes : T → List (Entry (Held T)) → Type 0
-    Goes v es = (k : Held T) × IsAsLeft (es ++ x ∷ xs) k × IsUsedId k.store u × Either v es k.store
+    Goes v es = (k : Held T) × IsAsLeft (es ++ x ∷ xs) k × Either v es k.store
 
     -- the newest call of one more
     one_more : (v : T) (e : Entry (Held T)) (es : List (Entry (Held T))) (s t : Held T) → IsAsLeft (es ++ x ∷ xs) s → e.left ≡ Some t → IsUsedId s.store u → KeepsId s.store t.store u
@@ -217,34 +259,38 @@ module _ {T : Type 0} where
           },
         )
 
-    pub goes_since : (v : T) → HasOnly h.store u v → (es : List (Entry (Held T))) → IsStoreHistory (es ++ x ∷ xs) → ByEach (BringsNone u) es (x ∷ xs) → Goes v es
-    goes_since v only [] history brings = (h, left, used, inl (only, tt {0}))
-    goes_since v only (e ∷ es) history brings =
-        let r = goes_since v only es history.6 brings.1 in
+    pub goes_since : (v : T) → HasOnly h.store u v → (es : List (Entry (Held T))) → IsStoreHistory (es ++ x ∷ xs) → KeepsGivenIds (es ++ x ∷ xs) → Goes v es
+    goes_since v only [] history kept = (h, left, inl (only, tt {0}))
+    goes_since v only (e ∷ es) history kept =
+        let r = goes_since v only es history.6 kept.1 in
         let s = history.0 in
         let t = history.1 in
         let same = one_left es x xs r.0 s r.1 history.3 in
-        let P : Held T → Type 0 = λ k. IsUsedId k.store u × Either v es k.store in
-        let at = subst P same (r.2, r.3) in
-        let kept = keeps_id u s.store t.store history.5 (brings.0 s t history.3 history.2) at.0 in
-        (t, history.2, kept.given, one_more v e es s t history.3 history.2 at.0 kept at.1)
+        let P : Held T → Type 0 = λ k. Either v es k.store in
+        let at = subst P same r.2 in
+        let used = used_then es history.6 kept.1 s history.3 in
+        let k = kept.0 u (given_then es) s t history.3 history.2 in
+        (t, history.2, one_more v e es s t history.3 history.2 used k at)
 
 -- over a history
 
-pub leave_once : {T : Type 0} (log : List (Entry (Held T))) → IsStoreHistory log → EntriesLeaveOnceIn log
-leave_once {T} log history u v h since is only =
-    let P : List (Entry (Held T)) → Type 0 = λ k. IsStoreHistory k in
-    let r = goes_since is.entry is.before h is.left u is.used v only since (subst P is.all history) is.brought in
-    ⊎_elim (λ y. inl y.1) (λ y. inr y.1) r.3
+pub leave_once : {T : Type 0} (log : List (Entry (Held T))) → IsStoreHistory log → KeepsGivenIds log → EntriesLeaveOnceIn log
+leave_once {T} log history kept u v h since is only =
+    let P : List (Entry (Held T)) → Type 0 = λ k. IsStoreHistory k × KeepsGivenIds k in
+    let now = subst P is.all (history, kept) in
+    let r = goes_since is.entry is.before h is.left u is.given v only since now.0 now.1 in
+    ⊎_elim (λ y. inl y.1) (λ y. inr y.1) r.2
 
-pub ended_stays : {T : Type 0} (log : List (Entry (Held T))) → IsStoreHistory log → EndedStaysEndedIn log
-ended_stays {T} log history u h since is none =
-    let P : List (Entry (Held T)) → Type 0 = λ k. IsStoreHistory k in
-    let r = ended_since is.entry is.before h is.left u is.used none since (subst P is.all history) is.brought in
-    r.4
+pub ended_stays : {T : Type 0} (log : List (Entry (Held T))) → IsStoreHistory log → KeepsGivenIds log → EndedStaysEndedIn log
+ended_stays {T} log history kept u h since is none =
+    let P : List (Entry (Held T)) → Type 0 = λ k. IsStoreHistory k × KeepsGivenIds k in
+    let now = subst P is.all (history, kept) in
+    let r = ended_since is.entry is.before h is.left u is.given none since now.0 now.1 in
+    r.3
 
-pub deadlines_hold : {T : Type 0} (log : List (Entry (Held T))) → IsStoreHistory log → DeadlinesHoldIn log
-deadlines_hold {T} log history u tick h since is none sets =
-    let P : List (Entry (Held T)) → Type 0 = λ k. IsStoreHistory k in
-    let r = due_since is.entry is.before h is.left u is.used tick none since (subst P is.all history) is.brought sets in
-    r.4
+pub deadlines_hold : {T : Type 0} (log : List (Entry (Held T))) → IsStoreHistory log → KeepsGivenIds log → DeadlinesHoldIn log
+deadlines_hold {T} log history kept u tick h since is none sets =
+    let P : List (Entry (Held T)) → Type 0 = λ k. IsStoreHistory k × KeepsGivenIds k in
+    let now = subst P is.all (history, kept) in
+    let r = due_since is.entry is.before h is.left u is.given tick none since now.0 now.1 sets in
+    r.3

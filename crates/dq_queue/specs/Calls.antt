@@ -9,11 +9,11 @@ use Rattle.dq_core.specs.declared.outcomes.Piece.{Piece}
 use Rattle.dq_core.specs.declared.outcomes.Expired.{Expired}
 use Rattle.dq_core.specs.Core.{Core}
 use Rattle.dq_growing.specs.declared.cores.TakeError.{TakeError}
-use Rattle.dq_growing.specs.Cores.{InsertsIn, TakesIn, GivesDrained, NoneDrained}
+use Rattle.dq_growing.specs.Cores.{HasAt, InsertsIn, TakesIn, GivesDrained, NoneDrained}
 use Rattle.dq_growing.specs.Notes.{Book, meant_place}
 use Rattle.dq_growing.specs.Moving.{IfTo, IfCameOut, UnlessTo}
 use Rattle.dq_growing.specs.Polls.{DoesPiece, IfPieceOut}
-use Rattle.dq_growing.specs.Runs.{KeepsIds, KeepsIdsBeside, GivesId, HoldsDeadlines, HoldsOtherDeadlines, KeepsItsDeadline, LeavesInForce, NotDueBefore}
+use Rattle.dq_growing.specs.Runs.{IsUsedId, KeepsIds, KeepsIdsBeside, GivesId, HoldsDeadlines, HoldsOtherDeadlines, KeepsItsDeadline, LeavesInForce, NotDueBefore}
 use Rattle.dq_core.specs.declared.errors.ReapError.{ReapError}
 use Rattle.dq_growing.specs.declared.moving.Moved.{Moved}
 use Rattle.dq_growing.specs.declared.moving.NextDeadline.{NextDeadline}
@@ -35,9 +35,14 @@ module _ {T : Type 0} where
   abbrev pub HasOnly : StoreState T Sat → EntryId → T → Type 0
   HasOnly s u v = HasFor s u v × HasOneValue s u
 
+  -- an id is a used one, and the store has the core of its number
+  abbrev pub HasGiven : StoreState T Sat → EntryId → Type 0
+  HasGiven s u =
+      IsUsedId s u × ((i : ℕ) × (c : Core T Sat) × HasAt s.cores.cores u.shard i c)
+
   -- an entry stands with that value under an id that none had had
   abbrev pub ComesNew : StoreState T Sat → EntryId → T → StoreState T Sat → Type 0
-  ComesNew s u v t = GivesId s u t × HasOnly t u v
+  ComesNew s u v t = GivesId s u t × HasOnly t u v × HasGiven t u
 
   -- a value comes in at a deadline, under an id that no entry has had, and the notes stay
   abbrev pub StoreInserts : T → ℕ → Result Key (CoreError × T) × Option T → StoreState T Sat →

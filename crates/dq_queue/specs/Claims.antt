@@ -32,16 +32,20 @@ module _ {T : Type 0} where
   abbrev pub ClaimsWords : Claimed Open → Core T Sat → Type 0
   ClaimsWords k c = (k.number ≡ c.shard) × (k.thing.table ≡ c.words.table)
 
+  -- one of the claims says so
+  abbrev pub IsClaimed : List (Claimed Open) → Core T Sat → Type 0
+  IsClaimed claims c = (j : ℕ) × (k : Claimed Open) × IsClaimAt claims j k × ClaimsWords k c
+
   -- the words of each core are claimed
   abbrev pub AreClaimed : List (Core T Sat) → List (Claimed Open) → Type 0
-  AreClaimed cores claims =
-      (i : ℕ) (c : Core T Sat) → IsCoreAt cores i c →
-      (j : ℕ) × (k : Claimed Open) × IsClaimAt claims j k × ClaimsWords k c
+  AreClaimed cores claims = (i : ℕ) (c : Core T Sat) → IsCoreAt cores i c → IsClaimed claims c
 
-  -- whatever claims there are of the words of its cores before are so after
-  abbrev pub KeepsClaims : StoreState T Sat → StoreState T Sat → Type 0
-  KeepsClaims s t =
-      (claims : List (Claimed Open)) → AreClaimed s.cores.cores claims → AreClaimed t.cores.cores claims
+  -- each core of a store after a call was there before it, with its number and its words
+  abbrev pub BringsNoCore : StoreState T Sat → StoreState T Sat → Type 0
+  BringsNoCore s t =
+      (i : ℕ) (c : Core T Sat) → IsCoreAt t.cores.cores i c →
+      (j : ℕ) × (b : Core T Sat) × IsCoreAt s.cores.cores j b × (c.shard ≡ b.shard)
+      × (c.words.table ≡ b.words.table)
 
   -- each core of the promise's number has the words that the call was made on
   abbrev pub IsOfItsWords : StoreState T Sat → PromiseView → Type 0

@@ -6,16 +6,13 @@ use Rattle.dq_core.specs.declared.outcomes.Expired.{Expired}
 use Rattle.dq_core.specs.declared.outcomes.Removed.{Removed}
 use Rattle.dq_core.specs.declared.outcomes.Turn.TheVariants.{Out as CameOut}
 use Rattle.dq_core.specs.declared.outcomes.Piece.TheVariants.{Answer}
-use Rattle.dq_core.specs.Core.{Core}
 use Rattle.dq_journal.specs.declared.views.Entry.{Entry}
-use Rattle.dq_growing.specs.Cores.{TakesIn}
-use Rattle.dq_growing.specs.Notes.{ArePastBy, numbers_of}
-use Rattle.dq_growing.specs.Runs.{IsUsedId, GivesId, KeepsItsDeadline, NotDueBefore}
+use Rattle.dq_growing.specs.Runs.{KeepsId, GivesId, KeepsItsDeadline, NotDueBefore}
 use Rattle.dq_growing.specs.Store.{StoreState, NoneStandsFor, GoesOut}
 use Rattle.dq_growing.specs.declared.moving.Moved.TheVariants.{To, Out}
 use Rattle.dq_growing.specs.declared.moving.NextDeadline.{NextDeadline}
 use Rattle.dq_words.specs.Seats.{Sat}
-use Rattle.dq_queue.specs.Calls.{HasOnly, StoreRemoves, StoreResets, StoreRelocates, StorePollsSome}
+use Rattle.dq_queue.specs.Calls.{HasGiven, HasOnly, StoreRemoves, StoreResets, StoreRelocates, StorePollsSome}
 use Rattle.dq_queue.specs.Shards.{Held, IsAsLeft}
 
 module _ {T : Type 0} where
@@ -31,20 +28,27 @@ module _ {T : Type 0} where
   ByEach Did [] before = Unit {0}
   ByEach Did (e ∷ es) before = ByCall Did e (es ++ before) × ByEach Did es before
 
-  -- no core came in that gives an id anew
-  abbrev pub BringsNone : EntryId → StoreState T Sat → StoreState T Sat → Type 0
-  BringsNone u s t = (c : Core T Sat) → TakesIn s.cores c t.cores → ArePastBy (numbers_of u) c
+  -- by a call of a history an entry had been given an id
+  abbrev pub WasGivenIn : List (Entry (Held T)) → EntryId → Type 0
+  WasGivenIn [] u = ⊥
+  WasGivenIn (e ∷ es) u =
+      ((h : Held T) × (e.left ≡ Some h) × HasGiven h.store u) ⊎ WasGivenIn es u
+
+  -- each call of a history kept each id that an entry had been given by then
+  abbrev pub KeepsGivenIds : List (Entry (Held T)) → Type 0
+  KeepsGivenIds [] = Unit {0}
+  KeepsGivenIds (e ∷ es) =
+      ((u : EntryId) → WasGivenIn es u → ByCall (λ s t. KeepsId s t u) e es) × KeepsGivenIds es
 
   -- In a history an entry's call left that shard, and these newer entries came since. The id was
-  -- one that an entry has had, and no core came in since that gives it anew.
+  -- one that an entry had been given by then.
   pub record IsSince (log : List (Entry (Held T))) (u : EntryId) (h : Held T)
       (since : List (Entry (Held T))) : Type 0 where
     pub entry : Entry (Held T)
     pub before : List (Entry (Held T))
     pub all : log ≡ since ++ entry ∷ before
     pub left : entry.left ≡ Some h
-    pub used : IsUsedId h.store u
-    pub brought : ByEach (BringsNone u) since (entry ∷ before)
+    pub given : WasGivenIn (entry ∷ before) u
 
   -- nothing went out under an id, and no entry was given it
   abbrev pub GivesNone : EntryId → StoreState T Sat → StoreState T Sat → Type 0

@@ -5,11 +5,13 @@
 #![tactic(auto)]
 
 pub mod endings;
+mod loans;
 mod making;
 mod queue;
 mod shard;
 mod words;
 
+pub use loans::{Drained, FoldedDrained};
 pub use making::{MakeError, numbered_core};
 pub use queue::{GrowingQueue, QueueError};
 pub use shard::{Caller, Held, Rooms, Shard};

@@ -1,29 +1,33 @@
 //! What lies behind a shard's lock, and the calls that callers make of it there: each is entered once in the shard's history.
-ghost use Rattle.std.specs.Prelude.{◌≡◌, ◌<◌, ◌+◌, true, [], IfOk, IfErr, IfSome, IfNone, OnOk, OnErr};
-ghost use Rattle.dq_journal.specs.Once.{IsTold};
+ghost use Rattle.std.specs.Prelude.{◌≡◌, ◌<◌, ◌+◌, ◌++◌, ◌∷◌, true, [], IfOk, IfErr, IfSome, IfNone, OnOk, OnErr};
+ghost use Rattle.dq_journal.specs.Once.{IsTold, IsWithNumber};
 ghost use Rattle.dq_journal.specs.Views.{first_witness, new_witness};
+ghost use Rattle.dq_growing.specs.Cores.{HasNo};
 ghost use Rattle.dq_growing.specs.Polls.{IfPieceOut};
 ghost use Rattle.dq_growing.specs.Store.{IsStore};
 ghost use Rattle.dq_directory.specs.Claims.{IsOf};
 ghost use Rattle.dq_queue.specs.Calls.{StoreInserts, StoreRemoves, StoreResets, StoreTells, StorePollsSome};
 ghost use Rattle.dq_queue.specs.Calls.{KeepsPromise, StorePollsBeside};
 ghost use Rattle.dq_queue.specs.Calls.{StoreTakesIn, StoreGives, StoreRelocates, StoreReaps};
-ghost use Rattle.dq_queue.specs.Claims.{AreClaimed, AreClaimsOf, ClaimsWords, IsOfItsWords, KeepsClaims};
+ghost use Rattle.dq_queue.specs.Claims.{AreClaimed, AreClaimsOf, BringsNoCore, ClaimsWords, HasClaim, IsOfItsWords};
+ghost use Rattle.dq_queue.specs.Loans.{StoreGivesOut, StoreTakesBack};
 ghost use Rattle.dq_queue.specs.Runs.{DeadlinesHoldIn, EndedStaysEndedIn, EntriesLeaveOnceIn};
 ghost use Rattle.dq_queue.specs.Shards.{MadeOnce, OneMore, IsStoreHistory, unnamed};
 
 use crate::endings;
+use crate::loans::Drained;
 use crate::words::{Promise, QueueWords};
 use dq_core::{CoreError, DelayCore, Piece, ReapError, Removed};
 use dq_directory::Claim;
-use dq_growing::{Moved, NextDeadline, Store, TakeError};
+use dq_growing::{Moved, NextDeadline, Store, TakeError, no_core_gives_anew};
 use dq_journal::Witness;
 use dq_ticks::{EntryId, Key};
 use dq_words::{Keeper, OpenWords};
 use std::alloc::{AllocError, Allocator, Global};
 use std::marker::{Brand, Model, PhantomData};
 
-/// Names a queue: how many shards it has and, of each by its number, the history; and the directory of its cores' words.
+/// Names a queue: how many shards it has and, of each by its number, the history and the register of the cores that are out;
+/// and the directory of its cores' words.
 pub trait Rooms {
     ghost use Rattle.std.specs.Prelude.{ℕ, List};
     ghost use Rattle.atomic_table.specs.Seated.{TableId};
@@ -33,6 +37,8 @@ pub trait Rooms {
 
     ghost history: { ℕ → TableId };
 
+    ghost loans: { ℕ → TableId };
+
     ghost rows: { List Named };
 }
 
@@ -40,6 +46,8 @@ impl Rooms for Brand {
     ghost shards = { 0 };
 
     ghost history = { λ _. unnamed };
+
+    ghost loans = { λ _. unnamed };
 
     ghost rows = { [] };
 }
@@ -74,7 +82,7 @@ impl<T, A: Allocator + Clone> Held<T, A> {
     fn insert(&mut self, value: T, when: u64) -> (Result<Key, (CoreError, T)>, Option<T>)
         ensures number { self.new.number ≡ self.old.number }
         ensures stores { IsStore self.old.store × IsStore self.new.store }
-        ensures claims { KeepsClaims self.old.store self.new.store }
+        ensures cores { BringsNoCore self.old.store self.new.store }
         ensures inserts { StoreInserts value when result self.old.store self.new.store }
     {
         self.store.law();
@@ -86,7 +94,7 @@ impl<T, A: Allocator + Clone> Held<T, A> {
     fn remove(&mut self, entry: &EntryId) -> Result<Removed<T>, CoreError>
         ensures number { self.new.number ≡ self.old.number }
         ensures stores { IsStore self.old.store × IsStore self.new.store }
-        ensures claims { KeepsClaims self.old.store self.new.store }
+        ensures cores { BringsNoCore self.old.store self.new.store }
         ensures removes { StoreRemoves entry.now result self.old.store self.new.store }
     {
         self.store.law();
@@ -98,7 +106,7 @@ impl<T, A: Allocator + Clone> Held<T, A> {
     fn reset(&mut self, entry: &EntryId, when: u64) -> (Result<Key, CoreError>, Option<T>)
         ensures number { self.new.number ≡ self.old.number }
         ensures stores { IsStore self.old.store × IsStore self.new.store }
-        ensures claims { KeepsClaims self.old.store self.new.store }
+        ensures cores { BringsNoCore self.old.store self.new.store }
         ensures resets { StoreResets entry.now when result self.old.store self.new.store }
     {
         self.store.law();
@@ -110,7 +118,7 @@ impl<T, A: Allocator + Clone> Held<T, A> {
     fn deadline(&mut self, entry: &EntryId) -> Result<u64, CoreError>
         ensures number { self.new.number ≡ self.old.number }
         ensures stores { IsStore self.old.store × IsStore self.new.store }
-        ensures claims { KeepsClaims self.old.store self.new.store }
+        ensures cores { BringsNoCore self.old.store self.new.store }
         ensures tells { StoreTells entry.now result self.old.store self.new.store }
     {
         self.store.law();
@@ -122,7 +130,7 @@ impl<T, A: Allocator + Clone> Held<T, A> {
     fn poll_some(&mut self, tick: u64, most: u32) -> Result<Piece<T>, CoreError>
         ensures number { self.new.number ≡ self.old.number }
         ensures stores { IsStore self.old.store × IsStore self.new.store }
-        ensures claims { KeepsClaims self.old.store self.new.store }
+        ensures cores { BringsNoCore self.old.store self.new.store }
         ensures polls { StorePollsSome tick most result self.old.store self.new.store }
     {
         self.store.law();
@@ -141,7 +149,7 @@ impl<T, A: Allocator + Clone> Held<T, A> {
         requires { IsOfItsWords self.old.store promise.old }
         ensures number { self.new.number ≡ self.old.number }
         ensures stores { IsStore self.old.store × IsStore self.new.store }
-        ensures claims { KeepsClaims self.old.store self.new.store }
+        ensures cores { BringsNoCore self.old.store self.new.store }
         ensures polls { StorePollsSome tick most result self.old.store self.new.store }
         ensures kept { IfPieceOut result (KeepsPromise self.old.store.notes promise.old) }
         ensures same { promise.new ≡ promise.old }
@@ -155,33 +163,62 @@ impl<T, A: Allocator + Clone> Held<T, A> {
         answer
     }
 
-    // It comes back where there is no room for its claim.
     fn take_in(
         &mut self,
         core: DelayCore<T, Keeper<A>, A>,
-        has_room: bool,
     ) -> Result<(), (TakeError, DelayCore<T, Keeper<A>, A>)>
         ensures number { self.new.number ≡ self.old.number }
         ensures stores { IsStore self.old.store × IsStore self.new.store }
-        ensures room { OnOk result (has_room ≡ true) }
         ensures takes { StoreTakesIn core result self.old.store self.new.store }
     {
         self.store.law();
-        if !has_room {
-            return Err((TakeError::NoMemory, core));
-        }
         let answer = self.store.take_in(core);
         self.store.law();
         answer
     }
 
+    // The same of a core whose number none of these claims has. Its own comes to them, where it is taken in.
+    fn take_new<J: Rooms>(
+        &mut self,
+        claims: &mut Vec<Claim<OpenWords<A>, A>, A>,
+        words: &QueueWords<J, A>,
+        core: DelayCore<T, Keeper<A>, A>,
+        claim: &Claim<OpenWords<A>, A>,
+    ) -> Result<(), (TakeError, DelayCore<T, Keeper<A>, A>)>
+        requires all { AreClaimsOf J.rows claims.old.items }
+        requires one { IsOf J.rows claim.now }
+        ensures number { self.new.number ≡ self.old.number }
+        ensures stores { IsStore self.old.store × IsStore self.new.store }
+        ensures takes { StoreTakesIn core result self.old.store self.new.store }
+        ensures fresh { OnOk result (¬ HasClaim claims.old.items claim.now.number) }
+        ensures more { OnOk result (claims.new.items ≡ claims.old.items ++ claim.now ∷ []) }
+        ensures same { OnErr result (claims.new.items ≡ claims.old.items) }
+    {
+        self.store.law();
+        if claims.reserve(1).is_err() {
+            return Err((TakeError::NoMemory, core));
+        }
+        if words.knows(claims.as_slice(), claim) {
+            return Err((TakeError::UsedNumber, core));
+        }
+        match self.take_in(core) {
+            Ok(()) => {
+                claims.push_reserved(claim.again());
+                Ok(())
+            }
+            Err(refused) => Err(refused),
+        }
+    }
+
     fn take_drained(&mut self) -> Option<DelayCore<T, Keeper<A>, A>>
         ensures number { self.new.number ≡ self.old.number }
         ensures stores { IsStore self.old.store × IsStore self.new.store }
-        ensures claims { KeepsClaims self.old.store self.new.store }
+        ensures cores { BringsNoCore self.old.store self.new.store }
         ensures gives { StoreGives result self.old.store self.new.store }
+        ensures gone { IfSome result (λ c. HasNo self.new.store.cores.cores c.shard) }
     {
         self.store.law();
+        self.store.cores().law();
         let answer = self.store.take_drained();
         self.store.law();
         answer
@@ -194,7 +231,7 @@ impl<T, A: Allocator + Clone> Held<T, A> {
     ) -> (Result<Moved<T>, CoreError>, Option<T>)
         ensures number { self.new.number ≡ self.old.number }
         ensures stores { IsStore self.old.store × IsStore self.new.store }
-        ensures claims { KeepsClaims self.old.store self.new.store }
+        ensures cores { BringsNoCore self.old.store self.new.store }
         ensures relocates { StoreRelocates entry.now next result self.old.store self.new.store }
     {
         self.store.law();
@@ -206,7 +243,7 @@ impl<T, A: Allocator + Clone> Held<T, A> {
     fn reap(&mut self, entry: &EntryId) -> Result<(), ReapError>
         ensures number { self.new.number ≡ self.old.number }
         ensures stores { IsStore self.old.store × IsStore self.new.store }
-        ensures claims { KeepsClaims self.old.store self.new.store }
+        ensures cores { BringsNoCore self.old.store self.new.store }
         ensures reaps { StoreReaps entry.now result self.old.store self.new.store }
     {
         self.store.law();
@@ -216,12 +253,14 @@ impl<T, A: Allocator + Clone> Held<T, A> {
     }
 }
 
-/// A shard, whose history is that which its number names, and the words of whose cores stand in the queue's directory.
+/// A shard, whose history is that which its number names, and the words of whose cores stand in the queue's directory. It
+/// has a register of the cores that are out of it.
 #[derive(Drop)]
 pub struct Shard<T, J: Rooms, A: Allocator = Global> {
     held: Held<T, A>,
     claims: Vec<Claim<OpenWords<A>, A>, A>,
     history: Witness<Held<T, A>, A>,
+    loans: Witness<DelayCore<T, Keeper<A>, A>, A>,
     rooms: PhantomData<J>,
 }
 
@@ -229,6 +268,7 @@ impl<T, J: Rooms, A: Allocator> Model for Shard<T, J, A> {
     ghost use Rattle.std.specs.Prelude.{◌≡◌, ◌<◌};
     ghost use Rattle.dq_journal.specs.Once.{IsUnderLock};
     ghost use Rattle.dq_queue.specs.Claims.{AreClaimed, AreClaimsOf};
+    ghost use Rattle.dq_queue.specs.Loans.{LoansAreKept};
     ghost use Rattle.dq_queue.specs.Shards.{HeldShard, IsAsLeft, IsStoreHistory};
 
     ghost Value = { HeldShard T };
@@ -239,7 +279,9 @@ impl<T, J: Rooms, A: Allocator> Model for Shard<T, J, A> {
         × (s.history.table ≡ J.history s.held.number) × IsUnderLock s.history.view
         × IsAsLeft s.history.view.log s.held × IsStoreHistory s.history.view.log
         × AreClaimsOf J.rows s.claims.items
-        × AreClaimed s.held.store.cores.cores s.claims.items };
+        × AreClaimed s.held.store.cores.cores s.claims.items
+        × (s.loans.table ≡ J.loans s.held.number) × IsUnderLock s.loans.view
+        × LoansAreKept s.history.view.log s.held.store s.loans.view.log s.claims.items };
 }
 
 /// A caller of one shard, in any thread.
@@ -274,18 +316,20 @@ impl<T, J: Rooms, A: Allocator> Caller<T, J, A> {
 }
 
 impl<T, J: Rooms, A: Allocator> Shard<T, J, A> {
-    /// A shard with a history in which nothing is yet, under the names of its number. It has these claims of the words
-    /// of its cores.
+    /// A shard with a history and a register of loans in which nothing is yet, under the names of its number. It has these
+    /// claims of the words of its cores.
     pub fn of(
         held: Held<T, A>,
         claims: Vec<Claim<OpenWords<A>, A>, A>,
         history: Witness<Held<T, A>, A>,
+        loans: Witness<DelayCore<T, Keeper<A>, A>, A>,
     ) -> Shard<T, J, A>
         requires number { held.number < J.shards }
         requires claims { AreClaimsOf J.rows claims.items }
         requires claimed { AreClaimed held.store.cores.cores claims.items }
         requires history { (history.table ≡ J.history held.number)
             × (history.view ≡ first_witness) }
+        requires loans { (loans.table ≡ J.loans held.number) × (loans.view ≡ first_witness) }
         ensures held { result.held ≡ held }
         ensures history { result.history ≡ first_witness }
     {
@@ -293,6 +337,7 @@ impl<T, J: Rooms, A: Allocator> Shard<T, J, A> {
             held,
             claims,
             history,
+            loans,
             rooms: PhantomData,
         }
     }
@@ -490,12 +535,14 @@ impl<T, J: Rooms, A: Allocator + Clone> Shard<T, J, A> {
         answer
     }
 
-    /// Takes a core in whose words are claimed, and which is open from then on. The one that was open drains. It takes
-    /// memory for the lists of cores and of claims alone.
+    /// Takes a core in whose words are claimed, of a number that no core of the shard ever had, and which is open from then
+    /// on. The one that was open drains. It takes memory for the lists of cores and of claims alone. A core that left comes
+    /// back by [`Shard::take_back`].
     ///
     /// # Errors
     /// The core comes back, and nothing changes. In this order:
     /// - `NoMemory` if memory for the claim is refused.
+    /// - `UsedNumber` if the shard has a claim of its number: a core of the shard had it.
     /// - `UsedNumber` if an entry is known by an id of that number that was moved away from there, or to there.
     /// - `StillLinked` if an entry is linked in the core.
     /// - `UsedNumber` if a core of the shard has its number, or it is the last one of all.
@@ -514,22 +561,7 @@ impl<T, J: Rooms, A: Allocator + Clone> Shard<T, J, A> {
         ensures takes { StoreTakesIn core result self.old.held.store self.new.held.store }
         ensures number { self.new.held.number ≡ self.old.held.number }
     {
-        let has_room = words.keep(&mut self.claims, claim);
-        let answer = self.held.take_in(core, has_room);
-        self.history.enter_for(&mut me.history, &self.held);
-        answer
-    }
-
-    /// Takes a core out that has drained: it isn't the open one, and holds nothing, not even a value that waits for its
-    /// drop.
-    pub fn take_drained(&mut self, me: &mut Caller<T, J, A>) -> Option<DelayCore<T, Keeper<A>, A>>
-        requires { me.old.shard ≡ self.old.held.number }
-        ensures once { MadeOnce me.old (λ s t. StoreGives result s t) me.new }
-        ensures one_more { OneMore self.old me.old self.new }
-        ensures gives { StoreGives result self.old.held.store self.new.held.store }
-        ensures number { self.new.held.number ≡ self.old.held.number }
-    {
-        let answer = self.held.take_drained();
+        let answer = self.held.take_new(&mut self.claims, words, core, claim);
         self.history.enter_for(&mut me.history, &self.held);
         answer
     }
@@ -577,5 +609,113 @@ impl<T, J: Rooms, A: Allocator + Clone> Shard<T, J, A> {
         let answer = self.held.reap(entry);
         self.history.enter_for(&mut me.history, &self.held);
         answer
+    }
+}
+
+impl<T: Drop, J: Rooms, A: Allocator + Clone + Drop> Shard<T, J, A> {
+    /// Takes a core out that has drained: it isn't the open one, and holds nothing, not even a value that waits for its
+    /// drop. It may come back by [`Shard::take_back`].
+    ///
+    /// # Errors
+    /// If the register of loans has too many holders. Nothing changes, and no call is entered.
+    pub fn take_drained(
+        &mut self,
+        me: &mut Caller<T, J, A>,
+    ) -> Result<Option<Drained<T, J, A>>, AllocError>
+        requires { me.old.shard ≡ self.old.held.number }
+        ensures once { IfOk result (λ r. MadeOnce me.old (λ s t. StoreGivesOut r s t) me.new) }
+        ensures one_more { OnOk result (OneMore self.old me.old self.new) }
+        ensures gives { IfOk result
+            (λ r. StoreGivesOut r self.old.held.store self.new.held.store) }
+        ensures shard { IfOk result
+            (λ r. IfSome r (λ d. d.shard ≡ self.old.held.number)) }
+        ensures refused { OnErr result ((self.new ≡ self.old) × (me.new ≡ me.old)) }
+        ensures number { self.new.held.number ≡ self.old.held.number }
+    {
+        let loan = self.loans.open()?;
+        Ok(self.lend(me, loan))
+    }
+
+    // The same, with a loan for the core if one leaves.
+    fn lend(
+        &mut self,
+        me: &mut Caller<T, J, A>,
+        mut loan: Witness<DelayCore<T, Keeper<A>, A>, A>,
+    ) -> Option<Drained<T, J, A>>
+        requires number { me.old.shard ≡ self.old.held.number }
+        requires table { loan.table ≡ J.loans self.old.held.number }
+        requires unused { IsWithNumber loan.view × (loan.view.mine ≡ []) }
+        ensures once { MadeOnce me.old (λ s t. StoreGivesOut result s t) me.new }
+        ensures one_more { OneMore self.old me.old self.new }
+        ensures gives { StoreGivesOut result self.old.held.store self.new.held.store }
+        ensures shard { IfSome result (λ d. d.shard ≡ self.old.held.number) }
+        ensures number { self.new.held.number ≡ self.old.held.number }
+    {
+        let shard = self.number();
+        let answer = self.held.take_drained();
+        self.history.enter_for(&mut me.history, &self.held);
+        no_core_gives_anew::<T, Keeper<A>>();
+        match answer {
+            None => None,
+            Some(core) => {
+                self.loans.enter_for(&mut loan, &core);
+                Some(Drained {
+                    core,
+                    shard,
+                    loan,
+                    rooms: PhantomData,
+                })
+            }
+        }
+    }
+
+    /// Takes a core back in that left, and which is open from then on. The one that was open drains. It takes memory for
+    /// the list of cores alone.
+    ///
+    /// # Errors
+    /// What left comes back, and nothing changes. In this order:
+    /// - `UsedNumber` if an entry is known by an id of that number with a stamp that the core may give anew.
+    /// - `StillLinked` if an entry is linked in the core.
+    /// - `UsedNumber` if a core of the shard has its number, or it is the last one of all.
+    /// - `NoMemory` if memory is refused.
+    pub fn take_back(
+        &mut self,
+        me: &mut Caller<T, J, A>,
+        drained: Drained<T, J, A>,
+    ) -> Result<(), (TakeError, Drained<T, J, A>)>
+        requires number { me.old.shard ≡ self.old.held.number }
+        requires drained { drained.shard ≡ self.old.held.number }
+        ensures once { MadeOnce me.old (λ s t. StoreTakesBack drained result s t) me.new }
+        ensures one_more { OneMore self.old me.old self.new }
+        ensures takes { StoreTakesBack drained result self.old.held.store self.new.held.store }
+        ensures back { IfErr result
+            (λ e. (e.1.core ≡ drained.core) × (e.1.shard ≡ drained.shard)) }
+        ensures number { self.new.held.number ≡ self.old.held.number }
+    {
+        let Drained {
+            core,
+            shard,
+            mut loan,
+            rooms: _,
+        } = drained;
+        // The register has the core as one that is in from here on. If it is refused, it is entered once more.
+        self.loans.enter_for(&mut loan, &core);
+        let answer = self.held.take_in(core);
+        self.history.enter_for(&mut me.history, &self.held);
+        match answer {
+            Ok(()) => Ok(()),
+            Err((error, back)) => {
+                self.loans.enter_for(&mut loan, &back);
+                Err((
+                    error,
+                    Drained {
+                        core: back,
+                        shard,
+                        loan,
+                        rooms: PhantomData,
+                    },
+                ))
+            }
+        }
     }
 }

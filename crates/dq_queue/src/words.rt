@@ -4,7 +4,7 @@ ghost use Rattle.dq_directory.specs.Claims.{Claimed, IsOf};
 ghost use Rattle.dq_ticks.specs.declared.TheConstants.{LAST_TICK};
 ghost use Rattle.dq_words.specs.OpenCalls.{Open, ShowsCancel, ShowsExtend, ShowsLook};
 ghost use Rattle.dq_words.specs.Together.{CancelsCover};
-ghost use Rattle.dq_queue.specs.Claims.{AgreeWith, AreClaimsOf, HasClaim, IsClaimAt};
+ghost use Rattle.dq_queue.specs.Claims.{AgreeWith, AreClaimsOf, HasClaim};
 ghost use Rattle.dq_queue.specs.Words.{IsPromise, QueueExtendRefused, QueueCancelRefused, QueueLookRefused};
 
 use crate::shard::Rooms;
@@ -275,6 +275,7 @@ impl<J: Rooms, A: Allocator> QueueWords<J, A> {
         requires one { IsOf J.rows claim.now }
         ensures agree { AgreeWith claims.now claim.now }
         ensures has { result ≡ true → HasClaim claims.now claim.now.number }
+        ensures none { result ≡ false → ¬ HasClaim claims.now claim.now.number }
     {
         let mut has = false;
         for at in 0..claims.len() {
@@ -282,29 +283,5 @@ impl<J: Rooms, A: Allocator> QueueWords<J, A> {
             has = has | is;
         }
         has
-    }
-
-    // Takes a claim to others, unless one of them has its number. It returns whether there is one then.
-    pub(crate) fn keep(
-        &self,
-        claims: &mut Vec<Claim<OpenWords<A>, A>, A>,
-        claim: &Claim<OpenWords<A>, A>,
-    ) -> bool
-        requires all { AreClaimsOf J.rows claims.old.items }
-        requires one { IsOf J.rows claim.now }
-        ensures all { AreClaimsOf J.rows claims.new.items }
-        ensures others { (j : ℕ) (k : Claimed Open) → IsClaimAt claims.old.items j k
-            → IsClaimAt claims.new.items j k }
-        ensures has { result ≡ true → HasClaim claims.new.items claim.now.number }
-        ensures agree { AgreeWith claims.new.items claim.now }
-    {
-        if self.knows(claims.as_slice(), claim) {
-            return true;
-        }
-        if claims.reserve(1).is_err() {
-            return false;
-        }
-        claims.push_reserved(claim.again());
-        true
     }
 }

@@ -1,16 +1,16 @@
 use Rattle.std.proofs.Common.{subst}
 use Rattle.dq_queue.specs.Calls.{StoreInserts}
-use Rattle.dq_queue.specs.Claims.{KeepsClaims}
+use Rattle.dq_queue.specs.Claims.{BringsNoCore}
 use Rattle.dq_queue.specs.Shards.{Held}
-use Rattle.dq_queue.proofs.Claims.{stay_claimed, inserts_long}
+use Rattle.dq_queue.proofs.Claims.{brings_none, inserts_long}
 use Rattle.dq_queue.proofs.Runs.{came_new}
 use Rattle.dq_queue.proofs.shard.Held.insert.Goals as goal
 
-pub returns-clause-claims : goal.returns-clause-claims
-returns-clause-claims g c =
+pub returns-clause-cores : goal.returns-clause-cores
+returns-clause-cores g c =
     let made = c.insert-answer in
-    let P : Held _ → Type 0 = λ h. KeepsClaims h.store made.new.self in
-    subst P c.self.view_is (stay_claimed c.self.inside.store made.new.self made.ensures.words (inserts_long c.self.inside.store made.new.self c.args.value c.args.when made.result made.ensures.inserts))
+    let P : Held _ → Type 0 = λ h. BringsNoCore h.store made.new.self in
+    subst P c.self.view_is (brings_none c.self.inside.store made.new.self made.ensures.words (inserts_long c.self.inside.store made.new.self c.args.value c.args.when made.result made.ensures.inserts))
 
 pub returns-clause-inserts : goal.returns-clause-inserts
 returns-clause-inserts g c =
@@ -20,7 +20,7 @@ returns-clause-inserts g c =
       made.ensures.inserts,
       made.ensures.notes,
       made.ensures.keeps,
-      came_new c.self.inside.store made.new.self c.args.value c.args.when made.result.0 made.ensures.comes made.ensures.gives c.law-2.ensures.one,
+      came_new c.self.inside.store made.new.self c.args.value c.args.when made.result.0 made.result.1 made.ensures.inserts made.ensures.comes made.ensures.gives c.law-2.ensures.one,
       made.ensures.holds,
       made.ensures.due,
     )

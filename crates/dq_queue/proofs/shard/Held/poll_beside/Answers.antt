@@ -3,10 +3,10 @@ use Rattle.dq_growing.specs.Polls.{IfPieceOut}
 use Rattle.dq_growing.specs.Store.{StoreState}
 use Rattle.dq_words.specs.Seats.{Sat}
 use Rattle.dq_queue.specs.Calls.{KeepsPromise, StorePollsSome}
-use Rattle.dq_queue.specs.Claims.{KeepsClaims, IsOfItsWords}
+use Rattle.dq_queue.specs.Claims.{BringsNoCore, IsOfItsWords}
 use Rattle.dq_queue.specs.Shards.{Held}
 use Rattle.dq_queue.specs.Words.{PromiseView}
-use Rattle.dq_queue.proofs.Claims.{stay_claimed, still_its_words, polls_long}
+use Rattle.dq_queue.proofs.Claims.{brings_none, still_its_words, polls_long}
 use Rattle.dq_queue.proofs.Outs.{keeps_promise}
 use Rattle.dq_queue.proofs.shard.Held.poll_beside.Goals as goal
 
@@ -17,7 +17,7 @@ beside-requires g c =
     let p : PromiseView = record { receipt = c.promise.inside.receipt; claim = c.promise.inside.claim } in
     let P : Held _ × PromiseView → Type 0 = λ x. IsOfItsWords x.0.store x.1 in
     let its : IsOfItsWords s p = subst P (λ n. (sym c.self.view_is n, sym c.promise.view_is n)) c.requires in
-    λ i d at. still_its_words s made.new.self p made.ensures.words (polls_long s made.new.self c.args.tick c.args.most made.result made.ensures.polls) its i d
+    λ i d at. still_its_words s made.new.self p (brings_none s made.new.self made.ensures.words (polls_long s made.new.self c.args.tick c.args.most made.result made.ensures.polls)) its i d
     (at.0, at.1 ∙ c.number-number.ensures)
 
 pub returns-clause-polls : goal.returns-clause-polls
@@ -27,13 +27,13 @@ returns-clause-polls g c =
     let Q : StoreState _ Sat → Type 0 = λ t. StorePollsSome c.args.tick c.args.most made.result c.self.inside.store t in
     subst P c.self.view_is (subst Q (sym c.beside.ensures.same.0) (made.ensures.polls, made.ensures.keeps, made.ensures.goes_out, made.ensures.holds, made.ensures.in_force))
 
-pub returns-clause-claims : goal.returns-clause-claims
-returns-clause-claims g c =
+pub returns-clause-cores : goal.returns-clause-cores
+returns-clause-cores g c =
     let made = c.poll_some-answer in
-    let P : Held _ → Type 0 = λ h. KeepsClaims h.store c.beside.new.self in
-    let Q : StoreState _ Sat → Type 0 = λ t. KeepsClaims c.self.inside.store t in
+    let P : Held _ → Type 0 = λ h. BringsNoCore h.store c.beside.new.self in
+    let Q : StoreState _ Sat → Type 0 = λ t. BringsNoCore c.self.inside.store t in
     subst P c.self.view_is (subst Q (sym c.beside.ensures.same.0)
-    (stay_claimed c.self.inside.store made.new.self made.ensures.words (polls_long c.self.inside.store made.new.self c.args.tick c.args.most made.result made.ensures.polls)))
+    (brings_none c.self.inside.store made.new.self made.ensures.words (polls_long c.self.inside.store made.new.self c.args.tick c.args.most made.result made.ensures.polls)))
 
 pub returns-clause-kept : goal.returns-clause-kept
 returns-clause-kept g c =

@@ -1,8 +1,8 @@
 use Rattle.std.proofs.Common.{subst}
 use Rattle.dq_queue.specs.Calls.{StorePollsSome}
-use Rattle.dq_queue.specs.Claims.{KeepsClaims}
+use Rattle.dq_queue.specs.Claims.{BringsNoCore}
 use Rattle.dq_queue.specs.Shards.{Held}
-use Rattle.dq_queue.proofs.Claims.{stay_claimed, polls_long}
+use Rattle.dq_queue.proofs.Claims.{brings_none, polls_long}
 use Rattle.dq_queue.proofs.shard.Held.poll_some.Goals as goal
 
 pub returns-clause-polls : goal.returns-clause-polls
@@ -11,8 +11,8 @@ returns-clause-polls g c =
     let P : Held _ → Type 0 = λ h. StorePollsSome c.args.tick c.args.most made.result h.store made.new.self in
     subst P c.self.view_is (made.ensures.polls, made.ensures.keeps, made.ensures.goes_out, made.ensures.holds, made.ensures.in_force)
 
-pub returns-clause-claims : goal.returns-clause-claims
-returns-clause-claims g c =
+pub returns-clause-cores : goal.returns-clause-cores
+returns-clause-cores g c =
     let made = c.poll_some-answer in
-    let P : Held _ → Type 0 = λ h. KeepsClaims h.store made.new.self in
-    subst P c.self.view_is (stay_claimed c.self.inside.store made.new.self made.ensures.words (polls_long c.self.inside.store made.new.self c.args.tick c.args.most made.result made.ensures.polls))
+    let P : Held _ → Type 0 = λ h. BringsNoCore h.store made.new.self in
+    subst P c.self.view_is (brings_none c.self.inside.store made.new.self made.ensures.words (polls_long c.self.inside.store made.new.self c.args.tick c.args.most made.result made.ensures.polls))

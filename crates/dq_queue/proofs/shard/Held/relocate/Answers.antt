@@ -1,16 +1,16 @@
 use Rattle.std.proofs.Common.{subst}
 use Rattle.dq_queue.specs.Calls.{StoreRelocates}
-use Rattle.dq_queue.specs.Claims.{KeepsClaims}
+use Rattle.dq_queue.specs.Claims.{BringsNoCore}
 use Rattle.dq_queue.specs.Shards.{Held}
-use Rattle.dq_queue.proofs.Claims.{stay_claimed, relocates_long}
+use Rattle.dq_queue.proofs.Claims.{brings_none, relocates_long}
 use Rattle.dq_queue.proofs.Runs.{moved_out}
 use Rattle.dq_queue.proofs.shard.Held.relocate.Goals as goal
 
-pub returns-clause-claims : goal.returns-clause-claims
-returns-clause-claims g c =
+pub returns-clause-cores : goal.returns-clause-cores
+returns-clause-cores g c =
     let made = c.relocate-answer in
-    let P : Held _ → Type 0 = λ h. KeepsClaims h.store made.new.self in
-    subst P c.self.view_is (stay_claimed c.self.inside.store made.new.self made.ensures.words (relocates_long c.self.inside.store made.new.self c.args.entry.now c.args.next made.result made.ensures.relocates))
+    let P : Held _ → Type 0 = λ h. BringsNoCore h.store made.new.self in
+    subst P c.self.view_is (brings_none c.self.inside.store made.new.self made.ensures.words (relocates_long c.self.inside.store made.new.self c.args.entry.now c.args.next made.result made.ensures.relocates))
 
 pub returns-clause-relocates : goal.returns-clause-relocates
 returns-clause-relocates g c =

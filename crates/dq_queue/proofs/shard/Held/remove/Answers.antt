@@ -1,16 +1,16 @@
 use Rattle.std.proofs.Common.{subst}
 use Rattle.dq_queue.specs.Calls.{StoreRemoves}
-use Rattle.dq_queue.specs.Claims.{KeepsClaims}
+use Rattle.dq_queue.specs.Claims.{BringsNoCore}
 use Rattle.dq_queue.specs.Shards.{Held}
-use Rattle.dq_queue.proofs.Claims.{stay_claimed, removes_long}
+use Rattle.dq_queue.proofs.Claims.{brings_none, removes_long}
 use Rattle.dq_queue.proofs.Runs.{went_out}
 use Rattle.dq_queue.proofs.shard.Held.remove.Goals as goal
 
-pub returns-clause-claims : goal.returns-clause-claims
-returns-clause-claims g c =
+pub returns-clause-cores : goal.returns-clause-cores
+returns-clause-cores g c =
     let made = c.remove-answer in
-    let P : Held _ → Type 0 = λ h. KeepsClaims h.store made.new.self in
-    subst P c.self.view_is (stay_claimed c.self.inside.store made.new.self made.ensures.words (removes_long c.self.inside.store made.new.self c.args.entry.now made.result made.ensures.removes))
+    let P : Held _ → Type 0 = λ h. BringsNoCore h.store made.new.self in
+    subst P c.self.view_is (brings_none c.self.inside.store made.new.self made.ensures.words (removes_long c.self.inside.store made.new.self c.args.entry.now made.result made.ensures.removes))
 
 pub returns-clause-removes : goal.returns-clause-removes
 returns-clause-removes g c =

@@ -17,9 +17,8 @@ invariant_of-self g c =
     let made = c.poll_beside-answer in
     let e = c.enter_for.ensures in
     let call : IsStoreCall c.self.inside.held.store made.new.self.store = inr (inr (inr (inr (inl (c.args.tick, c.args.most, made.result, made.ensures.polls))))) in
-    stays g.J.Rooms.shards g.J.Rooms.history g.J.Rooms.rows _ _ c.self.inside.history.view c.me.inside.history.view c.enter_for.new.caller.view c.enter_for.new.self.view
-    c.self.inside.held made.new.self c.self.inside.claims.items c.self.inside.claims.items c.self.invariant made.ensures.number call e.once e.log e.tables.0 e.keeper
-    (c.self.invariant.5, made.ensures.claims c.self.inside.claims.items c.self.invariant.6)
+    stays g.J.Rooms.shards g.J.Rooms.history g.J.Rooms.loans g.J.Rooms.rows _ _ _ c.self.inside.history.view c.me.inside.history.view c.enter_for.new.caller.view c.enter_for.new.self.view
+    c.self.inside.loans.view c.self.inside.held made.new.self c.self.inside.claims.items c.self.invariant made.ensures.number call e.once e.log e.tables.0 e.keeper made.ensures.cores
 
 pub returns-clause-once : goal.returns-clause-once
 returns-clause-once g c =

@@ -1,38 +1,36 @@
-use Rattle.std.proofs.Common.{◌≡◌, true, sym, ap, ◌∙◌, subst, inl, inr}
+use Rattle.std.proofs.Common.{Some, refl, sym, ap, ◌∙◌, subst, inl, inr}
+use Rattle.dq_journal.specs.History.{entry}
 use Rattle.dq_growing.specs.Store.{StoreState}
 use Rattle.dq_words.specs.Seats.{Sat}
 use Rattle.dq_queue.specs.Calls.{StoreTakesIn, IsStoreCall}
 use Rattle.dq_queue.specs.Shards.{CallerView, HeldShard}
-use Rattle.dq_queue.specs.Claims.{HasClaim}
-use Rattle.dq_queue.proofs.Claims.{more_claimed, ok_then, takes_claimed}
-use Rattle.dq_queue.proofs.Histories.{once, one_name, stays}
+use Rattle.dq_queue.proofs.Histories.{goes_on_so, once, one_name}
+use Rattle.dq_queue.proofs.Lending.{takes_new}
 use Rattle.dq_queue.proofs.shard.Shard.take_in.Goals as goal
 
 pub enter_for-requires-clause-table : goal.enter_for-requires-clause-table
 enter_for-requires-clause-table g c =
     let at = ap (λ (s : HeldShard _). s.held.number) c.self.view_is ∙ (sym c.requires.number ∙ sym (ap (λ (v : CallerView _). v.shard) c.me.view_is)) in
-    let made = c.take_in-answer in
+    let made = c.take_new-answer in
     one_name g.J.Rooms.history c.self.inside.history.table c.me.inside.history.table _ _ c.self.invariant.1 c.me.invariant.1 at
 
 pub invariant_of-self : goal.invariant_of-self
 invariant_of-self g c =
-    let made = c.take_in-answer in
+    let made = c.take_new-answer in
     let e = c.enter_for.ensures in
-    let k = c.keep-has_room in
-    let is = k.new.claims.items in
-    let store = c.self.inside.held.store in
-    let has = ok_then (k.result ≡ true) (HasClaim is c.args.claim.now.number) made.result made.ensures.room k.ensures.has in
-    let claimed = takes_claimed store made.new.self.store c.args.core made.result is c.args.claim.now made.ensures.takes
-    (more_claimed store.cores.cores c.self.inside.claims.items is k.ensures.others c.self.invariant.6) has k.ensures.agree c.requires.claim.1 in
+    let s = c.self.invariant in
     let call : IsStoreCall c.self.inside.held.store made.new.self.store = inr (inr (inr (inr (inr (inl (c.args.core, made.result, made.ensures.takes)))))) in
-    stays g.J.Rooms.shards g.J.Rooms.history g.J.Rooms.rows _ _ c.self.inside.history.view c.me.inside.history.view c.enter_for.new.caller.view c.enter_for.new.self.view
-    c.self.inside.held made.new.self c.self.inside.claims.items c.keep-has_room.new.claims.items c.self.invariant made.ensures.number call e.once e.log e.tables.0 e.keeper
-    (c.keep-has_room.ensures.all, claimed)
+    let kept = takes_new g.J.Rooms.rows c.self.inside.history.view.log (entry c.me.inside.history.view.number (Some made.new.self)) c.self.inside.held made.new.self c.self.inside.loans.view.log
+    c.self.inside.claims.items made.new.claims.items c.args.core c.args.claim.now made.result s.9 s.4 refl s.3 made.ensures.takes (s.5, s.6) made.ensures.fresh made.ensures.more made.ensures.same
+    c.requires.claim in
+    goes_on_so g.J.Rooms.shards g.J.Rooms.history g.J.Rooms.loans g.J.Rooms.rows _ _ _ _ c.self.inside.history.view c.me.inside.history.view c.enter_for.new.caller.view c.enter_for.new.self.view
+    c.self.inside.loans.view c.self.inside.loans.view c.self.inside.held made.new.self c.self.inside.claims.items made.new.claims.items s made.ensures.number call e.once e.log e.tables.0 e.keeper
+    (kept.0, kept.1) refl s.8 kept.2
 
 pub returns-clause-once : goal.returns-clause-once
 returns-clause-once g c =
     let s = c.self.invariant in
-    let made = c.take_in-answer in
+    let made = c.take_new-answer in
     let gives : StoreState _ Sat → StoreState _ Sat → Type 0 = λ s t. StoreTakesIn c.args.core made.result s t in
     let call : IsStoreCall c.self.inside.held.store made.new.self.store = inr (inr (inr (inr (inr (inl (c.args.core, made.result, made.ensures.takes)))))) in
     let at = ap (λ (s : HeldShard _). s.held.number) c.self.view_is ∙ (sym c.requires.number ∙ sym (ap (λ (v : CallerView _). v.shard) c.me.view_is)) in
@@ -41,6 +39,6 @@ returns-clause-once g c =
 
 pub returns-clause-takes : goal.returns-clause-takes
 returns-clause-takes g c =
-    let made = c.take_in-answer in
+    let made = c.take_new-answer in
     let P : HeldShard _ → Type 0 = λ s. StoreTakesIn c.args.core made.result s.held.store made.new.self.store in
     subst P c.self.view_is made.ensures.takes

@@ -11,10 +11,10 @@ tell-requires-clause-table g c =
     one_name g.J.Rooms.history c.self.inside.history.table c.me.inside.history.table _ _ c.self.invariant.1 c.me.invariant.1 at
 
 pub returns-clause-leaves : goal.returns-clause-leaves
-returns-clause-leaves g c = let P : HeldShard _ → Type 0 = λ s. EntriesLeaveOnceIn s.history.log in subst P c.self.view_is (leave_once _ c.self.invariant.4)
+returns-clause-leaves g c = let P : HeldShard _ → Type 0 = λ s. EntriesLeaveOnceIn s.history.log in subst P c.self.view_is (leave_once _ c.self.invariant.4 c.self.invariant.9.ids)
 
 pub returns-clause-ended : goal.returns-clause-ended
-returns-clause-ended g c = let P : HeldShard _ → Type 0 = λ s. EndedStaysEndedIn s.history.log in subst P c.self.view_is (ended_stays _ c.self.invariant.4)
+returns-clause-ended g c = let P : HeldShard _ → Type 0 = λ s. EndedStaysEndedIn s.history.log in subst P c.self.view_is (ended_stays _ c.self.invariant.4 c.self.invariant.9.ids)
 
 pub returns-clause-due : goal.returns-clause-due
-returns-clause-due g c = let P : HeldShard _ → Type 0 = λ s. DeadlinesHoldIn s.history.log in subst P c.self.view_is (deadlines_hold _ c.self.invariant.4)
+returns-clause-due g c = let P : HeldShard _ → Type 0 = λ s. DeadlinesHoldIn s.history.log in subst P c.self.view_is (deadlines_hold _ c.self.invariant.4 c.self.invariant.9.ids)

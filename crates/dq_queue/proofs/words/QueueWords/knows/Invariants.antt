@@ -1,4 +1,4 @@
-use Rattle.std.proofs.Common.{◌≡◌, ℕ, ◌<◌, true}
+use Rattle.std.proofs.Common.{◌≡◌, ◌≢◌, ℕ, ◌<◌, true, false}
 use Rattle.dq_directory.specs.Claims.{Claimed}
 use Rattle.dq_words.specs.OpenCalls.{Open}
 use Rattle.dq_queue.specs.Claims.{IsClaimAt, HasClaim}
@@ -8,3 +8,4 @@ abbrev pub invariant-loop-at : goal.invariant-loop-at
 invariant-loop-at g l =
     ((j : ℕ) (k : Claimed Open) → j < l.at → IsClaimAt l.claims j k → k.number ≡ l.claim.number → k.thing ≡ l.claim.thing)
     × (l.has ≡ true → HasClaim l.claims l.claim.number)
+    × (l.has ≡ false → (j : ℕ) (k : Claimed Open) → j < l.at → IsClaimAt l.claims j k → k.number ≢ l.claim.number)
