@@ -1,4 +1,4 @@
--- What a call leaves of the cores that are out of a shard, and of the ids that entries had been given.
+-- What a call leaves of the cores that are away from a shard, and of the ids that entries had been given.
 use Rattle.std.proofs.Common.{◌≡◌, ◌≢◌, ◌⊎◌, ℕ, ◌≤◌, arith, Bool, true, false, true≢false, not, List, [], ◌∷◌, ◌++◌, length, Option, Some, None, Result, Ok, Err, OnOk, OnErr, refl, sym, ap, ◌∙◌, subst, inl, inr, ⊎_elim}
 use mathlib.Core.Logic.{dite}
 use native.Mathlib.Decide.{ℕ_discrete}
@@ -26,8 +26,8 @@ use Rattle.dq_words.specs.OpenCalls.{Open}
 use Rattle.dq_words.specs.Seats.{Sat}
 use Rattle.dq_queue.specs.Calls.{HasGiven, IsStoreCall, StoreTakesIn, StoreGives}
 use Rattle.dq_queue.specs.Claims.{AreClaimed, AreClaimsOf, BringsNoCore, ClaimsWords, HasClaim, IsClaimAt, IsClaimed}
-use Rattle.dq_queue.specs.Loans.{is_out, IsLent, IsLentCore, IsLentFold, IsOut, IsOutBy, IsStill, LoansAreKept}
-use Rattle.dq_queue.specs.Runs.{ByCall, KeepsGivenIds, WasGivenIn}
+use Rattle.dq_queue.specs.Loans.{is_away, IsLent, IsLentCore, IsLentFold, IsAway, IsAwayBy, IsStill, LoansAreKept}
+use Rattle.dq_queue.specs.Runs.{ByCall, IsNewNumber, KeepsGivenIds, WasGivenIn}
 use Rattle.dq_queue.specs.Shards.{Held, IsAsLeft, IsStoreHistory}
 use Rattle.dq_queue.proofs.Claims.{claim_before, claim_last, claim_more, comes_claimed, gives_none, more_claimed, same_cores, still_claimed}
 use Rattle.dq_queue.proofs.Runs.{BringsNone, by_call, keeps_id, used_in}
@@ -59,14 +59,14 @@ module _ {E : Type 0} where
 module _ {T : Type 0} where
   -- the entries of a register
 
-  -- whoever is out was not out before it left
-  in_before : (mine rest : List (Entry (Core T Sat))) (e : Entry (Core T Sat)) → mine ≡ e ∷ rest → is_out rest ≡ false → is_out mine ≡ true
-  in_before mine rest e same out = ap is_out same ∙ ap not out
+  -- what is away was in before it left
+  in_before : (mine rest : List (Entry (Core T Sat))) (e : Entry (Core T Sat)) → mine ≡ e ∷ rest → is_away rest ≡ false → is_away mine ≡ true
+  in_before mine rest e same out = ap is_away same ∙ ap not out
 
   one_core : (k : ℕ) (c d : Core T Sat) (rest more : List (Entry (Core T Sat))) → entry k (Some c) ∷ rest ≡ entry k (Some d) ∷ more → c ≡ d
   one_core k c d rest more same = ap (λ (l : List (Entry (Core T Sat))). or_else c ((head_or (entry k (Some c)) l).left)) same
 
-  -- what is still a core that is out
+  -- what is still a core that is away
 
   still_itself : (c : Core T Sat) → IsStill c c.shard c.words.table (machine c)
   still_itself c = record { same = (refl, refl); past = λ u p. p }
@@ -114,40 +114,40 @@ module _ {T : Type 0} where
         ∙ (entries_here v.number h.log (entry v.number (Some x)) refl ∙ ap (λ (l : List (Entry (Core T Sat))). entry v.number (Some x) ∷ l) its_entries)
 
     -- of other loans it has the same entries
-    pub others_out : (k : ℕ) (c : Core T Sat) → v.number ≢ k → IsOut now k c → IsOut h.log k c
+    pub others_out : (k : ℕ) (c : Core T Sat) → v.number ≢ k → IsAway now k c → IsAway h.log k c
     others_out k c ne out =
         let same : entries_by k now ≡ entries_by k h.log = ap (λ (l : List (Entry (Core T Sat))). entries_by k l) all ∙ entries_else k h.log (entry v.number (Some x)) ne in
         (out.0, sym same ∙ out.1, out.2)
 
-    -- where its core was out, it is out no more
-    pub not_out : (b c : Core T Sat) → IsOutBy v.mine v.number b → IsOut now v.number c → ⊥
+    -- where its core was away, it is away no more
+    pub not_out : (b c : Core T Sat) → IsAwayBy v.mine v.number b → IsAway now v.number c → ⊥
     not_out b c was out =
         let same : v.mine ≡ out.0 = ap rest_of (sym its_entries_now ∙ out.1) in
-        off (is_out v.mine) (in_before v.mine was.0 (entry v.number (Some b)) was.1 was.2) (ap is_out same ∙ out.2)
+        off (is_away v.mine) (in_before v.mine was.0 (entry v.number (Some b)) was.1 was.2) (ap is_away same ∙ out.2)
 
-    -- where it was not, this core is out
-    pub one_out : (c : Core T Sat) → IsOut now v.number c → x ≡ c
+    -- where it was not, this core is away
+    pub one_out : (c : Core T Sat) → IsAway now v.number c → x ≡ c
     one_out c out = one_core v.number x c v.mine out.0 (sym its_entries_now ∙ out.1)
 
     -- this core is lent by it
-    pub lent_now : IsWithNumber w → is_out v.mine ≡ false → IsLentCore w x
+    pub lent_now : IsWithNumber w → is_away v.mine ≡ false → IsLentCore w x
     lent_now numbered in_it = (numbered, (x, (v.mine, enters.3 ∙ ap (λ (n : ℕ). entry n (Some x) ∷ v.mine) (sym enters.5), in_it), still_itself x))
 
-    -- a core that was out is in
-    pub in_again : (b : Core T Sat) → IsOutBy v.mine v.number b → is_out w.mine ≡ false
-    in_again b was = ap is_out enters.3 ∙ ap not (in_before v.mine was.0 (entry v.number (Some b)) was.1 was.2)
+    -- a core that was away is in
+    pub in_again : (b : Core T Sat) → IsAwayBy v.mine v.number b → is_away w.mine ≡ false
+    in_again b was = ap is_away enters.3 ∙ ap not (in_before v.mine was.0 (entry v.number (Some b)) was.1 was.2)
 
-    pub out_before : (b : Core T Sat) → IsOutBy v.mine v.number b → IsOut h.log v.number b
+    pub out_before : (b : Core T Sat) → IsAwayBy v.mine v.number b → IsAway h.log v.number b
     out_before b was = (was.0, its_entries ∙ was.1, was.2)
 
   -- one call more
 
   -- what a call has to leave, that the shard's word be kept
   pub record Leaves (log : List (Entry (Held T))) (b : StoreState T Sat) (more : List (Entry (Core T Sat))) (is : List (Claimed Open)) : Type 0 where
-    pub away : (k : ℕ) (c : Core T Sat) → IsOut more k c → HasNo b.cores.cores c.shard
-    pub claimed : (k : ℕ) (c : Core T Sat) → IsOut more k c → IsClaimed is c
-    pub past : (u : EntryId) → WasGivenIn log u → (k : ℕ) (c : Core T Sat) → IsOut more k c → ArePastBy (numbers_of u) c
-    pub apart : (k l : ℕ) (c d : Core T Sat) → IsOut more k c → IsOut more l d → c.shard ≡ d.shard → k ≡ l
+    pub away : (k : ℕ) (c : Core T Sat) → IsAway more k c → HasNo b.cores.cores c.shard
+    pub claimed : (k : ℕ) (c : Core T Sat) → IsAway more k c → IsClaimed is c
+    pub past : (u : EntryId) → WasGivenIn log u → (k : ℕ) (c : Core T Sat) → IsAway more k c → ArePastBy (numbers_of u) c
+    pub apart : (k l : ℕ) (c d : Core T Sat) → IsAway more k c → IsAway more l d → c.shard ≡ d.shard → k ≡ l
 
   kept_by : (log : List (Entry (Held T))) (e : Entry (Held T)) (a b : Held T) (u : EntryId) → e.left ≡ Some b → IsAsLeft log a → WasGivenIn log u → KeepsId a.store b.store u
       → ByCall (λ s t. KeepsId s t u) e log
@@ -178,14 +178,14 @@ module _ {T : Type 0} where
           (k.0, k.1, k.2, k.3.0 ∙ core.2.1)
       known u (inr older) = let k = old.known u older in (k.0, k.1, wider k.0 k.1 k.2, k.3)
 
-      past : (u : EntryId) → WasGivenIn (e ∷ log) u → (k : ℕ) (c : Core T Sat) → IsOut more k c → ArePastBy (numbers_of u) c
+      past : (u : EntryId) → WasGivenIn (e ∷ log) u → (k : ℕ) (c : Core T Sat) → IsAway more k c → ArePastBy (numbers_of u) c
       past u (inl now) k c out =
           let g = given_now u now in
           let core = g.1 in
           λ same. absurd (leaves.away k c out core.0 core.1 core.2.0 (core.2.1 ∙ same))
       past u (inr older) k c out = leaves.past u older k c out
 
-  -- at first nothing is given, and no core is out
+  -- at first nothing is given, and no core is away
   pub none_yet : (h : View (Held T)) (g : View (Core T Sat)) (a : Held T) (claims : List (Claimed Open)) → h ≡ first_witness → g ≡ first_witness
       → LoansAreKept h.log a.store g.log claims
   none_yet h g a claims history loans =
@@ -200,8 +200,8 @@ module _ {T : Type 0} where
       } in
       subst P (λ n. (ap (λ (v : View (Held T)). v.log) (sym history) n, ap (λ (v : View (Core T Sat)). v.log) (sym loans) n)) first
     where
-      none : (k : ℕ) (c : Core T Sat) → IsOut [] k c → ⊥
-      none k c out = off (is_out (entry k (Some c) ∷ out.0)) (ap not out.2) (ap is_out (sym out.1))
+      none : (k : ℕ) (c : Core T Sat) → IsAway [] k c → ⊥
+      none k c out = off (is_away (entry k (Some c) ∷ out.0)) (ap not out.2) (ap is_away (sym out.1))
 
   -- a call that brings no core
 
@@ -261,7 +261,7 @@ module _ {T : Type 0} where
       all : AreClaimed b.store.cores.cores is
       all = comes_claimed a.store b.store c is takes.0 (more_claimed a.store.cores.cores was is wider claimed) (length was, own, claim_last was own, words)
 
-      away : (k : ℕ) (d : Core T Sat) → IsOut loans k d → HasNo b.store.cores.cores d.shard
+      away : (k : ℕ) (d : Core T Sat) → IsAway loans k d → HasNo b.store.cores.cores d.shard
       away k d out i x core same =
           let P : List (Core T Sat) → Type 0 = λ l. IsCoreAt l i x in
           ⊎_elim
@@ -271,6 +271,12 @@ module _ {T : Type 0} where
           let n : c.shard ≡ d.shard = ap (λ (q : Core T Sat). q.shard) y.1 ∙ same in
           fresh (z.0, z.1, z.2, z.3.0 ∙ (sym n ∙ sym words.0)))
           (at_snoc a.store.cores.cores c x i (subst P takes.0.cores core))
+
+  -- a number that no claim has is a new one
+  pub new_number : (log : List (Entry (Held T))) (s : StoreState T Sat) (loans : List (Entry (Core T Sat))) (was : List (Claimed Open)) (c : Core T Sat) (own : Claimed Open)
+      (r : Result (Unit {0}) (TakeError × Core T Sat)) → LoansAreKept log s loans was → OnOk r (¬ HasClaim was own.number) → ClaimsWords own c → OnOk r (IsNewNumber log c.shard)
+  new_number log s loans was c own (Ok done) old fresh words = λ u given same. let y = old.known u given in fresh (y.0, y.1, y.2, y.3 ∙ (same ∙ sym words.0))
+  new_number log s loans was c own (Err e) old fresh words = tt {0}
 
   -- so it is of a core that comes in with its claim, if it has a new number; refused, it is as it was
   pub takes_new : (rows : List Named) (log : List (Entry (Held T))) (e : Entry (Held T)) (a b : Held T) (loans : List (Entry (Core T Sat))) (was is : List (Claimed Open)) (c : Core T Sat)
@@ -302,24 +308,24 @@ module _ {T : Type 0} where
         step log e a b h.log now was was old left at keeps (still_claimed a.store b.store was brings claimed) (λ j k y. y)
         (record {
           away = λ k d out. ⊎_elim
-              (λ (y : IsOut h.log k d). no_core_of a.store b.store d.shard brings (old.away k d y))
+              (λ (y : IsAway h.log k d). no_core_of a.store b.store d.shard brings (old.away k d y))
               (λ (y : (v.number ≡ k) × (c ≡ d)). let P : Core T Sat → Type 0 = λ x. HasNo b.store.cores.cores x.shard in subst P y.1 none)
               (which k d out);
           claimed = λ k d out. ⊎_elim
-              (λ (y : IsOut h.log k d). old.claimed k d y)
+              (λ (y : IsAway h.log k d). old.claimed k d y)
               (λ (y : (v.number ≡ k) × (c ≡ d)). let P : Core T Sat → Type 0 = λ x. IsClaimed was x in subst P y.1 own)
               (which k d out);
           past = λ u given k d out. ⊎_elim
-              (λ (y : IsOut h.log k d). old.past u given k d y)
+              (λ (y : IsAway h.log k d). old.past u given k d y)
               (λ (y : (v.number ≡ k) × (c ≡ d)). let P : Core T Sat → Type 0 = λ x. ArePastBy (numbers_of u) x in subst P y.1 (anew.drained u a.store c b.store.cores (used u given) gives.0))
               (which k d out);
           apart = λ k l d x out other same. ⊎_elim
-              (λ (y : IsOut h.log k d). ⊎_elim
-              (λ (z : IsOut h.log l x). old.apart k l d x y z same)
+              (λ (y : IsAway h.log k d). ⊎_elim
+              (λ (z : IsAway h.log l x). old.apart k l d x y z same)
               (λ (z : (v.number ≡ l) × (c ≡ x)). absurd (was_in k d y (same ∙ sym (number z.1))))
               (which l x other))
               (λ (y : (v.number ≡ k) × (c ≡ d)). ⊎_elim
-              (λ (z : IsOut h.log l x). absurd (was_in l x z (sym same ∙ sym (number y.1))))
+              (λ (z : IsAway h.log l x). absurd (was_in l x z (sym same ∙ sym (number y.1))))
               (λ (z : (v.number ≡ l) × (c ≡ x)). sym y.0 ∙ z.0)
               (which l x other))
               (which k d out);
@@ -340,13 +346,13 @@ module _ {T : Type 0} where
         number : {d : Core T Sat} → c ≡ d → c.shard ≡ d.shard
         number e = ap (λ (x : Core T Sat). x.shard) e
 
-        -- no core of its number was out while it was in
-        was_in : (k : ℕ) (d : Core T Sat) → IsOut h.log k d → d.shard ≡ c.shard → ⊥
+        -- no core of its number was away while it was in
+        was_in : (k : ℕ) (d : Core T Sat) → IsAway h.log k d → d.shard ≡ c.shard → ⊥
         was_in k d out same = old.away k d out gives.0.place c gives.0.drained.0 (sym same)
 
-        which : (k : ℕ) (d : Core T Sat) → IsOut now k d → IsOut h.log k d ⊎ ((v.number ≡ k) × (c ≡ d))
+        which : (k : ℕ) (d : Core T Sat) → IsAway now k d → IsAway h.log k d ⊎ ((v.number ≡ k) × (c ≡ d))
         which k d out = dite (ℕ_discrete v.number k)
-            (λ same. let P : ℕ → Type 0 = λ n. IsOut now n d in inr (same, one_out h v w c enters now is d (subst P (sym same) out)))
+            (λ same. let P : ℕ → Type 0 = λ n. IsAway now n d in inr (same, one_out h v w c enters now is d (subst P (sym same) out)))
             (λ ne. inl (others_out h v w c enters now is k d ne out))
 
   -- a core that left comes back
@@ -359,7 +365,7 @@ module _ {T : Type 0} where
     still : IsStill gone c.shard c.words.table (machine c)
     still = lent.1.2
 
-    was_out : IsOut h.log v.number gone
+    was_out : IsAway h.log v.number gone
     was_out = out_before h v w c enters now is gone lent.1.1
 
     past_by : (u : EntryId) → WasGivenIn log u → ArePastBy (numbers_of u) c
@@ -368,10 +374,10 @@ module _ {T : Type 0} where
     own : IsClaimed was c
     own = let k = old.claimed v.number gone was_out in (k.0, k.1, k.2, (k.3.0 ∙ sym still.same.0, k.3.1 ∙ sym still.same.1))
 
-    -- the others that are out were out before
-    other : (k : ℕ) (d : Core T Sat) → IsOut now k d → (v.number ≢ k) × IsOut h.log k d
+    -- the others that are away were away before
+    other : (k : ℕ) (d : Core T Sat) → IsAway now k d → (v.number ≢ k) × IsAway h.log k d
     other k d out = dite (ℕ_discrete v.number k)
-        (λ same. let P : ℕ → Type 0 = λ n. IsOut now n d in absurd (not_out h v w c enters now is gone d lent.1.1 (subst P (sym same) out)))
+        (λ same. let P : ℕ → Type 0 = λ n. IsAway now n d in absurd (not_out h v w c enters now is gone d lent.1.1 (subst P (sym same) out)))
         (λ ne. (ne, others_out h v w c enters now is k d ne out))
 
     pub comes_back : StoreTakesIn c (Ok (tt {0})) a.store b.store → LoansAreKept (e ∷ log) b.store now was
@@ -385,7 +391,7 @@ module _ {T : Type 0} where
           apart = λ k l d x y z same. old.apart k l d x (other k d y).1 (other l x z).1 same;
         })
       where
-        away : (k : ℕ) (d : Core T Sat) → IsOut now k d → HasNo b.store.cores.cores d.shard
+        away : (k : ℕ) (d : Core T Sat) → IsAway now k d → HasNo b.store.cores.cores d.shard
         away k d out i x core same =
             let P : List (Core T Sat) → Type 0 = λ l. IsCoreAt l i x in
             let was_there = other k d out in
@@ -399,32 +405,32 @@ module _ {T : Type 0} where
     pub comes_claimed_back : StoreTakesIn c (Ok (tt {0})) a.store b.store → AreClaimed b.store.cores.cores was
     comes_claimed_back takes = comes_claimed a.store b.store c was takes.0 claimed own
 
-    -- refused, it is out again, as it is by later
+    -- refused, it is away again, as it is by then
     pub stays_out : (x y : View (Core T Sat)) (later : List (Entry (Core T Sat))) (call : IsStoreCall a.store b.store) → b.store.cores ≡ a.store.cores → x.log ≡ now → EntersOnce x w (Some c) y → later ≡ y.log
         → LoansAreKept (e ∷ log) b.store later was
     stays_out x y later call same log_is again is_later =
         step log e a b h.log later was was old left at (ids_kept log a b history old.ids at call brings) (still_claimed a.store b.store was brings claimed) (λ j k z. z)
         (record {
           away = λ k d out. ⊎_elim
-              (λ (z : (v.number ≢ k) × IsOut h.log k d). no_core_of a.store b.store d.shard brings (old.away k d z.1))
+              (λ (z : (v.number ≢ k) × IsAway h.log k d). no_core_of a.store b.store d.shard brings (old.away k d z.1))
               (λ (z : (v.number ≡ k) × (c ≡ d)). let P : ℕ → Type 0 = λ n. HasNo b.store.cores.cores n in
               subst P (sym still.same.0 ∙ number z.1) (no_core_of a.store b.store gone.shard brings (old.away v.number gone was_out)))
               (which k d out);
           claimed = λ k d out. ⊎_elim
-              (λ (z : (v.number ≢ k) × IsOut h.log k d). old.claimed k d z.1)
+              (λ (z : (v.number ≢ k) × IsAway h.log k d). old.claimed k d z.1)
               (λ (z : (v.number ≡ k) × (c ≡ d)). let P : Core T Sat → Type 0 = λ q. IsClaimed was q in subst P z.1 own)
               (which k d out);
           past = λ u given k d out. ⊎_elim
-              (λ (z : (v.number ≢ k) × IsOut h.log k d). old.past u given k d z.1)
+              (λ (z : (v.number ≢ k) × IsAway h.log k d). old.past u given k d z.1)
               (λ (z : (v.number ≡ k) × (c ≡ d)). let P : Core T Sat → Type 0 = λ q. ArePastBy (numbers_of u) q in subst P z.1 (past_by u given))
               (which k d out);
           apart = λ k l d q out others alike. ⊎_elim
-              (λ (z : (v.number ≢ k) × IsOut h.log k d). ⊎_elim
-              (λ (o : (v.number ≢ l) × IsOut h.log l q). old.apart k l d q z.1 o.1 alike)
+              (λ (z : (v.number ≢ k) × IsAway h.log k d). ⊎_elim
+              (λ (o : (v.number ≢ l) × IsAway h.log l q). old.apart k l d q z.1 o.1 alike)
               (λ (o : (v.number ≡ l) × (c ≡ q)). absurd (z.0 (sym (old.apart k v.number d gone z.1 was_out (alike ∙ (sym (number o.1) ∙ still.same.0))))))
               (which l q others))
               (λ (z : (v.number ≡ k) × (c ≡ d)). ⊎_elim
-              (λ (o : (v.number ≢ l) × IsOut h.log l q). absurd (o.0 (old.apart v.number l gone q was_out o.1 (sym still.same.0 ∙ (number z.1 ∙ alike)))))
+              (λ (o : (v.number ≢ l) × IsAway h.log l q). absurd (o.0 (old.apart v.number l gone q was_out o.1 (sym still.same.0 ∙ (number z.1 ∙ alike)))))
               (λ (o : (v.number ≡ l) × (c ≡ q)). sym z.0 ∙ o.0)
               (which l q others))
               (which k d out);
@@ -439,7 +445,7 @@ module _ {T : Type 0} where
         n : w.number ≡ v.number
         n = enters.5
 
-        which : (k : ℕ) (d : Core T Sat) → IsOut later k d → ((v.number ≢ k) × IsOut h.log k d) ⊎ ((v.number ≡ k) × (c ≡ d))
+        which : (k : ℕ) (d : Core T Sat) → IsAway later k d → ((v.number ≢ k) × IsAway h.log k d) ⊎ ((v.number ≡ k) × (c ≡ d))
         which k d out = dite (ℕ_discrete w.number k)
-            (λ z. let P : ℕ → Type 0 = λ m. IsOut later m d in inr (sym n ∙ z, one_out x w y c again later is_later d (subst P (sym z) out)))
-            (λ ne. let P : List (Entry (Core T Sat)) → Type 0 = λ l. IsOut l k d in inl (other k d (subst P log_is (others_out x w y c again later is_later k d ne out))))
+            (λ z. let P : ℕ → Type 0 = λ m. IsAway later m d in inr (sym n ∙ z, one_out x w y c again later is_later d (subst P (sym z) out)))
+            (λ ne. let P : List (Entry (Core T Sat)) → Type 0 = λ l. IsAway l k d in inl (other k d (subst P log_is (others_out x w y c again later is_later k d ne out))))

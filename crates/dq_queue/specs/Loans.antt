@@ -1,6 +1,6 @@
--- Cores that are out of a shard: each left it drained, and may come back.
+-- Cores that are away from a shard: each left it drained, and may come back.
 --
--- Each that leaves has a number of its own, a loan's. A register of the shard has an entry of that
+-- Each that leaves has a loan, with a number of its own. A register of the shard has an entry of that
 -- number as the core leaves, and one more as it comes back.
 use Rattle.std.specs.Prelude.{◌≡◌, ℕ, ◌≤◌, Bool, false, not, List, [], ◌∷◌, Option, Some, None, Result, Ok, Err}
 use Rattle.atomic_table.specs.Seated.{TableId}
@@ -24,10 +24,10 @@ use Rattle.dq_queue.specs.Claims.{HasClaim, IsClaimed}
 use Rattle.dq_queue.specs.Runs.{KeepsGivenIds, WasGivenIn}
 use Rattle.dq_queue.specs.Shards.{Held}
 
--- whether a core is out, by its entries: one was made as it left, the next as it came back
-abbrev pub is_out : {E : Type 0} → List (Entry E) → Bool
-is_out [] = false
-is_out (e ∷ es) = not (is_out es)
+-- whether a core is away, by its loan's entries: one was made as it left, the next as it came back
+abbrev pub is_away : {E : Type 0} → List (Entry E) → Bool
+is_away [] = false
+is_away (e ∷ es) = not (is_away es)
 
 -- a core that left, the number of its shard, and what its loan knows
 pub record DrainedView (T : Type 0) : Type 0 where
@@ -42,15 +42,15 @@ pub record FoldedView (T : Type 0) : Type 0 where
   pub loan : View (Core T Sat)
 
 module _ {T : Type 0} where
-  -- by a loan's entries, a core is out as it was when it left
-  abbrev pub IsOutBy : List (Entry (Core T Sat)) → ℕ → Core T Sat → Type 0
-  IsOutBy mine loan c =
+  -- by its loan's entries a core is away; it was this when it left
+  abbrev pub IsAwayBy : List (Entry (Core T Sat)) → ℕ → Core T Sat → Type 0
+  IsAwayBy mine loan c =
       (rest : List (Entry (Core T Sat))) × (mine ≡ entry loan (Some c) ∷ rest)
-      × (is_out rest ≡ false)
+      × (is_away rest ≡ false)
 
   -- so by a register
-  abbrev pub IsOut : List (Entry (Core T Sat)) → ℕ → Core T Sat → Type 0
-  IsOut register loan c = IsOutBy (entries_by loan register) loan c
+  abbrev pub IsAway : List (Entry (Core T Sat)) → ℕ → Core T Sat → Type 0
+  IsAway register loan c = IsAwayBy (entries_by loan register) loan c
 
   -- What a core has become has its number and its words, and gives no id anew that it wouldn't have
   -- given.
@@ -60,11 +60,11 @@ module _ {T : Type 0} where
         (u : EntryId) → ArePastBy (numbers_of u) c → u.shard ≡ number →
         u.born ≤ (table_at m u.index).stamp
 
-  -- what has that number, those words and that machine is still a core that is out by a loan
+  -- what has that number, those words and that machine is still a core that is away by a loan
   abbrev pub IsLent : View (Core T Sat) → ℕ → TableId → Machine T → Type 0
   IsLent loan number words m =
       IsWithNumber loan
-      × ((c : Core T Sat) × IsOutBy loan.mine loan.number c × IsStill c number words m)
+      × ((c : Core T Sat) × IsAwayBy loan.mine loan.number c × IsStill c number words m)
 
   -- so of a core, and of a folded one
   abbrev pub IsLentCore : View (Core T Sat) → Core T Sat → Type 0
@@ -73,20 +73,20 @@ module _ {T : Type 0} where
   abbrev pub IsLentFold : View (Core T Sat) → FoldedCore Sat → Type 0
   IsLentFold loan f = IsLent loan f.shard f.words.table (folded_machine f)
 
-  -- What a shard keeps of its history and of the cores that are out: no core of their numbers is in
-  -- the store, and none of them gives an id anew that an entry had been given.
+  -- What a shard keeps of its history and of the cores that are away: none of them gives an id anew
+  -- that an entry had been given, and no core of their numbers is in the store.
   pub record LoansAreKept (log : List (Entry (Held T))) (store : StoreState T Sat)
       (register : List (Entry (Core T Sat))) (claims : List (Claimed Open)) : Type 0 where
     pub ids : KeepsGivenIds log
     pub known : (u : EntryId) → WasGivenIn log u → HasClaim claims u.shard
     pub past :
-        (u : EntryId) → WasGivenIn log u → (loan : ℕ) (c : Core T Sat) → IsOut register loan c →
+        (u : EntryId) → WasGivenIn log u → (loan : ℕ) (c : Core T Sat) → IsAway register loan c →
         ArePastBy (numbers_of u) c
     pub away :
-        (loan : ℕ) (c : Core T Sat) → IsOut register loan c → HasNo store.cores.cores c.shard
-    pub claimed : (loan : ℕ) (c : Core T Sat) → IsOut register loan c → IsClaimed claims c
+        (loan : ℕ) (c : Core T Sat) → IsAway register loan c → HasNo store.cores.cores c.shard
+    pub claimed : (loan : ℕ) (c : Core T Sat) → IsAway register loan c → IsClaimed claims c
     pub apart :
-        (loan other : ℕ) (c d : Core T Sat) → IsOut register loan c → IsOut register other d →
+        (loan other : ℕ) (c d : Core T Sat) → IsAway register loan c → IsAway register other d →
         c.shard ≡ d.shard → loan ≡ other
 
   -- the core of what left, where a core did
@@ -99,12 +99,12 @@ module _ {T : Type 0} where
   StoreGivesOut r s t = StoreGives (core_out r) s t
 
   -- the answer to a core that comes back, with the core alone
-  abbrev pub core_answer :
+  abbrev pub bare_answer :
       Result (Unit {0}) (TakeError × DrainedView T) → Result (Unit {0}) (TakeError × Core T Sat)
-  core_answer (Ok done) = Ok done
-  core_answer (Err e) = Err (e.0, e.1.core)
+  bare_answer (Ok done) = Ok done
+  bare_answer (Err e) = Err (e.0, e.1.core)
 
   -- a core that left comes back in
   abbrev pub StoreTakesBack : DrainedView T → Result (Unit {0}) (TakeError × DrainedView T) →
       StoreState T Sat → StoreState T Sat → Type 0
-  StoreTakesBack d r s t = StoreTakesIn d.core (core_answer r) s t
+  StoreTakesBack d r s t = StoreTakesIn d.core (bare_answer r) s t

@@ -1,5 +1,5 @@
 -- What holds over all calls of a shard's history, whoever made them.
-use Rattle.std.specs.Prelude.{◌≡◌, ◌⊎◌, ℕ, ◌≤◌, Ok, Option, List, [], ◌∷◌, ◌++◌, Some}
+use Rattle.std.specs.Prelude.{◌≡◌, ◌≢◌, ◌⊎◌, ℕ, ◌≤◌, Ok, Option, List, [], ◌∷◌, ◌++◌, Some}
 use Rattle.dq_ticks.specs.declared.keys.EntryId.{EntryId}
 use Rattle.dq_ticks.specs.declared.keys.Key.{Key}
 use Rattle.dq_core.specs.declared.outcomes.Expired.{Expired}
@@ -33,6 +33,10 @@ module _ {T : Type 0} where
   WasGivenIn [] u = ⊥
   WasGivenIn (e ∷ es) u =
       ((h : Held T) × (e.left ≡ Some h) × HasGiven h.store u) ⊎ WasGivenIn es u
+
+  -- by no call of a history an entry had been given an id of a number
+  abbrev pub IsNewNumber : List (Entry (Held T)) → ℕ → Type 0
+  IsNewNumber log number = (u : EntryId) → WasGivenIn log u → u.shard ≢ number
 
   -- each call of a history kept each id that an entry had been given by then
   abbrev pub KeepsGivenIds : List (Entry (Held T)) → Type 0

@@ -1,4 +1,4 @@
-//! Cores that are out of a shard. Each left it drained, and may come back as it is, or once it was folded and unfolded.
+//! Cores that are away from a shard. Each left it drained, and may come back as it is, or once it was folded and unfolded.
 ghost use Rattle.std.specs.Prelude.{◌≡◌, max, IfErr, IfOk, IsErr, OnErr, OnOk};
 ghost use Rattle.dq_core.specs.Core.{machine};
 ghost use Rattle.dq_core.specs.Folds.{IsFoldable, at_tick, folded_machine};
@@ -12,7 +12,7 @@ use dq_words::Keeper;
 use std::alloc::{Allocator, Global};
 use std::marker::{Model, PhantomData};
 
-/// A core that left its shard drained. Nothing is put into it while it is out, so it gives no id anew that an entry of the
+/// A core that left its shard drained. Nothing is put into it while it is away, so it gives no id anew that an entry of the
 /// shard had been given.
 #[derive(Drop)]
 pub struct Drained<T, J: Rooms, A: Allocator = Global> {

@@ -11,7 +11,7 @@ ghost use Rattle.dq_queue.specs.Calls.{KeepsPromise, StorePollsBeside};
 ghost use Rattle.dq_queue.specs.Calls.{StoreTakesIn, StoreGives, StoreRelocates, StoreReaps};
 ghost use Rattle.dq_queue.specs.Claims.{AreClaimed, AreClaimsOf, BringsNoCore, ClaimsWords, HasClaim, IsOfItsWords};
 ghost use Rattle.dq_queue.specs.Loans.{StoreGivesOut, StoreTakesBack};
-ghost use Rattle.dq_queue.specs.Runs.{DeadlinesHoldIn, EndedStaysEndedIn, EntriesLeaveOnceIn};
+ghost use Rattle.dq_queue.specs.Runs.{DeadlinesHoldIn, EndedStaysEndedIn, EntriesLeaveOnceIn, IsNewNumber, KeepsGivenIds};
 ghost use Rattle.dq_queue.specs.Shards.{MadeOnce, OneMore, IsStoreHistory, unnamed};
 
 use crate::endings;
@@ -26,7 +26,7 @@ use dq_words::{Keeper, OpenWords};
 use std::alloc::{AllocError, Allocator, Global};
 use std::marker::{Brand, Model, PhantomData};
 
-/// Names a queue: how many shards it has and, of each by its number, the history and the register of the cores that are out;
+/// Names a queue: how many shards it has and, of each by its number, the history and the register of the cores that are away;
 /// and the directory of its cores' words.
 pub trait Rooms {
     ghost use Rattle.std.specs.Prelude.{ℕ, List};
@@ -254,7 +254,7 @@ impl<T, A: Allocator + Clone> Held<T, A> {
 }
 
 /// A shard, whose history is that which its number names, and the words of whose cores stand in the queue's directory. It
-/// has a register of the cores that are out of it.
+/// has a register of the cores that are away from it.
 #[derive(Drop)]
 pub struct Shard<T, J: Rooms, A: Allocator = Global> {
     held: Held<T, A>,
@@ -379,7 +379,9 @@ impl<T, J: Rooms, A: Allocator> Shard<T, J, A> {
         ensures told { IsTold self.old.history me.old.history me.new.history }
         ensures history { IsStoreHistory self.old.history.log }
 
-        // Whoever made the calls, each entry leaves at most once, and what has ended stays ended.
+        // Whoever made the calls, and whatever cores left and came back: each id that an entry had been given stayed its
+        // own, each entry leaves at most once, and what has ended stays ended.
+        ensures ids { KeepsGivenIds self.old.history.log }
         ensures leaves { EntriesLeaveOnceIn self.old.history.log }
         ensures ended { EndedStaysEndedIn self.old.history.log }
         ensures due { DeadlinesHoldIn self.old.history.log }
@@ -558,6 +560,7 @@ impl<T, J: Rooms, A: Allocator + Clone> Shard<T, J, A> {
         requires claim { IsOf J.rows claim.now × ClaimsWords claim.now core }
         ensures once { MadeOnce me.old (λ s t. StoreTakesIn core result s t) me.new }
         ensures one_more { OneMore self.old me.old self.new }
+        ensures fresh { OnOk result (IsNewNumber self.old.history.log core.shard) }
         ensures takes { StoreTakesIn core result self.old.held.store self.new.held.store }
         ensures number { self.new.held.number ≡ self.old.held.number }
     {

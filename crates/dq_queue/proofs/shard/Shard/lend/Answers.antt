@@ -4,7 +4,7 @@ use Rattle.dq_journal.specs.History.{entry}
 use Rattle.dq_growing.specs.Store.{StoreState}
 use Rattle.dq_words.specs.Seats.{Sat}
 use Rattle.dq_queue.specs.Calls.{StoreGives, IsStoreCall}
-use Rattle.dq_queue.specs.Loans.{core_out, is_out}
+use Rattle.dq_queue.specs.Loans.{core_out, is_away}
 use Rattle.dq_queue.specs.Shards.{CallerView, Held, HeldShard}
 use Rattle.dq_queue.proofs.Claims.{still_claimed}
 use Rattle.dq_queue.proofs.Histories.{goes_on_so, once, stays}
@@ -25,7 +25,7 @@ invariant_of-result g c =
     let loan = c.enter_for-in-Some.ensures in (
       loan.tables.1 ∙ (c.requires.table ∙ ap g.J.Rooms.loans (sym c.number-shard.ensures)),
       lent_now c.self.inside.loans.view c.args.loan.view c.enter_for-in-Some.new.caller.view c.in-Some.core loan.once c.enter_for-in-Some.new.self.view.log loan.log loan.caller
-          (ap is_out c.requires.unused.1),
+          (ap is_away c.requires.unused.1),
     )
 
 pub invariant_of-self-in-Some : goal.invariant_of-self-in-Some

@@ -6,7 +6,7 @@ use Rattle.dq_growing.specs.declared.cores.TakeError.{TakeError}
 use Rattle.dq_growing.specs.Store.{StoreState}
 use Rattle.dq_words.specs.Seats.{Sat}
 use Rattle.dq_queue.specs.Calls.{StoreTakesIn, IsStoreCall}
-use Rattle.dq_queue.specs.Loans.{core_answer, DrainedView}
+use Rattle.dq_queue.specs.Loans.{bare_answer, DrainedView}
 use Rattle.dq_queue.specs.Shards.{CallerView, Held, HeldShard}
 use Rattle.dq_queue.proofs.Claims.{same_cores, still_claimed}
 use Rattle.dq_queue.proofs.Histories.{goes_on_so, once}
@@ -66,13 +66,13 @@ pub returns-clause-once : goal.returns-clause-once
 returns-clause-once g c =
     let s = c.self.invariant in
     let made = c.take_in-answer in
-    let gives : StoreState _ Sat → StoreState _ Sat → Type 0 = λ s t. StoreTakesIn c.args.drained.core (core_answer c.match-answer.result) s t in
+    let gives : StoreState _ Sat → StoreState _ Sat → Type 0 = λ s t. StoreTakesIn c.args.drained.core (bare_answer c.match-answer.result) s t in
     let call : IsStoreCall c.self.inside.held.store made.new.self.store = inr (inr (inr (inr (inr (inl (c.drained.inside.core, made.result, made.ensures.takes)))))) in
     let at = ap (λ (s : HeldShard _). s.held.number) c.self.view_is ∙ (sym c.requires.number ∙ sym (ap (λ (v : CallerView _). v.shard) c.me.view_is)) in
     let own = ap (λ (d : DrainedView _). d.core) c.drained.view_is in
-    let same : made.result ≡ core_answer c.match-answer.result = elim c.match-answer.branch [
-      | in-Ok w ↦ w.in-Ok.is ∙ sym (ap core_answer w.result-is)
-      | in-Err w ↦ w.in-Err.is ∙ sym (ap core_answer w.result-is)
+    let same : made.result ≡ bare_answer c.match-answer.result = elim c.match-answer.branch [
+      | in-Ok w ↦ w.in-Ok.is ∙ sym (ap bare_answer w.result-is)
+      | in-Err w ↦ w.in-Err.is ∙ sym (ap bare_answer w.result-is)
     ] in
     let P : Core _ Sat × Result (Unit {0}) (TakeError × Core _ Sat) → Type 0 = λ x. StoreTakesIn x.0 x.1 c.self.inside.held.store made.new.self.store in
     once gives c.self.inside.history.view c.me.inside.history.view c.enter_for-2.new.caller.view c.me.inside.shard _ c.self.inside.held made.new.self c.me.view_is
@@ -82,9 +82,9 @@ pub returns-clause-takes : goal.returns-clause-takes
 returns-clause-takes g c =
     let made = c.take_in-answer in
     let own = ap (λ (d : DrainedView _). d.core) c.drained.view_is in
-    let same : made.result ≡ core_answer c.match-answer.result = elim c.match-answer.branch [
-      | in-Ok w ↦ w.in-Ok.is ∙ sym (ap core_answer w.result-is)
-      | in-Err w ↦ w.in-Err.is ∙ sym (ap core_answer w.result-is)
+    let same : made.result ≡ bare_answer c.match-answer.result = elim c.match-answer.branch [
+      | in-Ok w ↦ w.in-Ok.is ∙ sym (ap bare_answer w.result-is)
+      | in-Err w ↦ w.in-Err.is ∙ sym (ap bare_answer w.result-is)
     ] in
     let after : c.match-answer.self.held ≡ made.new.self = elim c.match-answer.branch [
       | in-Ok w ↦ ap (λ (s : HeldShard _). s.held) w.self-is

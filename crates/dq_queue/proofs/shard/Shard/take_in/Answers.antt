@@ -1,11 +1,12 @@
-use Rattle.std.proofs.Common.{Some, refl, sym, ap, ◌∙◌, subst, inl, inr}
+use Rattle.std.proofs.Common.{OnOk, Some, refl, sym, ap, ◌∙◌, subst, inl, inr}
 use Rattle.dq_journal.specs.History.{entry}
 use Rattle.dq_growing.specs.Store.{StoreState}
 use Rattle.dq_words.specs.Seats.{Sat}
 use Rattle.dq_queue.specs.Calls.{StoreTakesIn, IsStoreCall}
+use Rattle.dq_queue.specs.Runs.{IsNewNumber}
 use Rattle.dq_queue.specs.Shards.{CallerView, HeldShard}
 use Rattle.dq_queue.proofs.Histories.{goes_on_so, once, one_name}
-use Rattle.dq_queue.proofs.Lending.{takes_new}
+use Rattle.dq_queue.proofs.Lending.{new_number, takes_new}
 use Rattle.dq_queue.proofs.shard.Shard.take_in.Goals as goal
 
 pub enter_for-requires-clause-table : goal.enter_for-requires-clause-table
@@ -42,3 +43,10 @@ returns-clause-takes g c =
     let made = c.take_new-answer in
     let P : HeldShard _ → Type 0 = λ s. StoreTakesIn c.args.core made.result s.held.store made.new.self.store in
     subst P c.self.view_is made.ensures.takes
+
+pub returns-clause-fresh : goal.returns-clause-fresh
+returns-clause-fresh g c =
+    let made = c.take_new-answer in
+    let P : HeldShard _ → Type 0 = λ s. OnOk made.result (IsNewNumber s.history.log c.args.core.shard) in
+    subst P c.self.view_is (new_number c.self.inside.history.view.log c.self.inside.held.store c.self.inside.loans.view.log c.self.inside.claims.items c.args.core c.args.claim.now made.result c.self.invariant.9
+    made.ensures.fresh c.requires.claim.1)

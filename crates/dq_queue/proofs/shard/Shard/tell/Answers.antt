@@ -1,5 +1,5 @@
 use Rattle.std.proofs.Common.{sym, ap, ◌∙◌, subst}
-use Rattle.dq_queue.specs.Runs.{EntriesLeaveOnceIn, EndedStaysEndedIn, DeadlinesHoldIn}
+use Rattle.dq_queue.specs.Runs.{KeepsGivenIds, EntriesLeaveOnceIn, EndedStaysEndedIn, DeadlinesHoldIn}
 use Rattle.dq_queue.specs.Shards.{CallerView, HeldShard}
 use Rattle.dq_queue.proofs.Histories.{one_name}
 use Rattle.dq_queue.proofs.Runs.{deadlines_hold, ended_stays, leave_once}
@@ -18,3 +18,6 @@ returns-clause-ended g c = let P : HeldShard _ → Type 0 = λ s. EndedStaysEnde
 
 pub returns-clause-due : goal.returns-clause-due
 returns-clause-due g c = let P : HeldShard _ → Type 0 = λ s. DeadlinesHoldIn s.history.log in subst P c.self.view_is (deadlines_hold _ c.self.invariant.4 c.self.invariant.9.ids)
+
+pub returns-clause-ids : goal.returns-clause-ids
+returns-clause-ids g c = let P : HeldShard _ → Type 0 = λ s. KeepsGivenIds s.history.log in subst P c.self.view_is c.self.invariant.9.ids
