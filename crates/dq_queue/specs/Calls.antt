@@ -35,7 +35,7 @@ module _ {T : Type 0} where
   abbrev pub HasOnly : StoreState T Sat → EntryId → T → Type 0
   HasOnly s u v = HasFor s u v × HasOneValue s u
 
-  -- an id is a used one, and the store has the core of its number
+  -- a store has given an id: it is a used one, and the core of its number is there
   abbrev pub HasGiven : StoreState T Sat → EntryId → Type 0
   HasGiven s u =
       IsUsedId s u × ((i : ℕ) × (c : Core T Sat) × HasAt s.cores.cores u.shard i c)

@@ -73,8 +73,9 @@ module _ {T : Type 0} where
   abbrev pub IsLentFold : View (Core T Sat) → FoldedCore Sat → Type 0
   IsLentFold loan f = IsLent loan f.shard f.words.table (folded_machine f)
 
-  -- What a shard keeps of its history and of the cores that are away: none of them gives an id anew
-  -- that an entry had been given, and no core of their numbers is in the store.
+  -- What a shard keeps of its history and of the cores that are away. Its claims have the number of
+  -- each id that had been given, and of each core that is away. None of these gives such an id anew,
+  -- no core of their numbers is in the store, and no two of them have one number.
   pub record LoansAreKept (log : List (Entry (Held T))) (store : StoreState T Sat)
       (register : List (Entry (Core T Sat))) (claims : List (Claimed Open)) : Type 0 where
     pub ids : KeepsGivenIds log

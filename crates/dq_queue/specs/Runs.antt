@@ -28,24 +28,24 @@ module _ {T : Type 0} where
   ByEach Did [] before = Unit {0}
   ByEach Did (e ∷ es) before = ByCall Did e (es ++ before) × ByEach Did es before
 
-  -- by a call of a history an entry had been given an id
+  -- a call of a history left a store that had given an id
   abbrev pub WasGivenIn : List (Entry (Held T)) → EntryId → Type 0
   WasGivenIn [] u = ⊥
   WasGivenIn (e ∷ es) u =
       ((h : Held T) × (e.left ≡ Some h) × HasGiven h.store u) ⊎ WasGivenIn es u
 
-  -- by no call of a history an entry had been given an id of a number
+  -- no call of a history left a store that had given an id of a number
   abbrev pub IsNewNumber : List (Entry (Held T)) → ℕ → Type 0
   IsNewNumber log number = (u : EntryId) → WasGivenIn log u → u.shard ≢ number
 
-  -- each call of a history kept each id that an entry had been given by then
+  -- each call of a history kept each id that had been given by then
   abbrev pub KeepsGivenIds : List (Entry (Held T)) → Type 0
   KeepsGivenIds [] = Unit {0}
   KeepsGivenIds (e ∷ es) =
       ((u : EntryId) → WasGivenIn es u → ByCall (λ s t. KeepsId s t u) e es) × KeepsGivenIds es
 
-  -- In a history an entry's call left that shard, and these newer entries came since. The id was
-  -- one that an entry had been given by then.
+  -- In a history an entry's call left that shard, and these newer entries came since. The id
+  -- had been given by then.
   pub record IsSince (log : List (Entry (Held T))) (u : EntryId) (h : Held T)
       (since : List (Entry (Held T))) : Type 0 where
     pub entry : Entry (Held T)

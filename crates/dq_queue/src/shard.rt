@@ -379,8 +379,8 @@ impl<T, J: Rooms, A: Allocator> Shard<T, J, A> {
         ensures told { IsTold self.old.history me.old.history me.new.history }
         ensures history { IsStoreHistory self.old.history.log }
 
-        // Whoever made the calls, and whatever cores left and came back: each id that an entry had been given stayed its
-        // own, each entry leaves at most once, and what has ended stays ended.
+        // Whoever made the calls, and whatever cores left and came back: no entry gets an id that had been given, each
+        // leaves at most once, and what has ended stays ended.
         ensures ids { KeepsGivenIds self.old.history.log }
         ensures leaves { EntriesLeaveOnceIn self.old.history.log }
         ensures ended { EndedStaysEndedIn self.old.history.log }
@@ -544,7 +544,7 @@ impl<T, J: Rooms, A: Allocator + Clone> Shard<T, J, A> {
     /// # Errors
     /// The core comes back, and nothing changes. In this order:
     /// - `NoMemory` if memory for the claim is refused.
-    /// - `UsedNumber` if the shard has a claim of its number: a core of the shard had it.
+    /// - `UsedNumber` if the shard has a claim of its number, as of that of each core which it had.
     /// - `UsedNumber` if an entry is known by an id of that number that was moved away from there, or to there.
     /// - `StillLinked` if an entry is linked in the core.
     /// - `UsedNumber` if a core of the shard has its number, or it is the last one of all.
