@@ -3,3 +3,4 @@ pub mod Histories
 pub mod Lending
 pub mod Outs
 pub mod Runs
+pub mod Totals

@@ -148,13 +148,13 @@ module _ {T : Type 0} where
 
   -- what that makes of an entry
 
-  stands_on : (u : EntryId) (v : T) (s t : StoreState T Sat) → KeepsId s t u → IsUsedId s u → HasOnly s u v → HasFor t u v → StandsOn u v s t
+  pub stands_on : (u : EntryId) (v : T) (s t : StoreState T Sat) → KeepsId s t u → IsUsedId s u → HasOnly s u v → HasFor t u v → StandsOn u v s t
   stands_on u v s t k used only has = ((has, (λ a b y z. only.1 a b (k.stood a y) (k.stood b z))), ((λ w z. z.1 has.0 has.1), (λ g. g.0 used)))
 
   leaves_with : (u : EntryId) (v : T) (s t : StoreState T Sat) → IsUsedId s u → HasOnly s u v → NoneStandsFor t u → LeavesWith u v s t
   leaves_with u v s t used only none = (none, (λ w z. only.1 w v z.0 only.0), (λ g. g.0 used))
 
-  stays_ended : (u : EntryId) (s t : StoreState T Sat) → KeepsId s t u → IsUsedId s u → NoneStandsFor s u → StaysEnded u s t
+  pub stays_ended : (u : EntryId) (s t : StoreState T Sat) → KeepsId s t u → IsUsedId s u → NoneStandsFor s u → StaysEnded u s t
   stays_ended u s t k used none = (
     (λ e z. let f = k.stood e.value (e, z, refl) in none f.0 f.1),
     ((λ v z. let f = z.0 in none f.0 f.1), (λ g. g.0 used)),

@@ -4,4 +4,5 @@ pub mod Endings
 pub mod Loans
 pub mod Runs
 pub mod Shards
+pub mod Totals
 pub mod Words

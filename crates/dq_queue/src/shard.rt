@@ -12,6 +12,7 @@ ghost use Rattle.dq_queue.specs.Calls.{StoreTakesIn, StoreGives, StoreRelocates,
 ghost use Rattle.dq_queue.specs.Claims.{AreClaimed, AreClaimsOf, BringsNoCore, ClaimsWords, HasClaim, IsOfItsWords};
 ghost use Rattle.dq_queue.specs.Loans.{StoreGivesOut, StoreTakesBack};
 ghost use Rattle.dq_queue.specs.Runs.{DeadlinesHoldIn, EndedStaysEndedIn, EntriesLeaveOnceIn, IsNewNumber, KeepsGivenIds};
+ghost use Rattle.dq_queue.specs.Totals.{TotalsAgreeIn};
 ghost use Rattle.dq_queue.specs.Shards.{MadeOnce, OneMore, IsStoreHistory, unnamed};
 
 use crate::endings;
@@ -385,6 +386,9 @@ impl<T, J: Rooms, A: Allocator> Shard<T, J, A> {
         ensures leaves { EntriesLeaveOnceIn self.old.history.log }
         ensures ended { EndedStaysEndedIn self.old.history.log }
         ensures due { DeadlinesHoldIn self.old.history.log }
+
+        // As many entries came in as stand and have left.
+        ensures totals { TotalsAgreeIn self.old.history.log }
         ensures same { (me.new.shard ≡ me.old.shard) × (self.new.held ≡ self.old.held)
             × (self.new.history.log ≡ self.old.history.log) }
     {

@@ -1,8 +1,10 @@
 use Rattle.std.proofs.Common.{sym, ap, ◌∙◌, subst}
 use Rattle.dq_queue.specs.Runs.{KeepsGivenIds, EntriesLeaveOnceIn, EndedStaysEndedIn, DeadlinesHoldIn}
 use Rattle.dq_queue.specs.Shards.{CallerView, HeldShard}
+use Rattle.dq_queue.specs.Totals.{TotalsAgreeIn}
 use Rattle.dq_queue.proofs.Histories.{one_name}
 use Rattle.dq_queue.proofs.Runs.{deadlines_hold, ended_stays, leave_once}
+use Rattle.dq_queue.proofs.Totals.{totals_agree}
 use Rattle.dq_queue.proofs.shard.Shard.tell.Goals as goal
 
 pub tell-requires-clause-table : goal.tell-requires-clause-table
@@ -21,3 +23,6 @@ returns-clause-due g c = let P : HeldShard _ → Type 0 = λ s. DeadlinesHoldIn 
 
 pub returns-clause-ids : goal.returns-clause-ids
 returns-clause-ids g c = let P : HeldShard _ → Type 0 = λ s. KeepsGivenIds s.history.log in subst P c.self.view_is c.self.invariant.9.ids
+
+pub returns-clause-totals : goal.returns-clause-totals
+returns-clause-totals g c = let P : HeldShard _ → Type 0 = λ s. TotalsAgreeIn s.history.log in subst P c.self.view_is (totals_agree _ c.self.invariant.9.ids)
