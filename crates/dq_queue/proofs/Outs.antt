@@ -71,12 +71,12 @@ row_at [] i = refl
 row_at (x ∷ xs) zero = refl
 row_at (x ∷ xs) (suc i) = row_at xs i
 
-length_row : (xs : List ℕ) → length (parts_row xs) ≡ length xs
+pub length_row : (xs : List ℕ) → length (parts_row xs) ≡ length xs
 length_row [] = refl
 length_row (x ∷ xs) = ap suc (length_row xs)
 
 -- the seen word behind what is known of it
-seen_word : (known old : List Parts) (seen : List ℕ) (i : ℕ) (p : Parts)
+pub seen_word : (known old : List Parts) (seen : List ℕ) (i : ℕ) (p : Parts)
     → known ≡ parts_row seen → known ≡ set old i p → i < length old → get_or seen i 0 ≡ packed p
 seen_word known old seen i p is new inside =
     let at : word_at known i ≡ p = rw new (get_or-set_same old i p never inside) in

@@ -9,7 +9,7 @@ use Rattle.dq_core.specs.declared.outcomes.Piece.{Piece}
 use Rattle.dq_core.specs.declared.outcomes.Expired.{Expired}
 use Rattle.dq_core.specs.Core.{Core}
 use Rattle.dq_growing.specs.declared.cores.TakeError.{TakeError}
-use Rattle.dq_growing.specs.Cores.{HasAt, InsertsIn, TakesIn, GivesDrained, NoneDrained}
+use Rattle.dq_growing.specs.Cores.{HasAt, InsertsIn, IsCoreAt, TakesIn, GivesDrained, NoneDrained}
 use Rattle.dq_growing.specs.Notes.{Book, meant_place}
 use Rattle.dq_growing.specs.Moving.{IfTo, IfCameOut, UnlessTo}
 use Rattle.dq_growing.specs.Polls.{DoesPiece, IfPieceOut}
@@ -17,7 +17,7 @@ use Rattle.dq_growing.specs.Runs.{IsUsedId, KeepsIds, KeepsIdsBeside, GivesId, H
 use Rattle.dq_core.specs.declared.errors.ReapError.{ReapError}
 use Rattle.dq_growing.specs.declared.moving.Moved.{Moved}
 use Rattle.dq_growing.specs.declared.moving.NextDeadline.{NextDeadline}
-use Rattle.dq_growing.specs.Store.{StoreState, RemovesFor, TellsFor, ResetsFor, RelocatesFor, ReapsFor, PollsFor, HasFor, HasOneValue, GoesOut}
+use Rattle.dq_growing.specs.Store.{StoreState, RemovesFor, TellsFor, ResetsFor, RelocatesFor, ReapsFor, PollsFor, HasFor, HasOneValue, NoneStandsFor, GoesOut}
 use Rattle.dq_words.specs.Plays.{Covers}
 use Rattle.dq_words.specs.Seats.{Sat}
 use Rattle.dq_queue.specs.Words.{PromiseView}
@@ -44,6 +44,16 @@ module _ {T : Type 0} where
   abbrev pub ComesNew : StoreState T Sat → EntryId → T → StoreState T Sat → Type 0
   ComesNew s u v t = GivesId s u t × HasOnly t u v × HasGiven t u
 
+  -- each core has the number that the one at its place had
+  abbrev pub KeepsNumbers : StoreState T Sat → StoreState T Sat → Type 0
+  KeepsNumbers s t =
+      (i : ℕ) (b c : Core T Sat) → IsCoreAt s.cores.cores i b → IsCoreAt t.cores.cores i c →
+      c.shard ≡ b.shard
+
+  -- no entry left: where none stands under an id any more, none stood there before
+  abbrev pub NoneLeft : StoreState T Sat → StoreState T Sat → Type 0
+  NoneLeft s t = (u : EntryId) → NoneStandsFor t u → NoneStandsFor s u
+
   -- a value comes in at a deadline, under an id that no entry has had, and the notes stay
   abbrev pub StoreInserts : T → ℕ → Result Key (CoreError × T) × Option T → StoreState T Sat →
       StoreState T Sat → Type 0
@@ -59,12 +69,12 @@ module _ {T : Type 0} where
       RemovesFor true s id r t × KeepsIds s t × IfOk r (λ x. GoesOut s id x.value t)
       × HoldsDeadlines s t × IfOk r (λ x. LeavesInForce s id x.deadline)
 
-  -- an entry gets another deadline; refused, none falls
+  -- an entry gets another deadline, and none leaves; refused, no deadline falls
   abbrev pub StoreResets : EntryId → ℕ → Result Key CoreError × Option T → StoreState T Sat →
       StoreState T Sat → Type 0
   StoreResets id when r s t =
       ResetsFor true s id when r t × KeepsIds s t × HoldsOtherDeadlines id s t
-      × OnErr r.0 (HoldsDeadlines s t) × OnOk r.0 (NotDueBefore t id when)
+      × OnErr r.0 (HoldsDeadlines s t) × OnOk r.0 (NotDueBefore t id when) × NoneLeft s t
 
   -- an entry's deadline is told
   abbrev pub StoreTells : EntryId → Result ℕ CoreError → StoreState T Sat → StoreState T Sat → Type 0
@@ -77,7 +87,7 @@ module _ {T : Type 0} where
   StorePollsSome tick most r s t =
       PollsFor (DoesPiece true most) s tick r t × KeepsIds s t
       × IfPieceOut r (λ x. GoesOut s x.key.entry x.value t) × HoldsDeadlines s t
-      × IfPieceOut r (λ x. LeavesInForce s x.key.entry x.deadline)
+      × IfPieceOut r (λ x. LeavesInForce s x.key.entry x.deadline) × KeepsNumbers s t
 
   -- a piece of a poll, of which what comes out keeps what a call promised
   abbrev pub StorePollsBeside : PromiseView → ℕ → ℕ → Result (Piece T) CoreError →
@@ -112,11 +122,13 @@ module _ {T : Type 0} where
       × (KeepsItsDeadline next → IfOk r.0 (λ moved. IfTo moved (λ k d. LeavesInForce s id d)))
       × IfOk r.0 (λ moved. IfCameOut moved (λ x. LeavesInForce s id x.deadline))
       × IfOk r.0 (λ moved. IfTo moved (λ k d. NotDueBefore t id d))
+      × IfOk r.0 (λ moved. IfTo moved (λ k d. NoneLeft s t))
 
   -- a cancelled entry is freed
   abbrev pub StoreReaps : EntryId → Result (Unit {0}) ReapError → StoreState T Sat →
       StoreState T Sat → Type 0
-  StoreReaps id r s t = ReapsFor true s id r t × KeepsIds s t × HoldsDeadlines s t
+  StoreReaps id r s t =
+      ReapsFor true s id r t × KeepsIds s t × HoldsDeadlines s t × KeepsNumbers s t
 
   -- one call took a store from one state to another
   abbrev pub IsStoreCall : StoreState T Sat → StoreState T Sat → Type 0

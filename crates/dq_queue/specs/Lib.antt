@@ -1,6 +1,7 @@
 pub mod Calls
 pub mod Claims
 pub mod Endings
+pub mod Leaving
 pub mod Loans
 pub mod Runs
 pub mod Shards

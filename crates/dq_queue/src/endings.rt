@@ -1,6 +1,7 @@
 //! How the entries of a queue end: each as its words tell, whoever extended or cancelled it meanwhile, and each once,
 //! whoever called.
 ghost use Rattle.dq_queue.specs.Endings.{StoreInsertsAreGiven, StoreMovesAreInForce, StoreOutsAreInForce, StoreRemovalsAreInForce};
+ghost use Rattle.dq_queue.specs.Leaving.{StoreLosesNone};
 
 use dq_words::endings;
 
@@ -29,3 +30,9 @@ pub fn inserts_are_given<T>()
 {
     endings::stamps_end_once();
 }
+
+/// No call of a store loses an entry: one that stood before a call, and stands no more after it, was given out by that
+/// call, or had been cancelled.
+pub fn none_is_lost<T>()
+    ensures { StoreLosesNone T }
+{}

@@ -10,6 +10,7 @@ ghost use Rattle.dq_queue.specs.Calls.{StoreInserts, StoreRemoves, StoreResets, 
 ghost use Rattle.dq_queue.specs.Calls.{KeepsPromise, StorePollsBeside};
 ghost use Rattle.dq_queue.specs.Calls.{StoreTakesIn, StoreGives, StoreRelocates, StoreReaps};
 ghost use Rattle.dq_queue.specs.Claims.{AreClaimed, AreClaimsOf, BringsNoCore, ClaimsWords, HasClaim, IsOfItsWords};
+ghost use Rattle.dq_queue.specs.Leaving.{NoneIsLostIn};
 ghost use Rattle.dq_queue.specs.Loans.{StoreGivesOut, StoreTakesBack};
 ghost use Rattle.dq_queue.specs.Runs.{DeadlinesHoldIn, EndedStaysEndedIn, EntriesLeaveOnceIn, IsNewNumber, KeepsGivenIds};
 ghost use Rattle.dq_queue.specs.Totals.{TotalsAgreeIn};
@@ -111,6 +112,7 @@ impl<T, A: Allocator + Clone> Held<T, A> {
         ensures resets { StoreResets entry.now when result self.old.store self.new.store }
     {
         self.store.law();
+        self.store.cores().law();
         let answer = self.store.reset(entry, when);
         self.store.law();
         answer
@@ -387,7 +389,8 @@ impl<T, J: Rooms, A: Allocator> Shard<T, J, A> {
         ensures ended { EndedStaysEndedIn self.old.history.log }
         ensures due { DeadlinesHoldIn self.old.history.log }
 
-        // As many entries came in as stand and have left.
+        // None is lost: what leaves was given out, or had been cancelled. As many came in as stand and have left.
+        ensures none_lost { NoneIsLostIn self.old.history.log }
         ensures totals { TotalsAgreeIn self.old.history.log }
         ensures same { (me.new.shard ≡ me.old.shard) × (self.new.held ≡ self.old.held)
             × (self.new.history.log ≡ self.old.history.log) }

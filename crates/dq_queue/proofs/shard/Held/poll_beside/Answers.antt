@@ -7,6 +7,7 @@ use Rattle.dq_queue.specs.Claims.{BringsNoCore, IsOfItsWords}
 use Rattle.dq_queue.specs.Shards.{Held}
 use Rattle.dq_queue.specs.Words.{PromiseView}
 use Rattle.dq_queue.proofs.Claims.{brings_none, still_its_words, polls_long}
+use Rattle.dq_queue.proofs.Leaving.{numbers_kept}
 use Rattle.dq_queue.proofs.Outs.{keeps_promise}
 use Rattle.dq_queue.proofs.shard.Held.poll_beside.Goals as goal
 
@@ -25,7 +26,7 @@ returns-clause-polls g c =
     let made = c.poll_some-answer in
     let P : Held _ → Type 0 = λ h. StorePollsSome c.args.tick c.args.most made.result h.store c.beside.new.self in
     let Q : StoreState _ Sat → Type 0 = λ t. StorePollsSome c.args.tick c.args.most made.result c.self.inside.store t in
-    subst P c.self.view_is (subst Q (sym c.beside.ensures.same.0) (made.ensures.polls, made.ensures.keeps, made.ensures.goes_out, made.ensures.holds, made.ensures.in_force))
+    subst P c.self.view_is (subst Q (sym c.beside.ensures.same.0) (made.ensures.polls, made.ensures.keeps, made.ensures.goes_out, made.ensures.holds, made.ensures.in_force, numbers_kept c.self.inside.store made.new.self made.ensures.words))
 
 pub returns-clause-cores : goal.returns-clause-cores
 returns-clause-cores g c =

@@ -3,6 +3,7 @@ use Rattle.dq_queue.specs.Calls.{StoreReaps}
 use Rattle.dq_queue.specs.Claims.{BringsNoCore}
 use Rattle.dq_queue.specs.Shards.{Held}
 use Rattle.dq_queue.proofs.Claims.{brings_none, reaps_long}
+use Rattle.dq_queue.proofs.Leaving.{numbers_kept}
 use Rattle.dq_queue.proofs.shard.Held.reap.Goals as goal
 
 pub returns-clause-cores : goal.returns-clause-cores
@@ -15,4 +16,4 @@ pub returns-clause-reaps : goal.returns-clause-reaps
 returns-clause-reaps g c =
     let made = c.reap-answer in
     let P : Held _ → Type 0 = λ h. StoreReaps c.args.entry.now made.result h.store made.new.self in
-    subst P c.self.view_is (made.ensures.reaps, made.ensures.keeps, made.ensures.holds)
+    subst P c.self.view_is (made.ensures.reaps, made.ensures.keeps, made.ensures.holds, numbers_kept c.self.inside.store made.new.self made.ensures.words)

@@ -1,8 +1,10 @@
 use Rattle.std.proofs.Common.{sym, ap, ◌∙◌, subst}
+use Rattle.dq_queue.specs.Leaving.{NoneIsLostIn}
 use Rattle.dq_queue.specs.Runs.{KeepsGivenIds, EntriesLeaveOnceIn, EndedStaysEndedIn, DeadlinesHoldIn}
 use Rattle.dq_queue.specs.Shards.{CallerView, HeldShard}
 use Rattle.dq_queue.specs.Totals.{TotalsAgreeIn}
 use Rattle.dq_queue.proofs.Histories.{one_name}
+use Rattle.dq_queue.proofs.Leaving.{none_is_lost}
 use Rattle.dq_queue.proofs.Runs.{deadlines_hold, ended_stays, leave_once}
 use Rattle.dq_queue.proofs.Totals.{totals_agree}
 use Rattle.dq_queue.proofs.shard.Shard.tell.Goals as goal
@@ -26,3 +28,6 @@ returns-clause-ids g c = let P : HeldShard _ → Type 0 = λ s. KeepsGivenIds s.
 
 pub returns-clause-totals : goal.returns-clause-totals
 returns-clause-totals g c = let P : HeldShard _ → Type 0 = λ s. TotalsAgreeIn s.history.log in subst P c.self.view_is (totals_agree _ c.self.invariant.9.ids)
+
+pub returns-clause-none_lost : goal.returns-clause-none_lost
+returns-clause-none_lost g c = let P : HeldShard _ → Type 0 = λ s. NoneIsLostIn s.history.log in subst P c.self.view_is (none_is_lost _)
