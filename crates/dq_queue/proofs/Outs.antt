@@ -176,7 +176,7 @@ module _ {T : Type 0} where
   at_set : (cores : List (Core T Sat)) (i : ℕ) (b c : Core T Sat) → IsCoreAt cores i b → IsCoreAt (set cores i c) i c
   at_set cores i b c at = let n = length-set cores i c in let h = at.0 in (omega (arith, n, h), get_or-set_same cores i c c at.0)
 
-  on_core : (s t : CoreRow T Sat) (i : ℕ) (P : Core T Sat → Core T Sat → Type 0) (on : OnCoreAt i P s t) → IsCoreAt t.cores i on.after
+  pub on_core : (s t : CoreRow T Sat) (i : ℕ) (P : Core T Sat → Core T Sat → Type 0) (on : OnCoreAt i P s t) → IsCoreAt t.cores i on.after
   on_core s t i P on =
       let Q : CoreRow T Sat → Type 0 = λ r. IsCoreAt r.cores i on.after in
       subst Q (sym on.rest) (at_set s.cores i on.before on.after on.at)
@@ -268,7 +268,7 @@ given_at T once b c value when k done law =
     sym done.stamp ∙ (ap (λ n. (table_at n i).stamp) done.step.3 ∙ ap (λ r. r.stamp) (get_or-set_same m.table i _ _ inside)) in
     λ t r at. given_once c.words.view t r at once k _ (omega arith) seen (omega arith)
 
-ok_not_err : {X E : Type 0} (x : X) (e : E) → Ok x ≡ Err e → ⊥
+pub ok_not_err : {X E : Type 0} (x : X) (e : E) → Ok x ≡ Err e → ⊥
 ok_not_err {X} {E} x e h =
     let P : Result X E → Type 0 = λ r. IfOk r (λ _. ⊥) in
     subst P (sym h) (tt {0})
