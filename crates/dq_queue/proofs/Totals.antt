@@ -1,85 +1,115 @@
 -- The totals of a shard's history.
-use Rattle.std.proofs.Common.{◌≡◌, ◌⊎◌, ℕ, ◌+◌, arith, List, [], ◌∷◌, length, Some, refl, sym, ◌∙◌, subst, inl, inr, ⊎_elim}
+use Rattle.std.proofs.Common.{◌≡◌, ◌⊎◌, ◌+◌, arith, List, [], ◌∷◌, length, refl, sym, ◌∙◌, subst, inl, inr, ⊎_elim}
 use Rattle.dq_ticks.specs.declared.keys.EntryId.{EntryId}
-use Rattle.dq_growing.specs.Runs.{IsUsedId, KeepsId}
+use Rattle.dq_growing.specs.Runs.{IsUsedId}
 use Rattle.dq_growing.specs.Store.{StoreState, HasFor, NoneStandsFor}
 use Rattle.dq_growing.proofs.Standing.{some_is}
 use Rattle.dq_journal.specs.declared.views.Entry.{Entry}
 use Rattle.dq_words.specs.Seats.{Sat}
 use Rattle.dq_queue.specs.Calls.{HasGiven, HasOnly}
+use Rattle.dq_queue.specs.Leaving.{GivesOut, WasCancelledIn}
 use Rattle.dq_queue.specs.Runs.{KeepsGivenIds, WasGivenIn}
 use Rattle.dq_queue.specs.Shards.{Held, IsAsLeft, IsStoreHistory}
-use Rattle.dq_queue.specs.Totals.{CameIn, NoneHas, HaveOwnIds, AreCounted, TotalsAgreeIn}
+use Rattle.dq_queue.specs.Totals.{CameAbout, CameIn, Counted, NoneHas, HaveOwnIds, AreCounted, TotalsAgreeIn}
+use Rattle.dq_queue.proofs.Leaving.{loses_none}
 use Rattle.dq_queue.proofs.Runs.{stands_on, stays_ended, used_in}
 
 module _ {T : Type 0} where
+  -- how an entry stands, or has left
+  abbrev Fate : (log : List (Entry (Held T))) → IsStoreHistory log → StoreState T Sat → EntryId → T → Type 0
+  Fate log history s u v = HasOnly s u v ⊎ (NoneStandsFor s u × (CameAbout GivesOut log history u ⊎ CameAbout WasCancelledIn log history u))
+
   -- what became of each of those entries by then
-  abbrev Settled : List (Entry (Held T)) → StoreState T Sat → List (EntryId × T) → Type 0
-  Settled log s [] = Unit {0}
-  Settled log s (x ∷ came) = WasGivenIn log x.0 × (HasOnly s x.0 x.1 ⊎ NoneStandsFor s x.0) × Settled log s came
+  abbrev Settled : (log : List (Entry (Held T))) → IsStoreHistory log → StoreState T Sat → List (EntryId × T) → Type 0
+  Settled log history s [] = Unit {0}
+  Settled log history s (x ∷ came) = WasGivenIn log x.0 × Fate log history s x.0 x.1 × Settled log history s came
 
   -- one call more
-  kept_one : (s t : StoreState T Sat) (u : EntryId) (v : T) → KeepsId s t u → IsUsedId s u → HasOnly s u v ⊎ NoneStandsFor s u → HasOnly t u v ⊎ NoneStandsFor t u
-  kept_one s t u v kept used (inl has) = ⊎_elim
-      (λ (here : HasFor t u v). inl (stands_on u v s t kept used has here).0)
-      (λ (none : NoneStandsFor t u). inr none)
-      (kept.stays v has.0)
-  kept_one s t u v kept used (inr none) = inr (stays_ended u s t kept used none).0
+  module _ (e : Entry (Held T)) (es : List (Entry (Held T))) (all : IsStoreHistory (e ∷ es)) (kept : KeepsGivenIds (e ∷ es)) where
+    abbrev s : StoreState T Sat
+    s = all.0.store
 
-  module _ (e : Entry (Held T)) (es : List (Entry (Held T))) (history : IsStoreHistory es) (kept : KeepsGivenIds (e ∷ es)) (s t : Held T) (was : IsAsLeft es s) (left : e.left ≡ Some t) where
-    used : (u : EntryId) → WasGivenIn es u → IsUsedId s.store u
-    used u given = used_in es history kept.1 u given s was
+    abbrev t : StoreState T Sat
+    t = all.1.store
 
-    goes_on : (came : List (EntryId × T)) → Settled es s.store came → Settled (e ∷ es) t.store came
+    abbrev history : IsStoreHistory es
+    history = all.6
+
+    used : (u : EntryId) → WasGivenIn es u → IsUsedId s u
+    used u given = used_in es history kept.1 u given all.0 all.3
+
+    fate : (u : EntryId) (v : T) → WasGivenIn es u → Fate es history s u v → Fate (e ∷ es) all t u v
+    fate u v given (inl has) =
+        let k = kept.0 u given all.0 all.1 all.3 all.2 in
+        ⊎_elim
+        (λ (here : HasFor t u v). inl (stands_on u v s t k (used u given) has here).0)
+        (λ (none : NoneStandsFor t u). inr (none, ⊎_elim (λ (out : GivesOut u s t). inl (inl out)) (λ (found : WasCancelledIn u s t). inr (inl found)) (loses_none T s t all.5 u v has.0 none)))
+        (k.stays v has.0)
+    fate u v given (inr (none, inl out)) =
+        let k = kept.0 u given all.0 all.1 all.3 all.2 in
+        inr ((stays_ended u s t k (used u given) none).0, inl (inr out))
+    fate u v given (inr (none, inr found)) =
+        let k = kept.0 u given all.0 all.1 all.3 all.2 in
+        inr ((stays_ended u s t k (used u given) none).0, inr (inr found))
+
+    goes_on : (came : List (EntryId × T)) → Settled es history s came → Settled (e ∷ es) all t came
     goes_on [] settled = tt {0}
-    goes_on (x ∷ came) settled =
-        (inr settled.0, kept_one s.store t.store x.0 x.1 (kept.0 x.0 settled.0 s t was left) (used x.0 settled.0) settled.1, goes_on came settled.2)
+    goes_on (x ∷ came) settled = (inr settled.0, fate x.0 x.1 settled.0 settled.1, goes_on came settled.2)
 
-    none_has : (u : EntryId) (came : List (EntryId × T)) → (¬ IsUsedId s.store u) → Settled es s.store came → NoneHas u came
+    none_has : (u : EntryId) (came : List (EntryId × T)) → (¬ IsUsedId s u) → Settled es history s came → NoneHas u came
     none_has u [] fresh settled = tt {0}
     none_has u (x ∷ came) fresh settled =
-        let P : EntryId → Type 0 = λ w. IsUsedId s.store w in
+        let P : EntryId → Type 0 = λ w. IsUsedId s w in
         ((λ same. fresh (subst P same (used x.0 settled.0))), none_has u came fresh settled.2)
 
   settle : (log : List (Entry (Held T))) (history : IsStoreHistory log) → KeepsGivenIds log → (came : List (EntryId × T)) → CameIn log history came → (h : Held T) → IsAsLeft log h
-      → HaveOwnIds came × Settled log h.store came
+      → HaveOwnIds came × Settled log history h.store came
   settle [] history kept came in_it h at =
-      let P : List (EntryId × T) → Type 0 = λ l. HaveOwnIds l × Settled [] h.store l in
+      let P : List (EntryId × T) → Type 0 = λ l. HaveOwnIds l × Settled [] history h.store l in
       subst P (sym in_it) (tt {0}, tt {0})
   settle (e ∷ es) (old, new, left, was, number, call, history) kept came (inl (u, v, older, is, puts, in_it)) h at =
+      let all : IsStoreHistory (e ∷ es) = (old, new, left, was, number, call, history) in
       let before = settle es history kept.1 older in_it old was in
-      let all = puts.4 in
-      let did = all.3 in
+      let insert = puts.4 in
+      let did = insert.3 in
       let only : HasOnly new.store puts.1.entry v = did.1 in
       let P : EntryId → Type 0 = λ w. HasOnly new.store w v in
       let Q : EntryId → Type 0 = λ w. ¬ IsUsedId old.store w in
       let fresh = subst Q puts.3 did.0.0 in
       let R : EntryId → Type 0 = λ w. HasGiven new.store w in
-      let mine : Settled (e ∷ es) new.store ((u, v) ∷ older) =
-      (inl (new, left, subst R puts.3 did.2), inl (subst P puts.3 only), goes_on e es history kept old new was left older before.1) in
-      let ids : HaveOwnIds ((u, v) ∷ older) = (none_has e es history kept old new was left u older fresh before.1, before.0) in
-      let S : List (EntryId × T) × Held T → Type 0 = λ z. HaveOwnIds z.0 × Settled (e ∷ es) z.1.store z.0 in
+      let mine : Settled (e ∷ es) all new.store ((u, v) ∷ older) =
+      (inl (new, left, subst R puts.3 did.2), inl (subst P puts.3 only), goes_on e es all kept older before.1) in
+      let ids : HaveOwnIds ((u, v) ∷ older) = (none_has e es all kept u older fresh before.1, before.0) in
+      let S : List (EntryId × T) × Held T → Type 0 = λ z. HaveOwnIds z.0 × Settled (e ∷ es) all z.1.store z.0 in
       let there = some_is new h (sym left ∙ at) in
       subst S (λ n. (sym is n, there n)) (ids, mine)
   settle (e ∷ es) (old, new, left, was, number, call, history) kept came (inr (none, in_it)) h at =
+      let all : IsStoreHistory (e ∷ es) = (old, new, left, was, number, call, history) in
       let before = settle es history kept.1 came in_it old was in
-      let R : Held T → Type 0 = λ z. HaveOwnIds came × Settled (e ∷ es) z.store came in
-      subst R (some_is new h (sym left ∙ at)) (before.0, goes_on e es history kept old new was left came before.1)
+      let R : Held T → Type 0 = λ z. HaveOwnIds came × Settled (e ∷ es) all z.store came in
+      subst R (some_is new h (sym left ∙ at)) (before.0, goes_on e es all kept came before.1)
 
-  counted : (log : List (Entry (Held T))) (s : StoreState T Sat) (came : List (EntryId × T)) → Settled log s came
-      → (here : ℕ) × (gone : ℕ) × AreCounted s came here gone × (length came ≡ here + gone)
-  counted log s [] settled = (0, 0, (refl, refl), refl)
-  counted log s (x ∷ came) (given, inl has, settled) =
-      let r = counted log s came settled in
-      let sum = r.3 in
-      (r.0 + 1, r.1, inl (has, (r.0, refl, r.2)), omega (arith, sum))
-  counted log s (x ∷ came) (given, inr none, settled) =
-      let r = counted log s came settled in
-      let sum = r.3 in
-      (r.0, r.1 + 1, inr (none, (r.1, refl, r.2)), omega (arith, sum))
+  counted : (log : List (Entry (Held T))) (history : IsStoreHistory log) (s : StoreState T Sat) (came : List (EntryId × T)) → Settled log history s came
+      → (n : Counted) × AreCounted log history s came n × (length came ≡ n.here + n.out + n.cancelled)
+  counted log history s [] settled = (record { here = 0; out = 0; cancelled = 0 }, refl, refl)
+  counted log history s (x ∷ came) (given, inl has, settled) =
+      let r = counted log history s came settled in
+      let m = r.0 in
+      let sum = r.2 in
+      (record m { here = m.here + 1 }, (m, r.1, inl (has, refl)), omega (arith, sum))
+  counted log history s (x ∷ came) (given, inr (none, inl out), settled) =
+      let r = counted log history s came settled in
+      let m = r.0 in
+      let sum = r.2 in
+      (record m { out = m.out + 1 }, (m, r.1, inr (none, inl (out, refl))), omega (arith, sum))
+  counted log history s (x ∷ came) (given, inr (none, inr found), settled) =
+      let r = counted log history s came settled in
+      let m = r.0 in
+      let sum = r.2 in
+      (record m { cancelled = m.cancelled + 1 }, (m, r.1, inr (none, inr (found, refl))), omega (arith, sum))
 
 -- over a history
 pub totals_agree : {T : Type 0} (log : List (Entry (Held T))) → KeepsGivenIds log → TotalsAgreeIn log
 totals_agree {T} log kept history came h in_it at =
     let r = settle log history kept came in_it h at in
-    (r.0, counted log h.store came r.1)
+    (r.0, counted log history h.store came r.1)

@@ -1,4 +1,5 @@
--- How many entries came into a shard, how many of them stand there, and how many have left.
+-- How many entries came into a shard, and how many of them stand there, were given out, and were
+-- cancelled.
 use Rattle.std.specs.Prelude.{◌≡◌, ◌≢◌, ◌⊎◌, ℕ, ◌+◌, List, [], ◌∷◌, length, Option, Ok}
 use Rattle.dq_ticks.specs.declared.keys.EntryId.{EntryId}
 use Rattle.dq_ticks.specs.declared.keys.Key.{Key}
@@ -6,7 +7,14 @@ use Rattle.dq_journal.specs.declared.views.Entry.{Entry}
 use Rattle.dq_growing.specs.Store.{StoreState, NoneStandsFor}
 use Rattle.dq_words.specs.Seats.{Sat}
 use Rattle.dq_queue.specs.Calls.{HasOnly, StoreInserts}
+use Rattle.dq_queue.specs.Leaving.{GivesOut, WasCancelledIn}
 use Rattle.dq_queue.specs.Shards.{Held, IsAsLeft, IsStoreHistory}
+
+-- how many entries stand, were given out, and were found cancelled
+pub record Counted : Type 0 where
+  pub here : ℕ
+  pub out : ℕ
+  pub cancelled : ℕ
 
 module _ {T : Type 0} where
   -- an insert that was accepted put an entry in, with its value
@@ -34,18 +42,31 @@ module _ {T : Type 0} where
   HaveOwnIds [] = Unit {0}
   HaveOwnIds (x ∷ came) = NoneHas x.0 came × HaveOwnIds came
 
-  -- of these entries so many stand, each with its value, and of so many others none stands any more
-  abbrev pub AreCounted : StoreState T Sat → List (EntryId × T) → ℕ → ℕ → Type 0
-  AreCounted s [] here gone = (here ≡ 0) × (gone ≡ 0)
-  AreCounted s (x ∷ came) here gone =
-      (HasOnly s x.0 x.1 × ((n : ℕ) × (here ≡ n + 1) × AreCounted s came n gone))
-      ⊎ (NoneStandsFor s x.0 × ((n : ℕ) × (gone ≡ n + 1) × AreCounted s came here n))
+  -- by some call of a history that came about of an id
+  abbrev pub CameAbout : (EntryId → StoreState T Sat → StoreState T Sat → Type 0) →
+      (log : List (Entry (Held T))) → IsStoreHistory log → EntryId → Type 0
+  CameAbout How [] history u = ⊥
+  CameAbout How (e ∷ es) (old, new, left, was, number, call, history) u =
+      How u old.store new.store ⊎ CameAbout How es history u
 
-  -- In a history as many entries came in as stand there and have left, each under an id of its own.
+  -- Of these entries so many stand, each with its value. Of the others none stands: so many were given
+  -- out by a call of the history, and so many were found cancelled by one.
+  abbrev pub AreCounted : (log : List (Entry (Held T))) → IsStoreHistory log → StoreState T Sat →
+      List (EntryId × T) → Counted → Type 0
+  AreCounted log history s [] n = n ≡ record { here = 0; out = 0; cancelled = 0 }
+  AreCounted log history s (x ∷ came) n =
+      (m : Counted) × AreCounted log history s came m
+      × ((HasOnly s x.0 x.1 × (n ≡ record m { here = m.here + 1 }))
+      ⊎ (NoneStandsFor s x.0
+      × ((CameAbout GivesOut log history x.0 × (n ≡ record m { out = m.out + 1 }))
+      ⊎ (CameAbout WasCancelledIn log history x.0 × (n ≡ record m { cancelled = m.cancelled + 1 })))))
+
+  -- In a history as many entries came in as stand there, were given out and were cancelled, each under
+  -- an id of its own.
   abbrev pub TotalsAgreeIn : List (Entry (Held T)) → Type 0
   TotalsAgreeIn log =
       (history : IsStoreHistory log) (came : List (EntryId × T)) (h : Held T) →
       CameIn log history came → IsAsLeft log h →
       HaveOwnIds came
-      × ((here : ℕ) × (gone : ℕ) × AreCounted h.store came here gone
-      × (length came ≡ here + gone))
+      × ((n : Counted) × AreCounted log history h.store came n
+      × (length came ≡ n.here + n.out + n.cancelled))

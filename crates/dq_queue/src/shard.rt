@@ -389,7 +389,7 @@ impl<T, J: Rooms, A: Allocator> Shard<T, J, A> {
         ensures ended { EndedStaysEndedIn self.old.history.log }
         ensures due { DeadlinesHoldIn self.old.history.log }
 
-        // None is lost: what leaves was given out, or had been cancelled. As many came in as stand and have left.
+        // None is lost: what leaves was given out, or had been cancelled. As many came in as stand, and left so.
         ensures none_lost { NoneIsLostIn self.old.history.log }
         ensures totals { TotalsAgreeIn self.old.history.log }
         ensures same { (me.new.shard ≡ me.old.shard) × (self.new.held ≡ self.old.held)
