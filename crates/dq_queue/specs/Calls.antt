@@ -17,7 +17,7 @@ use Rattle.dq_growing.specs.Runs.{IsUsedId, KeepsIds, KeepsIdsBeside, GivesId, H
 use Rattle.dq_core.specs.declared.errors.ReapError.{ReapError}
 use Rattle.dq_growing.specs.declared.moving.Moved.{Moved}
 use Rattle.dq_growing.specs.declared.moving.NextDeadline.{NextDeadline}
-use Rattle.dq_growing.specs.Store.{StoreState, RemovesFor, TellsFor, ResetsFor, RelocatesFor, ReapsFor, PollsFor, HasFor, HasOneValue, NoneStandsFor, GoesOut}
+use Rattle.dq_growing.specs.Store.{StoreState, RemovesFor, TellsFor, ResetsFor, RelocatesFor, ReapsFor, PollsFor, HasFor, HasOneValue, NoneStandsFor, GoesOut, TakeRefusedFor}
 use Rattle.dq_words.specs.Plays.{Covers}
 use Rattle.dq_words.specs.Seats.{Sat}
 use Rattle.dq_queue.specs.Words.{PromiseView}
@@ -102,6 +102,11 @@ module _ {T : Type 0} where
   StoreTakesIn c r s t =
       OnOk r (TakesIn s.cores c t.cores) × IfErr r (λ e. (e.1 ≡ c) × (t.cores ≡ s.cores))
       × (t.notes ≡ s.notes) × KeepsIdsBeside c s t × HoldsDeadlines s t
+
+  -- refused, it is so for what the store and the core are
+  abbrev pub StoreRefuses : Core T Sat → Result (Unit {0}) (TakeError × Core T Sat) →
+      StoreState T Sat → Type 0
+  StoreRefuses c r s = IfErr r (λ e. TakeRefusedFor s c e.0)
 
   -- a core that has drained is taken out; none is exactly where none has
   abbrev pub StoreGives : Option (Core T Sat) → StoreState T Sat → StoreState T Sat → Type 0

@@ -1,10 +1,12 @@
 -- Claims of the words of a shard's cores, in the directory of a queue.
-use Rattle.std.specs.Prelude.{◌≡◌, ℕ, ◌<◌, List, length, slice_index_or}
+use Rattle.std.specs.Prelude.{◌≡◌, ◌⊎◌, ℕ, ◌<◌, List, length, slice_index_or}
 use Rattle.boxcar.specs.Slot.{Named}
 use Rattle.dq_core.specs.Core.{Core}
 use Rattle.dq_directory.specs.Claims.{Claimed, IsOf}
 use Rattle.dq_growing.specs.Cores.{IsCoreAt, EachOf}
-use Rattle.dq_growing.specs.Store.{StoreState}
+use Rattle.dq_growing.specs.declared.cores.TakeError.{TakeError}
+use Rattle.dq_growing.specs.declared.cores.TakeError.TheVariants.{NoMemory, UsedNumber}
+use Rattle.dq_growing.specs.Store.{StoreState, TakeRefusedFor}
 use Rattle.dq_words.specs.OpenCalls.{Open}
 use Rattle.dq_words.specs.Seats.{Sat}
 use Rattle.dq_queue.specs.Words.{PromiseView}
@@ -31,6 +33,14 @@ module _ {T : Type 0} where
   -- the claim says that the core's words stand under the core's number
   abbrev pub ClaimsWords : Claimed Open → Core T Sat → Type 0
   ClaimsWords k c = (k.number ≡ c.shard) × (k.thing.table ≡ c.words.table)
+
+  -- why a core of a number doesn't come in as a new one: memory for its claim is refused; a claim has
+  -- its number; or, where none has, as the store refuses it
+  abbrev pub RefusedAsNew :
+      List (Claimed Open) → ℕ → StoreState T Sat → Core T Sat → TakeError → Type 0
+  RefusedAsNew claims number s c e =
+      (e ≡ NoMemory) ⊎ (((e ≡ UsedNumber) × HasClaim claims number)
+      ⊎ ((¬ HasClaim claims number) × TakeRefusedFor s c e))
 
   -- one of the claims says so
   abbrev pub IsClaimed : List (Claimed Open) → Core T Sat → Type 0

@@ -19,7 +19,7 @@ use Rattle.dq_journal.specs.History.{entry, entries_by}
 use Rattle.dq_journal.specs.Once.{IsWithNumber}
 use Rattle.dq_words.specs.OpenCalls.{Open}
 use Rattle.dq_words.specs.Seats.{Sat}
-use Rattle.dq_queue.specs.Calls.{StoreGives, StoreTakesIn}
+use Rattle.dq_queue.specs.Calls.{StoreGives, StoreRefuses, StoreTakesIn}
 use Rattle.dq_queue.specs.Claims.{HasClaim, IsClaimed}
 use Rattle.dq_queue.specs.Runs.{KeepsGivenIds, WasGivenIn}
 use Rattle.dq_queue.specs.Shards.{Held}
@@ -109,3 +109,8 @@ module _ {T : Type 0} where
   abbrev pub StoreTakesBack : DrainedView T → Result (Unit {0}) (TakeError × DrainedView T) →
       StoreState T Sat → StoreState T Sat → Type 0
   StoreTakesBack d r s t = StoreTakesIn d.core (bare_answer r) s t
+
+  -- refused, it is so for what the store and the core are
+  abbrev pub StoreRefusesBack : DrainedView T → Result (Unit {0}) (TakeError × DrainedView T) →
+      StoreState T Sat → Type 0
+  StoreRefusesBack d r s = StoreRefuses d.core (bare_answer r) s

@@ -1,10 +1,12 @@
 -- A shard, callers of it, and its one history.
 use Rattle.std.specs.Prelude.{◌≡◌, ℕ, List, [], ◌∷◌, ◌++◌, Some}
 use Rattle.atomic_table.specs.Seated.{TableId}
+use Rattle.dq_directory.specs.Claims.{Claimed}
 use Rattle.dq_journal.specs.declared.views.Entry.{Entry}
 use Rattle.dq_journal.specs.declared.views.View.{View}
 use Rattle.dq_journal.specs.History.{entry, entries_by}
 use Rattle.dq_growing.specs.Store.{StoreState, IsStore}
+use Rattle.dq_words.specs.OpenCalls.{Open}
 use Rattle.dq_words.specs.Seats.{Sat}
 use Rattle.dq_queue.specs.Calls.{IsStoreCall}
 
@@ -17,10 +19,11 @@ pub record Held (T : Type 0) : Type 0 where
   pub number : ℕ
   pub store : StoreState T Sat
 
--- a shard, and what is known of its history under the lock
+-- a shard, what is known of its history under the lock, and its claims of the words of its cores
 pub record HeldShard (T : Type 0) : Type 0 where
   pub held : Held T
   pub history : View (Held T)
+  pub claims : List (Claimed Open)
 
 -- a caller: the number of its shard, and what it knows of the history
 pub record CallerView (T : Type 0) : Type 0 where

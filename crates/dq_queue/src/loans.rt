@@ -1,5 +1,5 @@
 //! Cores that are away from a shard. Each left it drained, and may come back as it is, or once it was folded and unfolded.
-ghost use Rattle.std.specs.Prelude.{◌≡◌, max, IfErr, IfOk, IsErr, OnErr, OnOk};
+ghost use Rattle.std.specs.Prelude.{◌≡◌, ◌<◌, ◌↔◌, max, IfErr, IfOk, IsErr, OnErr, OnOk};
 ghost use Rattle.dq_core.specs.Core.{machine};
 ghost use Rattle.dq_core.specs.Folds.{IsFoldable, at_tick, folded_machine};
 ghost use Rattle.dq_core.specs.declared.errors.CoreError.TheVariants.{TickTooLarge};
@@ -130,6 +130,7 @@ impl<T, J: Rooms, A: Allocator> FoldedDrained<T, J, A> {
     pub fn come_to(&mut self, tick: u64) -> Result<(), CoreError>
         ensures noted { OnOk result
             (self.new.folded ≡ at_tick self.old.folded (max self.old.folded.noted tick)) }
+        ensures refused { IsErr result ↔ (LAST_TICK < tick) }
         ensures error { IfErr result (λ e. e ≡ TickTooLarge LAST_TICK) }
         ensures kept { OnErr result (self.new ≡ self.old) }
         ensures shard { self.new.shard ≡ self.old.shard }

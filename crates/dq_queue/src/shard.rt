@@ -8,10 +8,10 @@ ghost use Rattle.dq_growing.specs.Store.{IsStore};
 ghost use Rattle.dq_directory.specs.Claims.{IsOf};
 ghost use Rattle.dq_queue.specs.Calls.{StoreInserts, StoreRemoves, StoreResets, StoreTells, StorePollsSome};
 ghost use Rattle.dq_queue.specs.Calls.{KeepsPromise, StorePollsBeside};
-ghost use Rattle.dq_queue.specs.Calls.{StoreTakesIn, StoreGives, StoreRelocates, StoreReaps};
-ghost use Rattle.dq_queue.specs.Claims.{AreClaimed, AreClaimsOf, BringsNoCore, ClaimsWords, HasClaim, IsOfItsWords};
+ghost use Rattle.dq_queue.specs.Calls.{StoreTakesIn, StoreRefuses, StoreGives, StoreRelocates, StoreReaps};
+ghost use Rattle.dq_queue.specs.Claims.{AreClaimed, AreClaimsOf, BringsNoCore, ClaimsWords, HasClaim, IsOfItsWords, RefusedAsNew};
 ghost use Rattle.dq_queue.specs.Leaving.{NoneIsLostIn};
-ghost use Rattle.dq_queue.specs.Loans.{StoreGivesOut, StoreTakesBack};
+ghost use Rattle.dq_queue.specs.Loans.{StoreGivesOut, StoreRefusesBack, StoreTakesBack};
 ghost use Rattle.dq_queue.specs.Runs.{DeadlinesHoldIn, EndedStaysEndedIn, EntriesLeaveOnceIn, IsNewNumber, KeepsGivenIds};
 ghost use Rattle.dq_queue.specs.Totals.{TotalsAgreeIn};
 ghost use Rattle.dq_queue.specs.Shards.{MadeOnce, OneMore, IsStoreHistory, unnamed};
@@ -173,6 +173,7 @@ impl<T, A: Allocator + Clone> Held<T, A> {
         ensures number { self.new.number ≡ self.old.number }
         ensures stores { IsStore self.old.store × IsStore self.new.store }
         ensures takes { StoreTakesIn core result self.old.store self.new.store }
+        ensures refused { StoreRefuses core result self.old.store }
     {
         self.store.law();
         let answer = self.store.take_in(core);
@@ -193,6 +194,8 @@ impl<T, A: Allocator + Clone> Held<T, A> {
         ensures number { self.new.number ≡ self.old.number }
         ensures stores { IsStore self.old.store × IsStore self.new.store }
         ensures takes { StoreTakesIn core result self.old.store self.new.store }
+        ensures refused { IfErr result
+            (λ e. RefusedAsNew claims.old.items claim.now.number self.old.store core e.0) }
         ensures fresh { OnOk result (¬ HasClaim claims.old.items claim.now.number) }
         ensures more { OnOk result (claims.new.items ≡ claims.old.items ++ claim.now ∷ []) }
         ensures same { OnErr result (claims.new.items ≡ claims.old.items) }
@@ -276,7 +279,7 @@ impl<T, J: Rooms, A: Allocator> Model for Shard<T, J, A> {
 
     ghost Value = { HeldShard T };
 
-    ghost view = { λ s. record { held = s.held; history = s.history.view } };
+    ghost view = { λ s. record { held = s.held; history = s.history.view; claims = s.claims.items } };
 
     ghost invariant = { λ s. (s.held.number < J.shards)
         × (s.history.table ≡ J.history s.held.number) × IsUnderLock s.history.view
@@ -335,6 +338,7 @@ impl<T, J: Rooms, A: Allocator> Shard<T, J, A> {
         requires loans { (loans.table ≡ J.loans held.number) × (loans.view ≡ first_witness) }
         ensures held { result.held ≡ held }
         ensures history { result.history ≡ first_witness }
+        ensures claims { result.claims ≡ claims.items }
     {
         Shard {
             held,
@@ -364,7 +368,7 @@ impl<T, J: Rooms, A: Allocator> Shard<T, J, A> {
             (λ _. self.new.history.made ≡ self.old.history.made + 1) }
 
         // The store stays, and no call is entered.
-        ensures held { self.new.held ≡ self.old.held }
+        ensures held { (self.new.held ≡ self.old.held) × (self.new.claims ≡ self.old.claims) }
         ensures log { self.new.history.log ≡ self.old.history.log }
         ensures refused { OnErr result (self.new ≡ self.old) }
     {
@@ -393,6 +397,7 @@ impl<T, J: Rooms, A: Allocator> Shard<T, J, A> {
         ensures none_lost { NoneIsLostIn self.old.history.log }
         ensures totals { TotalsAgreeIn self.old.history.log }
         ensures same { (me.new.shard ≡ me.old.shard) × (self.new.held ≡ self.old.held)
+            × (self.new.claims ≡ self.old.claims)
             × (self.new.history.log ≡ self.old.history.log) }
     {
         self.history.tell(&mut me.history);
@@ -419,6 +424,7 @@ impl<T, J: Rooms, A: Allocator + Clone> Shard<T, J, A> {
         ensures one_more { OneMore self.old me.old self.new }
         ensures inserts { StoreInserts value when result self.old.held.store self.new.held.store }
         ensures number { self.new.held.number ≡ self.old.held.number }
+        ensures claims { self.new.claims ≡ self.old.claims }
     {
         let answer = self.held.insert(value, when);
         self.history.enter_for(&mut me.history, &self.held);
@@ -442,6 +448,7 @@ impl<T, J: Rooms, A: Allocator + Clone> Shard<T, J, A> {
         ensures one_more { OneMore self.old me.old self.new }
         ensures removes { StoreRemoves entry.now result self.old.held.store self.new.held.store }
         ensures number { self.new.held.number ≡ self.old.held.number }
+        ensures claims { self.new.claims ≡ self.old.claims }
     {
         let answer = self.held.remove(entry);
         self.history.enter_for(&mut me.history, &self.held);
@@ -470,6 +477,7 @@ impl<T, J: Rooms, A: Allocator + Clone> Shard<T, J, A> {
         ensures one_more { OneMore self.old me.old self.new }
         ensures resets { StoreResets entry.now when result self.old.held.store self.new.held.store }
         ensures number { self.new.held.number ≡ self.old.held.number }
+        ensures claims { self.new.claims ≡ self.old.claims }
     {
         let answer = self.held.reset(entry, when);
         self.history.enter_for(&mut me.history, &self.held);
@@ -488,6 +496,7 @@ impl<T, J: Rooms, A: Allocator + Clone> Shard<T, J, A> {
         ensures one_more { OneMore self.old me.old self.new }
         ensures tells { StoreTells entry.now result self.old.held.store self.new.held.store }
         ensures number { self.new.held.number ≡ self.old.held.number }
+        ensures claims { self.new.claims ≡ self.old.claims }
     {
         let answer = self.held.deadline(entry);
         self.history.enter_for(&mut me.history, &self.held);
@@ -511,6 +520,7 @@ impl<T, J: Rooms, A: Allocator + Clone> Shard<T, J, A> {
         ensures one_more { OneMore self.old me.old self.new }
         ensures polls { StorePollsSome tick most result self.old.held.store self.new.held.store }
         ensures number { self.new.held.number ≡ self.old.held.number }
+        ensures claims { self.new.claims ≡ self.old.claims }
     {
         let answer = self.held.poll_some(tick, most);
         self.history.enter_for(&mut me.history, &self.held);
@@ -536,6 +546,7 @@ impl<T, J: Rooms, A: Allocator + Clone> Shard<T, J, A> {
         ensures polls { StorePollsBeside promise.old tick most result
             self.old.held.store self.new.held.store }
         ensures number { self.new.held.number ≡ self.old.held.number }
+        ensures claims { self.new.claims ≡ self.old.claims }
         ensures same { promise.new ≡ promise.old }
     {
         let _ = words.knows(self.claims.as_slice(), &promise.claim);
@@ -570,6 +581,10 @@ impl<T, J: Rooms, A: Allocator + Clone> Shard<T, J, A> {
         ensures fresh { OnOk result (IsNewNumber self.old.history.log core.shard) }
         ensures takes { StoreTakesIn core result self.old.held.store self.new.held.store }
         ensures number { self.new.held.number ≡ self.old.held.number }
+        ensures more { OnOk result (self.new.claims ≡ self.old.claims ++ claim.now ∷ []) }
+        ensures same { OnErr result (self.new.claims ≡ self.old.claims) }
+        ensures refused { IfErr result
+            (λ e. RefusedAsNew self.old.claims claim.now.number self.old.held.store core e.0) }
     {
         let answer = self.held.take_new(&mut self.claims, words, core, claim);
         self.history.enter_for(&mut me.history, &self.held);
@@ -599,6 +614,7 @@ impl<T, J: Rooms, A: Allocator + Clone> Shard<T, J, A> {
         ensures one_more { OneMore self.old me.old self.new }
         ensures relocates { StoreRelocates entry.now next result self.old.held.store self.new.held.store }
         ensures number { self.new.held.number ≡ self.old.held.number }
+        ensures claims { self.new.claims ≡ self.old.claims }
     {
         let answer = self.held.relocate(entry, next);
         self.history.enter_for(&mut me.history, &self.held);
@@ -615,6 +631,7 @@ impl<T, J: Rooms, A: Allocator + Clone> Shard<T, J, A> {
         ensures one_more { OneMore self.old me.old self.new }
         ensures reaps { StoreReaps entry.now result self.old.held.store self.new.held.store }
         ensures number { self.new.held.number ≡ self.old.held.number }
+        ensures claims { self.new.claims ≡ self.old.claims }
     {
         let answer = self.held.reap(entry);
         self.history.enter_for(&mut me.history, &self.held);
@@ -641,6 +658,7 @@ impl<T: Drop, J: Rooms, A: Allocator + Clone + Drop> Shard<T, J, A> {
             (λ r. IfSome r (λ d. d.shard ≡ self.old.held.number)) }
         ensures refused { OnErr result ((self.new ≡ self.old) × (me.new ≡ me.old)) }
         ensures number { self.new.held.number ≡ self.old.held.number }
+        ensures claims { self.new.claims ≡ self.old.claims }
     {
         let loan = self.loans.open()?;
         Ok(self.lend(me, loan))
@@ -660,6 +678,7 @@ impl<T: Drop, J: Rooms, A: Allocator + Clone + Drop> Shard<T, J, A> {
         ensures gives { StoreGivesOut result self.old.held.store self.new.held.store }
         ensures shard { IfSome result (λ d. d.shard ≡ self.old.held.number) }
         ensures number { self.new.held.number ≡ self.old.held.number }
+        ensures claims { self.new.claims ≡ self.old.claims }
     {
         let shard = self.number();
         let answer = self.held.take_drained();
@@ -698,9 +717,11 @@ impl<T: Drop, J: Rooms, A: Allocator + Clone + Drop> Shard<T, J, A> {
         ensures once { MadeOnce me.old (λ s t. StoreTakesBack drained result s t) me.new }
         ensures one_more { OneMore self.old me.old self.new }
         ensures takes { StoreTakesBack drained result self.old.held.store self.new.held.store }
+        ensures refused { StoreRefusesBack drained result self.old.held.store }
         ensures back { IfErr result
             (λ e. (e.1.core ≡ drained.core) × (e.1.shard ≡ drained.shard)) }
         ensures number { self.new.held.number ≡ self.old.held.number }
+        ensures claims { self.new.claims ≡ self.old.claims }
     {
         let Drained {
             core,

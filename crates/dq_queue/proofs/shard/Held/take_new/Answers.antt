@@ -1,4 +1,4 @@
-use Rattle.std.proofs.Common.{◌∙◌, List, subst}
+use Rattle.std.proofs.Common.{◌∙◌, List, refl, subst, inl, inr}
 use Rattle.dq_directory.specs.Claims.{Claimed}
 use Rattle.dq_words.specs.OpenCalls.{Open}
 use Rattle.dq_queue.specs.Claims.{HasClaim}
@@ -8,3 +8,14 @@ pub returns-in-Ok-clause-fresh : goal.returns-in-Ok-clause-fresh
 returns-in-Ok-clause-fresh g c =
     let P : List (Claimed Open) → Type 0 = λ l. ¬ HasClaim l c.args.claim.now.number in
     subst P (c.as_slice.ensures.value ∙ c.reserve.ensures.items) (c.knows.ensures.none c.if-knows.false)
+
+pub returns-then-knows-clause-refused : goal.returns-then-knows-clause-refused
+returns-then-knows-clause-refused g c =
+    let P : List (Claimed Open) → Type 0 = λ l. HasClaim l c.args.claim.now.number in
+    inr (inl (refl, subst P (c.as_slice.ensures.value ∙ c.reserve.ensures.items) (c.knows.ensures.has c.if-knows.true)))
+
+pub returns-in-Err-clause-refused : goal.returns-in-Err-clause-refused
+returns-in-Err-clause-refused g c =
+    let P : List (Claimed Open) → Type 0 = λ l. ¬ HasClaim l c.args.claim.now.number in
+    let none = subst P (c.as_slice.ensures.value ∙ c.reserve.ensures.items) (c.knows.ensures.none c.if-knows.false) in
+    inr (inr (none, c.in-Err.ensures.refused))

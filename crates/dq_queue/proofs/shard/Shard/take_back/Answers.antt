@@ -5,7 +5,7 @@ use Rattle.dq_journal.specs.Once.{EntersOnce}
 use Rattle.dq_growing.specs.declared.cores.TakeError.{TakeError}
 use Rattle.dq_growing.specs.Store.{StoreState}
 use Rattle.dq_words.specs.Seats.{Sat}
-use Rattle.dq_queue.specs.Calls.{StoreTakesIn, IsStoreCall}
+use Rattle.dq_queue.specs.Calls.{StoreRefuses, StoreTakesIn, IsStoreCall}
 use Rattle.dq_queue.specs.Loans.{bare_answer, DrainedView}
 use Rattle.dq_queue.specs.Shards.{CallerView, Held, HeldShard}
 use Rattle.dq_queue.proofs.Claims.{same_cores, still_claimed}
@@ -92,3 +92,14 @@ returns-clause-takes g c =
     ] in
     let P : Core _ Sat × Result (Unit {0}) (TakeError × Core _ Sat) × HeldShard _ × Held _ → Type 0 = λ x. StoreTakesIn x.0 x.1 x.2.held.store x.3.store in
     subst P (λ n. (own n, same n, c.self.view_is n, sym after n)) made.ensures.takes
+
+pub returns-clause-refused : goal.returns-clause-refused
+returns-clause-refused g c =
+    let made = c.take_in-answer in
+    let own = ap (λ (d : DrainedView _). d.core) c.drained.view_is in
+    let same : made.result ≡ bare_answer c.match-answer.result = elim c.match-answer.branch [
+      | in-Ok w ↦ w.in-Ok.is ∙ sym (ap bare_answer w.result-is)
+      | in-Err w ↦ w.in-Err.is ∙ sym (ap bare_answer w.result-is)
+    ] in
+    let P : Core _ Sat × Result (Unit {0}) (TakeError × Core _ Sat) × HeldShard _ → Type 0 = λ x. StoreRefuses x.0 x.1 x.2.held.store in
+    subst P (λ n. (own n, same n, c.self.view_is n)) made.ensures.refused

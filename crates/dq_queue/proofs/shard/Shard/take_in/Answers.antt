@@ -1,8 +1,9 @@
-use Rattle.std.proofs.Common.{OnOk, Some, refl, sym, ap, ◌∙◌, subst, inl, inr}
+use Rattle.std.proofs.Common.{IfErr, OnOk, Some, refl, sym, ap, ◌∙◌, subst, inl, inr}
 use Rattle.dq_journal.specs.History.{entry}
 use Rattle.dq_growing.specs.Store.{StoreState}
 use Rattle.dq_words.specs.Seats.{Sat}
 use Rattle.dq_queue.specs.Calls.{StoreTakesIn, IsStoreCall}
+use Rattle.dq_queue.specs.Claims.{RefusedAsNew}
 use Rattle.dq_queue.specs.Runs.{IsNewNumber}
 use Rattle.dq_queue.specs.Shards.{CallerView, HeldShard}
 use Rattle.dq_queue.proofs.Histories.{goes_on_so, once, one_name}
@@ -50,3 +51,9 @@ returns-clause-fresh g c =
     let P : HeldShard _ → Type 0 = λ s. OnOk made.result (IsNewNumber s.history.log c.args.core.shard) in
     subst P c.self.view_is (new_number c.self.inside.history.view.log c.self.inside.held.store c.self.inside.loans.view.log c.self.inside.claims.items c.args.core c.args.claim.now made.result c.self.invariant.9
     made.ensures.fresh c.requires.claim.1)
+
+pub returns-clause-refused : goal.returns-clause-refused
+returns-clause-refused g c =
+    let made = c.take_new-answer in
+    let P : HeldShard _ → Type 0 = λ s. IfErr made.result (λ e. RefusedAsNew s.claims c.args.claim.now.number s.held.store c.args.core e.0) in
+    subst P c.self.view_is made.ensures.refused
