@@ -83,7 +83,7 @@ module _ {T : Type 0} where
       let S : List (EntryId × T) × Held T → Type 0 = λ z. HaveOwnIds z.0 × Settled (e ∷ es) all z.1.store z.0 in
       let there = some_is new h (sym left ∙ at) in
       subst S (λ n. (sym is n, there n)) (ids, mine)
-  settle (e ∷ es) (old, new, left, was, number, call, history) kept came (inr (none, in_it)) h at =
+  settle (e ∷ es) (old, new, left, was, number, call, history) kept came (inr in_it) h at =
       let all : IsStoreHistory (e ∷ es) = (old, new, left, was, number, call, history) in
       let before = settle es history kept.1 came in_it old was in
       let R : Held T → Type 0 = λ z. HaveOwnIds came × Settled (e ∷ es) all z.store came in

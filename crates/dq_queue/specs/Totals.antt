@@ -23,14 +23,14 @@ module _ {T : Type 0} where
       (when : ℕ) × (k : Key) × (beside : Option T) × (k.entry ≡ u)
       × StoreInserts v when (Ok k, beside) s t
 
-  -- the entries that came in by a history's calls, the newest first, each with its value
+  -- entries that came in by a history's calls, all of them or some, the newest first, each with its value
   abbrev pub CameIn : (log : List (Entry (Held T))) → IsStoreHistory log → List (EntryId × T) →
       Type 0
   CameIn [] history came = came ≡ []
   CameIn (e ∷ es) (old, new, left, was, number, call, history) came =
       ((u : EntryId) × (v : T) × (older : List (EntryId × T)) × (came ≡ (u, v) ∷ older)
       × WasPutIn u v old.store new.store × CameIn es history older)
-      ⊎ (((u : EntryId) (v : T) → ¬ WasPutIn u v old.store new.store) × CameIn es history came)
+      ⊎ CameIn es history came
 
   -- none of these entries has that id
   abbrev pub NoneHas : EntryId → List (EntryId × T) → Type 0
@@ -62,7 +62,7 @@ module _ {T : Type 0} where
       ⊎ (CameAbout WasCancelledIn log history x.0 × (n ≡ record m { cancelled = m.cancelled + 1 })))))
 
   -- In a history as many entries came in as stand there, were given out and were cancelled, each under
-  -- an id of its own.
+  -- an id of its own: of all that came in, and of any choice of them.
   abbrev pub TotalsAgreeIn : List (Entry (Held T)) → Type 0
   TotalsAgreeIn log =
       (history : IsStoreHistory log) (came : List (EntryId × T)) (h : Held T) →
