@@ -579,6 +579,7 @@ impl<T, J: Rooms, A: Allocator + Clone> Shard<T, J, A> {
         ensures once { MadeOnce me.old (λ s t. StoreTakesIn core result s t) me.new }
         ensures one_more { OneMore self.old me.old self.new }
         ensures fresh { OnOk result (IsNewNumber self.old.history.log core.shard) }
+        ensures unclaimed { OnOk result (¬ HasClaim self.old.claims claim.now.number) }
         ensures takes { StoreTakesIn core result self.old.held.store self.new.held.store }
         ensures number { self.new.held.number ≡ self.old.held.number }
         ensures more { OnOk result (self.new.claims ≡ self.old.claims ++ claim.now ∷ []) }

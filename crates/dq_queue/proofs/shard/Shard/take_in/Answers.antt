@@ -3,7 +3,7 @@ use Rattle.dq_journal.specs.History.{entry}
 use Rattle.dq_growing.specs.Store.{StoreState}
 use Rattle.dq_words.specs.Seats.{Sat}
 use Rattle.dq_queue.specs.Calls.{StoreTakesIn, IsStoreCall}
-use Rattle.dq_queue.specs.Claims.{RefusedAsNew}
+use Rattle.dq_queue.specs.Claims.{HasClaim, RefusedAsNew}
 use Rattle.dq_queue.specs.Runs.{IsNewNumber}
 use Rattle.dq_queue.specs.Shards.{CallerView, HeldShard}
 use Rattle.dq_queue.proofs.Histories.{goes_on_so, once, one_name}
@@ -57,3 +57,9 @@ returns-clause-refused g c =
     let made = c.take_new-answer in
     let P : HeldShard _ → Type 0 = λ s. IfErr made.result (λ e. RefusedAsNew s.claims c.args.claim.now.number s.held.store c.args.core e.0) in
     subst P c.self.view_is made.ensures.refused
+
+pub returns-clause-unclaimed : goal.returns-clause-unclaimed
+returns-clause-unclaimed g c =
+    let made = c.take_new-answer in
+    let P : HeldShard _ → Type 0 = λ s. OnOk made.result (¬ HasClaim s.claims c.args.claim.now.number) in
+    subst P c.self.view_is made.ensures.fresh
