@@ -1,6 +1,8 @@
 //! Cores that are away from a shard. Each left it drained, and may come back as it is, or once it was folded and unfolded.
 ghost use Rattle.std.specs.Prelude.{◌≡◌, ◌<◌, ◌↔◌, max, IfErr, IfOk, IsErr, OnErr, OnOk};
 ghost use Rattle.dq_core.specs.Core.{machine};
+ghost use Rattle.dq_core.specs.Deferring.{NoneDeferred};
+ghost use Rattle.dq_core.specs.Machine.{NoneLinked};
 ghost use Rattle.dq_core.specs.Folds.{IsFoldable, at_tick, folded_machine};
 ghost use Rattle.dq_core.specs.declared.errors.CoreError.TheVariants.{TickTooLarge};
 ghost use Rattle.dq_ticks.specs.declared.TheConstants.{LAST_TICK};
@@ -75,7 +77,8 @@ impl<T: Drop, J: Rooms, A: Allocator> Drained<T, J, A> {
     /// # Errors
     /// It comes back as it was, if the core holds an entry, or if a freed value waits for its drop.
     pub fn fold(self) -> Result<FoldedDrained<T, J, A>, Drained<T, J, A>>
-        // The core's number, its machine and its words stay.
+        // Nothing was linked and no value waited for its drop. The core's number, its machine and its words stay.
+        ensures empty { IfOk result (λ f. IsFoldable self.core) }
         ensures machine { IfOk result (λ f. folded_machine f.folded ≡ machine self.core) }
         ensures same { IfOk result (λ f. (f.folded.shard ≡ self.core.shard)
             × (f.folded.words ≡ self.core.words) × (f.shard ≡ self.shard)) }
@@ -145,6 +148,8 @@ impl<T, J: Rooms, A: Allocator + Clone> FoldedDrained<T, J, A> {
     /// # Errors
     /// It comes back as it was, only if memory is refused.
     pub fn unfold(self, alloc: A) -> Result<Drained<T, J, A>, FoldedDrained<T, J, A>>
+        ensures empty { IfOk result
+            (λ d. NoneLinked (machine d.core) × NoneDeferred d.core.deferred) }
         ensures machine { IfOk result (λ d. machine d.core ≡ folded_machine self.folded) }
         ensures same { IfOk result (λ d. (d.core.shard ≡ self.folded.shard)
             × (d.core.words.table ≡ self.folded.words.table) × (d.shard ≡ self.shard)) }

@@ -720,7 +720,8 @@ impl<T: Drop, J: Rooms, A: Allocator + Clone + Drop> Shard<T, J, A> {
         ensures takes { StoreTakesBack drained result self.old.held.store self.new.held.store }
         ensures refused { StoreRefusesBack drained result self.old.held.store }
         ensures back { IfErr result
-            (λ e. (e.1.core ≡ drained.core) × (e.1.shard ≡ drained.shard)) }
+            (λ e. (e.1.core ≡ drained.core) × (e.1.shard ≡ drained.shard)
+            × (e.1.loan.number ≡ drained.loan.number)) }
         ensures number { self.new.held.number ≡ self.old.held.number }
         ensures claims { self.new.claims ≡ self.old.claims }
     {
