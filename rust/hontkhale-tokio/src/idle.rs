@@ -353,14 +353,15 @@ impl<IO: AsyncWrite + Unpin> AsyncWrite for IdleTimeout<IO> {
 
 #[cfg(test)]
 mod tests {
-    use super::{IdleTimeouts, Waits, WakerCell};
+    use super::{IdleTimeout, IdleTimeouts, SharedQueue, Timeouts, Waits, WakerCell};
     use std::io::ErrorKind;
+    use std::panic::{catch_unwind, AssertUnwindSafe};
     use std::sync::atomic::{AtomicUsize, Ordering::SeqCst};
-    use std::sync::{mpsc, Arc};
+    use std::sync::{mpsc, Arc, Mutex};
     use std::task::{Context, Poll, Wake, Waker};
     use std::thread;
     use std::time::Duration;
-    use tokio::io::{duplex, AsyncWriteExt};
+    use tokio::io::{duplex, AsyncWriteExt, DuplexStream};
     use tokio::task::yield_now;
     use tokio::time::sleep;
 
@@ -384,10 +385,11 @@ mod tests {
     #[tokio::test(start_paused = true)]
     async fn what_a_connection_shared_is_freed_with_it() {
         let timeouts = IdleTimeouts::new();
-        let [dropped, over] = [30, 10].map(|after| timeouts.wrap(duplex(8).0, Duration::from_secs(after)));
-        let shared = [&dropped, &over].map(|connection| Arc::downgrade(&connection.entry.waits));
+        let [dropped, over, unwrapped] =
+            [30, 10, 30].map(|after| timeouts.wrap(duplex(8).0, Duration::from_secs(after)));
+        let shared = [&dropped, &over, &unwrapped].map(|connection| Arc::downgrade(&connection.entry.waits));
         sleep(Duration::from_secs(20)).await;
-        drop((dropped, over));
+        drop((dropped, over, unwrapped.into_inner()));
         assert!(shared.iter().all(|waits| waits.upgrade().is_none()));
     }
 
@@ -452,16 +454,85 @@ mod tests {
         assert!(before < server.entry.place.expect("it has a timeout").1);
     }
 
+    /// A waker that ends the time as another one takes its place.
+    struct Ends(Arc<Waits>);
+
+    impl Wake for Ends {
+        fn wake(self: Arc<Self>) {}
+    }
+
+    impl Drop for Ends {
+        fn drop(&mut self) {
+            self.0.end();
+        }
+    }
+
     #[test]
     fn a_call_amid_which_time_ends_errs() {
-        let waits = Waits::default();
-        let pending = |_: &mut Context<'_>| {
-            waits.end();
-            Poll::<std::io::Result<()>>::Pending
-        };
+        let waits = Arc::<Waits>::default();
+        waits.reader.listen(&Arc::new(Ends(waits.clone())).into());
         let waker = Waker::from(Arc::new(Sees::default()));
+        let pending = |_: &mut Context<'_>| Poll::<std::io::Result<()>>::Pending;
         let answer = waits.poll(&waits.reader, &mut Context::from_waker(&waker), pending);
         assert!(matches!(answer, Poll::Ready(Err(refused)) if refused.kind() == ErrorKind::TimedOut));
+    }
+
+    #[test]
+    fn bytes_that_moved_as_time_ended_are_told_of() {
+        let waits = Waits::default();
+        let waker = Waker::from(Arc::new(Sees::default()));
+        let moves = |_: &mut Context<'_>| {
+            waits.end();
+            Poll::Ready(Ok(7))
+        };
+        let answer = waits.poll(&waits.writer, &mut Context::from_waker(&waker), moves);
+        assert!(matches!(answer, Poll::Ready(Ok(7))));
+    }
+
+    #[tokio::test(start_paused = true)]
+    async fn a_connection_for_which_there_is_no_place_is_refused() {
+        let queue = SharedQueue::builder().max_entries(1).build().into();
+        let timeouts = IdleTimeouts { shared: Arc::new(Timeouts { queue, ..Timeouts::default() }) };
+        let wrap = || timeouts.wrap(duplex(8).0, Duration::from_secs(30));
+        let first = wrap();
+        assert!(catch_unwind(AssertUnwindSafe(wrap)).is_err());
+        drop(first);
+        drop(wrap());
+    }
+
+    /// A waker that leaves another one in its place, whose drop panics, as a thread may that polls meanwhile; and drops its
+    /// connection.
+    struct Leaves(Mutex<Option<IdleTimeout<DuplexStream>>>);
+
+    struct Fragile;
+
+    impl Wake for Leaves {
+        fn wake(self: Arc<Self>) {
+            let connection = self.0.lock().unwrap().take().expect("it is woken once");
+            connection.entry.waits.reader.listen(&Arc::new(Fragile).into());
+        }
+    }
+
+    impl Wake for Fragile {
+        fn wake(self: Arc<Self>) {}
+    }
+
+    impl Drop for Fragile {
+        fn drop(&mut self) {
+            panic!("a waker that is dropped");
+        }
+    }
+
+    #[tokio::test(start_paused = true)]
+    async fn a_waker_that_panics_as_it_is_dropped_ends_no_task() {
+        let timeouts = IdleTimeouts::new();
+        let [first, mut second] = [10, 20].map(|after| timeouts.wrap(duplex(8).0, Duration::from_secs(after)));
+        let leaves = Arc::new(Leaves(Mutex::default()));
+        first.entry.waits.reader.listen(&leaves.clone().into());
+        *leaves.0.lock().unwrap() = Some(first);
+        sleep(Duration::from_secs(30)).await;
+        assert!(leaves.0.lock().unwrap().is_none());
+        assert_eq!(second.write_u8(1).await.unwrap_err().kind(), ErrorKind::TimedOut);
     }
 
     /// A waker that asks, as it is called, whether time is over.

@@ -5,12 +5,12 @@ mod common;
 use common::{ends, ms, paused, threaded, Dice, Wakes};
 use hontkhale_tokio::{IdleTimeout, IdleTimeouts};
 use std::io::{self, ErrorKind, IoSlice};
-use std::pin::Pin;
+use std::pin::{pin, Pin};
 use std::sync::Arc;
 use std::task::{Context, Poll, Wake, Waker};
 use std::time::Duration;
 use tokio::io::{duplex, split, AsyncRead, AsyncReadExt, AsyncWrite, AsyncWriteExt, DuplexStream, ReadBuf};
-use tokio::time::{sleep, timeout_at, Instant};
+use tokio::time::{sleep, timeout, timeout_at, Instant};
 
 const IDLE: Duration = Duration::from_secs(30);
 
@@ -89,8 +89,27 @@ fn what_moves_no_byte_extends_nothing() {
                 assert_eq!(server.read(&mut []).await.unwrap(), 0);
                 assert_eq!(server.read(&mut [0]).await.unwrap(), 0, "the other side has ended");
             }
+            server.shutdown().await.unwrap();
             sleep(ms(1_001)).await;
             assert!(is_over(server.write(&[1]).await));
+        });
+    });
+}
+
+/// A `read_exact` that has some of its bytes is polled again and again, as in a `select!`.
+#[test]
+fn a_read_that_has_some_of_its_bytes_extends_only_by_more() {
+    ends(|| {
+        paused().block_on(async {
+            let (mut client, mut server) = connected(&IdleTimeouts::new(), IDLE);
+            client.write_u8(1).await.unwrap();
+            let (start, mut bytes) = (Instant::now(), [0; 2]);
+            let mut read = pin!(server.read_exact(&mut bytes));
+            for _ in 0..4 {
+                assert!(timeout(ms(7_000), &mut read).await.is_err());
+            }
+            assert!(is_over(timeout(ms(7_000), read).await.expect("it is idle")));
+            assert_eq!(start.elapsed(), IDLE);
         });
     });
 }
@@ -154,6 +173,47 @@ fn the_task_that_waited_last_is_woken() {
             }
             sleep(IDLE + ms(1)).await;
             assert_eq!(wakes.map(|woken| woken.take()), [0, 2]);
+        });
+    });
+}
+
+/// A stream on which nothing comes to its end.
+struct Stuck;
+
+impl AsyncRead for Stuck {
+    fn poll_read(self: Pin<&mut Self>, _: &mut Context<'_>, _: &mut ReadBuf<'_>) -> Poll<io::Result<()>> {
+        Poll::Pending
+    }
+}
+
+impl AsyncWrite for Stuck {
+    fn poll_write(self: Pin<&mut Self>, _: &mut Context<'_>, _: &[u8]) -> Poll<io::Result<usize>> {
+        Poll::Pending
+    }
+
+    fn poll_flush(self: Pin<&mut Self>, _: &mut Context<'_>) -> Poll<io::Result<()>> {
+        Poll::Pending
+    }
+
+    fn poll_shutdown(self: Pin<&mut Self>, _: &mut Context<'_>) -> Poll<io::Result<()>> {
+        Poll::Pending
+    }
+}
+
+#[test]
+fn a_read_that_waits_beside_a_flush_or_a_shutdown_is_woken() {
+    ends(|| {
+        paused().block_on(async {
+            for shuts_down in [false, true] {
+                let [reads, writes] = [Arc::<Wakes>::default(), Arc::default()];
+                let mut server = IdleTimeouts::new().wrap(Stuck, IDLE);
+                assert!(poll_read(&mut server, &reads.clone().into()).is_pending());
+                let waker = writes.clone().into();
+                let (io, mut cx) = (Pin::new(&mut server), Context::from_waker(&waker));
+                assert!(if shuts_down { io.poll_shutdown(&mut cx) } else { io.poll_flush(&mut cx) }.is_pending());
+                sleep(IDLE + ms(1)).await;
+                assert_eq!((reads.take(), writes.take()), (1, 1));
+            }
         });
     });
 }
@@ -247,6 +307,24 @@ fn a_zero_timeout_is_over_at_once_and_the_longest_never() {
                 client.write_u8(1).await.unwrap();
                 never.read_u8().await.unwrap();
             }
+        });
+    });
+}
+
+#[test]
+fn a_timeout_is_rounded_up_to_milliseconds() {
+    ends(|| {
+        paused().block_on(async {
+            let (_client, mut server) = connected(&IdleTimeouts::new(), Duration::from_micros(10_500));
+            let start = Instant::now();
+            sleep(ms(5)).await;
+            server.write_u8(1).await.unwrap();
+            assert!(is_over(server.read_u8().await));
+            assert_eq!(start.elapsed(), ms(16));
+            let (_client, mut server) = connected(&IdleTimeouts::new(), Duration::from_micros(10_500));
+            let start = Instant::now();
+            assert!(is_over(server.read_u8().await));
+            assert_eq!(start.elapsed(), ms(11));
         });
     });
 }
@@ -379,7 +457,7 @@ fn a_connection_that_timed_out_leaves_nothing() {
     });
 }
 
-/// A waker that panics, with a value that panics as it is dropped.
+/// A waker that panics, with a value that panics as it is dropped, with another one.
 struct Panics;
 
 struct PanicsInDrop;
@@ -392,7 +470,7 @@ impl Wake for Panics {
 
 impl Drop for PanicsInDrop {
     fn drop(&mut self) {
-        panic!("a panic that is dropped");
+        std::panic::panic_any(PanicsInDrop);
     }
 }
 
@@ -460,7 +538,19 @@ fn a_second_runtime_goes_on_where_the_first_one_has_ended() {
     });
 }
 
-/// Threads that extend race the task that times out: what moved a byte has the whole time from then on.
+#[test]
+fn the_task_is_spawned_anew_that_never_ran_in_its_runtime() {
+    ends(|| {
+        let timeouts = IdleTimeouts::new();
+        drop(paused().block_on(async { connected(&timeouts, IDLE) }));
+        paused().block_on(async {
+            let (_client, mut server) = connected(&timeouts, IDLE);
+            assert!(is_over(timeout(2 * IDLE, server.read_u8()).await.expect("a task runs")));
+        });
+    });
+}
+
+/// Threads that extend race the task that times out: a byte that moved in time gives the whole time from then on.
 #[test]
 fn no_connection_of_four_threads_is_over_before_its_time() {
     ends(|| {
@@ -469,7 +559,7 @@ fn no_connection_of_four_threads_is_over_before_its_time() {
             let talks = |seed| {
                 let timeouts = timeouts.clone();
                 async move {
-                    let (mut dice, after) = (Dice(seed), ms(5));
+                    let (mut dice, after, mut last) = (Dice(seed), ms(5), Instant::now());
                     let (mut client, mut server) = connected(&timeouts, after);
                     loop {
                         let before = Instant::now();
@@ -479,12 +569,14 @@ fn no_connection_of_four_threads_is_over_before_its_time() {
                         };
                         match moved {
                             Err(refused) => return assert_eq!(refused.kind(), ErrorKind::TimedOut),
-                            Ok(_) if dice.below(50) > 0 => sleep(ms(dice.below(4))).await,
+                            // Where a thread waited, the byte may have moved after the deadline.
+                            Ok(_) if dice.below(50) > 0 || last.elapsed() >= after => sleep(ms(dice.below(4))).await,
                             Ok(_) => {
                                 assert!(is_over(server.read_u8().await));
                                 return assert!(before.elapsed() >= after);
                             }
                         }
+                        last = before;
                     }
                 }
             };
