@@ -3,10 +3,11 @@
 mod common;
 
 use common::{ends, ms, paused, running, Dice, Wakes};
+use futures_core::Stream;
 use hontkhale_tokio::{DelayQueue, SharedQueue};
 use std::collections::BTreeMap;
 use std::future::{poll_fn, Future};
-use std::pin::pin;
+use std::pin::{pin, Pin};
 use std::sync::Arc;
 use std::task::{Context, Waker};
 use tokio::runtime::Runtime;
@@ -197,6 +198,33 @@ fn one_task_goes_on_in_a_second_runtime_once_it_was_given_an_entry() {
     });
 }
 
+/// The same of a stream.
+#[test]
+fn a_stream_of_one_task_goes_on_in_a_second_runtime_once_it_gave_an_entry() {
+    ends(|| {
+        let (first, second) = (paused(), paused());
+        let queue = first.block_on(async { SharedQueue::new() });
+        let mut stream = queue.stream();
+        let wakes = Arc::<Wakes>::default();
+        let waker = Waker::from(wakes.clone());
+        let mut cx = Context::from_waker(&waker);
+        first.block_on(async {
+            queue.insert("c".to_string(), ms(60_000)).unwrap();
+            assert!(Pin::new(&mut stream).poll_next(&mut cx).is_pending());
+            queue.insert("a".to_string(), ms(1)).unwrap();
+            advance(ms(1)).await;
+            assert!(Pin::new(&mut stream).poll_next(&mut cx).is_ready());
+        });
+        second.block_on(async {
+            assert!(Pin::new(&mut stream).poll_next(&mut cx).is_pending());
+            wakes.take();
+            advance(ms(60_001)).await;
+            assert_eq!(wakes.take(), 1);
+        });
+        drop(first);
+    });
+}
+
 #[test]
 fn a_stream_goes_on_in_a_second_runtime_while_the_first_is_not_driven() {
     for has_waited in [false, true] {
@@ -211,8 +239,14 @@ fn a_stream_goes_on_in_a_second_runtime_while_the_first_is_not_driven() {
                 assert!(!has_waited || timeout(ms(5), stream.next()).await.is_err());
             });
             second.block_on(async { assert_eq!(stream.next().await.unwrap().value, "c") });
-            first.block_on(async { queue.insert("d", ms(10)).unwrap() });
-            first.block_on(async { assert_eq!(stream.next().await.unwrap().value, "d") });
+            first.block_on(async { queue.insert("d", ms(60_000)).unwrap() });
+            for runtime in [&first, &second] {
+                runtime.block_on(async { assert!(timeout(ms(5), stream.next()).await.is_err()) });
+            }
+            first.block_on(async {
+                let out = timeout(ms(90_000), stream.next()).await.expect("it is due").expect("the queue is open");
+                assert_eq!((out.value, out.deadline), ("d", Instant::now()));
+            });
             drop(second);
         });
     }

@@ -39,14 +39,14 @@ fn each_moment_is_of_the_paused_clock() {
             assert_eq!(handle.deadline(&key), Ok(start + ms(7)));
             let key = queue.reset_at(&key, start + ms(40)).unwrap();
             // The reset is a later one, so that it may tell the deadline from before.
-            assert!(queue.next_deadline() <= Some(start + ms(40)));
+            assert!(queue.next_deadline().is_some_and(|next| next <= start + ms(40)));
             assert_eq!(queue.remove_if_due(&key), Ok(None));
             assert_eq!(queue.stream().next().await.map(|out| (out.key, out.deadline)), Some((key, start + ms(40))));
             assert_eq!(Instant::now(), start + ms(40));
             let keys = [1, 2, 3].map(|at| queue.insert(at.to_string(), ms(at)).unwrap());
             assert_eq!(queue.cancel(&keys[0]), Ok(start + ms(41)));
             assert_eq!(handle.cancel(&keys[1]), Ok(start + ms(42)));
-            assert!(!queue.is_closed());
+            assert!(!queue.is_closed() && !queue.is_empty());
             queue.close();
             let left: Vec<_> = queue.drain().map(|out| (out.key, out.deadline, out.value)).collect();
             assert_eq!(left, [(keys[2], start + ms(43), "3".to_string())]);

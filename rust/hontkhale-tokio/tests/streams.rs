@@ -3,11 +3,11 @@
 mod common;
 
 use common::{ends, ms, paused, running, threaded, Dice};
-use hontkhale::{DelayQueue, ManualClock};
+use hontkhale::DelayQueue;
 use hontkhale_tokio::shared_queue::QueueStream;
 use hontkhale_tokio::SharedQueue;
 use std::sync::atomic::{AtomicU64, Ordering::SeqCst};
-use std::sync::Arc;
+use std::sync::{Arc, OnceLock};
 use std::thread;
 use std::time::Duration;
 use tokio::time::{sleep, timeout, Instant};
@@ -66,6 +66,19 @@ fn a_sooner_insert_or_reset_from_another_task_wakes() {
 }
 
 #[test]
+fn a_stream_gives_what_is_put_into_the_queue_that_it_names() {
+    ends(|| {
+        paused().block_on(async {
+            let queue = SharedQueue::new();
+            let mut stream = queue.stream();
+            stream.queue().insert("a".to_string(), ms(10)).unwrap();
+            let out = timeout(ms(20), stream.next()).await.expect("it is in");
+            assert_eq!(out.map(|out| out.value).as_deref(), Some("a"));
+        });
+    });
+}
+
+#[test]
 fn a_stream_that_is_dropped_amid_its_wait_leaves_everything() {
     ends(|| {
         paused().block_on(async {
@@ -89,14 +102,17 @@ fn a_stream_that_is_dropped_amid_its_wait_leaves_everything() {
 fn a_stream_whose_clock_stands_still_leaves_their_turn_to_others() {
     ends(|| {
         running().block_on(async {
-            let clock = ManualClock::new();
-            let queue = SharedQueue::from(DelayQueue::builder().clock(&clock).build());
+            static START: OnceLock<std::time::Instant> = OnceLock::new();
+            static PASSED: AtomicU64 = AtomicU64::new(0);
+            let clock = || *START.get_or_init(std::time::Instant::now) + ms(PASSED.load(SeqCst));
+            let queue = SharedQueue::from(DelayQueue::builder().read_clock(clock).build());
             queue.insert("late", ms(5)).unwrap();
             let mut stream = queue.stream();
             let late = tokio::spawn(async move { stream.next().await.map(|out| out.value) });
             sleep(ms(20)).await;
-            clock.advance(ms(5));
-            assert_eq!(late.await.unwrap(), Some("late"));
+            PASSED.store(5, SeqCst);
+            let late = timeout(Duration::from_secs(60), late).await.expect("it is polled on and on");
+            assert_eq!(late.unwrap(), Some("late"));
         });
     });
 }
