@@ -287,6 +287,19 @@ fn worn_cores_go() {
     assert_eq!(queue.remove(&stays).map(|out| out.data), Some(0));
 }
 
+#[test]
+fn the_numbers_tell_how_many_slots_are_worn() {
+    paused().block_on(async {
+        let mut queue = DelayQueue::with_last_stamp(64, 2);
+        queue.insert("stays".to_string(), ms(10));
+        for worn in [0, 0, 8] {
+            let keys: Vec<Key> = (0..8).map(|_| queue.insert("a value".to_string(), ms(10))).collect();
+            assert_eq!(queue.numbers().worn, worn);
+            keys.iter().for_each(|key| drop(queue.remove(key)));
+        }
+    });
+}
+
 /// A value that counts the drops within a call that isn't to drop any.
 struct Watched {
     is_in_call: Rc<Cell<bool>>,

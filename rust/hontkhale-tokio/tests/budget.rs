@@ -297,6 +297,24 @@ fn the_poll_that_ends_a_row_of_entries_drops_what_a_handle_cancelled() {
     });
 }
 
+/// A poll that finds the queue empty isn't pending.
+#[test]
+fn a_row_of_entries_goes_on_where_the_queue_is_empty_between_them() {
+    ends(|| {
+        paused().block_on(async {
+            let mut queue = DelayQueue::new();
+            let waker = Waker::from(Arc::<Wakes>::default());
+            let mut cx = Context::from_waker(&waker);
+            for at in 0..128 {
+                queue.insert(at.to_string(), Duration::ZERO);
+                assert!(matches!(queue.poll_expired(&mut cx), Poll::Ready(Some(_))), "{at}");
+                assert!(at == 127 || matches!(queue.poll_expired(&mut cx), Poll::Ready(None)), "{at}");
+            }
+            assert!(queue.poll_expired(&mut cx).is_pending());
+        });
+    });
+}
+
 /// A poll that waits for an entry, or has more steps to make, begins the count anew.
 #[test]
 fn a_row_of_entries_ends_where_a_poll_is_pending() {

@@ -265,12 +265,19 @@ fn too_far_is_refused() {
             assert!(handle.extend(&key, YEAR * 130).is_ok());
             // It is told first, of an entry that has ended too.
             assert_eq!(queue.remove(&key).into_inner(), "a");
+            assert_eq!(queue.try_reset_at(&key, Instant::now() + YEAR * 140), Err(EntryError::TooFar));
             assert_eq!(handle.extend(&key, Duration::MAX), Err(EntryError::TooFar));
             drop(queue);
             assert_eq!(handle.extend_at(&key, Instant::now() + YEAR * 140), Err(EntryError::TooFar));
             assert_eq!(handle.extend(&key, YEAR * 130), Err(EntryError::Ended));
         });
     });
+}
+
+#[test]
+fn an_error_says_which_it_is() {
+    let said = [EntryError::TooFar, EntryError::Ended].map(|error| error.to_string());
+    assert!(said[0].contains("too far") && said[1].contains("ended"));
 }
 
 /// A queue that was made by a paused clock, which was advanced, begins later than the machine's clock shows.

@@ -66,6 +66,7 @@ fn the_longest_never_falls() {
             assert_eq!((queue.numbers().late, queue.numbers().latest), (ms(1_000), ms(1_000)));
             queue.remove(&one);
             assert_eq!((queue.numbers().late, queue.numbers().latest), (ms(990), ms(1_000)));
+            assert!(queue.numbers().to_string().ends_with(", 0.990 s late, at most 1.000 s"));
             assert!(queue.poll_expired(&mut Context::from_waker(&waker())).is_ready());
             assert_eq!((queue.numbers().late, queue.numbers().latest), (ms(0), ms(1_000)));
         });
