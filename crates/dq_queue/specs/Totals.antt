@@ -23,7 +23,8 @@ module _ {T : Type 0} where
       (when : ℕ) × (k : Key) × (beside : Option T) × (k.entry ≡ u)
       × StoreInserts v when (Ok k, beside) s t
 
-  -- entries that came in by a history's calls, all of them or some, the newest first, each with its value
+  -- entries that came in by a history's calls, all of them or some, the newest first, each with its
+  -- value
   abbrev pub CameIn : (log : List (Entry (Held T))) → IsStoreHistory log → List (EntryId × T) →
       Type 0
   CameIn [] history came = came ≡ []
@@ -49,8 +50,8 @@ module _ {T : Type 0} where
   CameAbout How (e ∷ es) (old, new, left, was, number, call, history) u =
       How u old.store new.store ⊎ CameAbout How es history u
 
-  -- Of these entries so many stand, each with its value. Of the others none stands: so many were given
-  -- out by a call of the history, and so many were found cancelled by one.
+  -- Of these entries so many stand, each with its value. Of the others none stands: so many were
+  -- given out by a call of the history, and so many were found cancelled by one.
   abbrev pub AreCounted : (log : List (Entry (Held T))) → IsStoreHistory log → StoreState T Sat →
       List (EntryId × T) → Counted → Type 0
   AreCounted log history s [] n = n ≡ record { here = 0; out = 0; cancelled = 0 }
@@ -61,8 +62,8 @@ module _ {T : Type 0} where
       × ((CameAbout GivesOut log history x.0 × (n ≡ record m { out = m.out + 1 }))
       ⊎ (CameAbout WasCancelledIn log history x.0 × (n ≡ record m { cancelled = m.cancelled + 1 })))))
 
-  -- In a history as many entries came in as stand there, were given out and were cancelled, each under
-  -- an id of its own: of all that came in, and of any choice of them.
+  -- In a history as many entries came in as stand there, were given out and were cancelled, each
+  -- under an id of its own: of all that came in, and of any choice of them.
   abbrev pub TotalsAgreeIn : List (Entry (Held T)) → Type 0
   TotalsAgreeIn log =
       (history : IsStoreHistory log) (came : List (EntryId × T)) (h : Held T) →
