@@ -232,7 +232,6 @@ impl Common {
 
     /// Wakes all who wait.
     pub fn wake_all(&self) {
-        self.ends.wake_all();
         self.receivers
             .wake_all(self.time.tick())
             .unwrap_or_else(|panic| resume_unwind(panic));

@@ -4,11 +4,11 @@
 //! shards' locks. An insert that was under way as inserts were refused either is seen by that look, or finds that the queue is to
 //! end and takes its entry back: so what was put in comes out.
 
+use crate::delay_queue::common::Common;
 use crate::delay_queue::shared::Shared;
 use crate::delay_queue::waking::lose;
 use crate::locks::is_in_closure_of;
 use std::sync::atomic::{fence, AtomicUsize, Ordering::SeqCst};
-use std::sync::{Condvar, Mutex, MutexGuard, PoisonError};
 use std::thread;
 use std::time::Duration;
 
@@ -21,10 +21,6 @@ pub(crate) struct Ends {
     state: AtomicUsize,
     /// The clones of the queue, which may insert.
     inserters: AtomicUsize,
-    /// How often those were woken that wait until the queue is empty. It is locked while it is found out whether the receivers
-    /// end. Nobody's code runs meanwhile.
-    emptied: Mutex<u64>,
-    woken: Condvar,
 }
 
 const REFUSES: usize = 1;
@@ -79,33 +75,23 @@ impl Ends {
     pub fn is_asked(&self) -> bool {
         self.asked.load(SeqCst) > 0
     }
+}
 
-    fn emptied(&self) -> MutexGuard<'_, u64> {
-        self.emptied.lock().unwrap_or_else(PoisonError::into_inner)
-    }
+/// Held while this thread waits until a queue is empty.
+struct Asks<'c>(&'c Common);
 
-    /// Wakes those that wait until the queue is empty.
-    pub fn wake_all(&self) {
-        *self.emptied() += 1;
-        self.woken.notify_all();
-    }
-
-    /// Sleeps until those that wait are woken once more than it has seen, at most for a time.
-    fn sleep(&self, seen: u64, length: Option<Duration>) {
-        let is_same = |wakes: &mut u64| *wakes == seen;
-        match length {
-            None => drop(self.woken.wait_while(self.emptied(), is_same)),
-            Some(length) => drop(self.woken.wait_timeout_while(self.emptied(), length, is_same)),
-        }
+impl<'c> Asks<'c> {
+    fn new(common: &'c Common) -> Asks<'c> {
+        common.receivers.add_asker();
+        common.ends.asked.fetch_add(1, SeqCst);
+        Asks(common)
     }
 }
 
-/// One that waits until a queue is empty.
-struct Asks<'e>(&'e Ends);
-
 impl Drop for Asks<'_> {
     fn drop(&mut self) {
-        self.0.asked.fetch_sub(1, SeqCst);
+        self.0.ends.asked.fetch_sub(1, SeqCst);
+        self.0.receivers.remove_asker();
     }
 }
 
@@ -133,7 +119,7 @@ impl<T> Shared<T> {
     /// panics with is lost: the caller may have a value in hand. No lock is held.
     #[cold]
     pub fn note_end(&self) {
-        // The lock of those that wait may be held by one that waits for the closure's: whoever has called that looks once more.
+        // Whoever has called the closure looks once more.
         if is_in_closure_of(self.common.id as usize) {
             return;
         }
@@ -142,7 +128,7 @@ impl<T> Shared<T> {
         if !self.common.has_none() {
             return;
         }
-        self.common.ends.wake_all();
+        self.common.receivers.wake_askers();
         if self.common.ends.ends_when_empty() {
             lose(self.end_if_empty());
         }
@@ -154,12 +140,11 @@ impl<T> Shared<T> {
         if is_in_closure_of(self.common.id as usize) {
             return Ok(());
         }
-        let deciding = self.common.ends.emptied();
         if self.common.is_closed() || !self.is_surely_empty() {
             return Ok(());
         }
+        // Another thread may have found it empty too: each that sleeps is called by one of them.
         let called = self.common.receivers.close();
-        drop(deciding);
         self.common.receivers.wake_each(called, self.common.tick_of_wake())
     }
 
@@ -171,13 +156,12 @@ impl<T> Shared<T> {
 
     /// Waits until no entry waits, and tells whether none did before the time was over.
     pub fn wait_empty(&self, timeout: Duration) -> bool {
-        let (time, ends) = (&self.common.time, &self.common.ends);
+        let time = &self.common.time;
         // A moment that no clock reaches is waited for without end.
         let until = time.now().checked_add(timeout);
-        ends.asked.fetch_add(1, SeqCst);
-        let _asks = Asks(ends);
+        // Whoever ends the last entry after a look finds this thread in the list, and wakes it.
+        let _asks = Asks::new(&self.common);
         loop {
-            let seen = *ends.emptied();
             let is_over = until.is_some_and(|until| until <= time.now());
             if self.is_surely_empty() {
                 return true;
@@ -185,7 +169,7 @@ impl<T> Shared<T> {
             if is_over {
                 return false;
             }
-            ends.sleep(seen, until.and_then(|until| time.sleep_until(until)));
+            self.park(until);
         }
     }
 }

@@ -112,7 +112,7 @@ impl<T> Shared<T> {
     }
 
     /// Sleeps until it is woken, at most until a moment.
-    fn park(&self, until: Option<Instant>) {
+    pub fn park(&self, until: Option<Instant>) {
         let Some(when) = until else {
             return thread::park();
         };

@@ -2,10 +2,9 @@
 //!
 //! # The order of locks
 //! A thread takes a lock only while it holds none but those before it here:
-//! 1. `Ends::emptied`: whether the receivers end, and who waits until the queue is empty.
-//! 2. `Shared::makes`: the clerk, held while a core is made.
-//! 3. A shard's, one at a time. Under it a closure of `get_mut` or `insert_with` may run, and no other code of a program's.
-//! 4. Each of these alone, while nobody's code runs: the line of receivers, the deferred values, the queues of a manual
+//! 1. `Shared::makes`: the clerk, held while a core is made.
+//! 2. A shard's, one at a time. Under it a closure of `get_mut` or `insert_with` may run, and no other code of a program's.
+//! 3. Each of these alone, while nobody's code runs: the line of receivers, the deferred values, the queues of a manual
 //!    clock.
 
 use crate::bell::{Hint, Rung};

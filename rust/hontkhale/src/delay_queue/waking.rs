@@ -83,6 +83,8 @@ struct Waits {
     stays: u64,
     /// Whether a task has waited.
     has_tasks: bool,
+    /// The threads that wait until the queue is empty, beside the line.
+    askers: Vec<Thread>,
 }
 
 /// Those who receive from a queue and wait.
@@ -198,6 +200,7 @@ impl Waiting {
             sitters: Vec::new(),
             stays: 0,
             has_tasks: false,
+            askers: Vec::new(),
         };
         Ok((Waiting(Mutex::new(waits)), written, hints))
     }
@@ -269,10 +272,28 @@ impl Waiting {
         self.wake_each(called.map(|Call(leader)| leader), now)
     }
 
-    /// Wakes all that sleep.
+    /// Wakes all that sleep, and those that wait until the queue is empty.
     pub fn wake_all(&self, now: u64) -> thread::Result<()> {
+        self.wake_askers();
         let all = self.waits().rise_all(now);
         self.wake_each(all, now)
+    }
+
+    /// Notes that this thread waits until the queue is empty.
+    pub fn add_asker(&self) {
+        self.waits().askers.push(thread::current());
+    }
+
+    pub fn remove_asker(&self) {
+        let (askers, id) = (&mut self.waits().askers, thread::current().id());
+        if let Some(at) = askers.iter().position(|asker| asker.id() == id) {
+            askers.swap_remove(at);
+        }
+    }
+
+    /// Wakes those that wait until the queue is empty: each looks whether it is.
+    pub fn wake_askers(&self) {
+        self.waits().askers.iter().for_each(Thread::unpark);
     }
 
     /// Closes for good: nobody sleeps any more. Those that are given are to be woken.
