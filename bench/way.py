@@ -19,7 +19,7 @@ RUSTC = ["rustc", "--edition=2021", "-g", "-Cno-prepopulate-passes"]
 # A function is told with its row of callers, of which none is as long as that.
 GRIND = ["valgrind", "--tool=callgrind", "--separate-callers=200", "--toggle-collect=way::down", "--toggle-collect=way::up"]
 VISIBLE = r"(?:pub(?:\([\w ]+\))? )?"
-TESTS = re.compile(rf"^#\[cfg\(test\)\]\n{VISIBLE}mod \w+ \{{\n.*?^\}}\n", re.M | re.S)
+TESTS = re.compile(rf"^#\[cfg\((?:all\()?test\b[^\n]*\]\n{VISIBLE}mod \w+ \{{\n.*?^\}}\n", re.M | re.S)
 STRUCT = re.compile(rf"^( *){VISIBLE}struct \w+[^;{{(]*(?:\((.*?)\);$|\{{\n(.*?)^\1\}}$)", re.M | re.S)
 STATIC = re.compile(rf"^ *{VISIBLE}static \w+: [^=;]*", re.M)
 
