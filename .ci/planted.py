@@ -1,10 +1,11 @@
 #!/usr/bin/env python3
 """Tries the gate itself: that it counts what its parts count, and that a wrong body that isn't refused fails it by name.
 
-usage: .ci/planted.py [gate | draw | edits]     (all, if none is named)
+usage: .ci/planted.py [gate | draw | fields | edits]     (all, if none is named)
 
   gate    `.ci/gate.py` over parts that only say what they are told to; takes a second
   draw    which wrong bodies `.ci/gate.py` has tried, over a repository of two crates that hold nothing else; takes seconds
+  fields  which fields of a planted file `bench/count --way` counts as atomics and locks; takes no time
   edits   `tools/test-edits` over the small crate in .ci/planted, with edits planted; takes minutes, and wants the kit
 
 Each case is told with what went wrong. The status is 1 where one did.
@@ -19,7 +20,12 @@ import sys
 import tempfile
 import tomllib
 
+sys.dont_write_bytecode = True
 TOP = pathlib.Path(__file__).resolve().parent.parent
+sys.path.append(str(TOP / "bench"))
+
+import way
+
 # A function that isn't proved with the second text.
 LEN, WRONG_LEN = "self.handles.len()\n", "let most = self.most; most\n"
 BY_NO_GOAL = "REFUSED BY NO GOAL OF THE RIGHT BODY"
@@ -28,6 +34,31 @@ SAID = {"stdout": subprocess.PIPE, "stderr": subprocess.STDOUT, "encoding": "utf
 # What a part says in whose place a script stands; what is asked of test-edits is what it says in the cases of the draw.
 SCRIPT = "#!/usr/bin/env python3\nimport sys\nprint('{}')\nsys.exit({})\n"
 ASKED = "import sys\nprint('asked:', *(it for it in sys.argv[1:] if '/' in it))\nprint('1 passed, 0 failed')\n"
+
+# A file of `DelayQueue`'s, and the types of its fields that count.
+FRONT = """
+static NEXT: AtomicU32 = AtomicU32::new(1);
+
+pub(crate) struct Shared<T> {
+    shards: Box<[Mutex<Shard<T>>]>,
+    pub(crate) makes: Mutex<Clerk<OpenWords>>,
+    /// No field: Mutex<T>,
+    left: [AtomicU64; 2],
+    held: MutexGuard<'static, T>,
+}
+
+struct Waiting(Condvar);
+
+fn raise(most: &AtomicUsize, it: Shared<u8>) {
+    let more = Mutex::new(it);
+}
+
+#[cfg(test)]
+mod tests {
+    static SEEN: AtomicBool = AtomicBool::new(false);
+}
+"""
+COUNTED = ["AtomicU32", "Condvar", "Mutex<Clerk<OpenWords>>", "[AtomicU64; 2]"]
 
 
 def lay_out_gate(folder, parts):
@@ -136,6 +167,15 @@ def draws(its):
     yield "all, where the clone hasn't the commit of the whole run", its.asked() == []
 
 
+def fields():
+    """The case of the fields, with what went wrong."""
+    with tempfile.NamedTemporaryFile("w", suffix=".rs", encoding="utf-8") as file:
+        file.write(FRONT)
+        file.flush()
+        its = sorted(way.shared_fields(way.text_of(pathlib.Path(file.name))))
+    yield "statics and fields, of one line or of more", [f"{its} are counted"] * (its != COUNTED)
+
+
 def lay_out(folder):
     """A tree of the tools and the small crate alone. Its sources have other endings in .ci/planted, since `rt ci` refuses
     a source of no crate. A planted edit's line `told:` says what it has to come to; it is refused if it has none."""
@@ -194,7 +234,7 @@ def edits():
 
 
 def main():
-    tries, failed = {"gate": gates, "draw": draw, "edits": edits}, 0
+    tries, failed = {"gate": gates, "draw": draw, "fields": fields, "edits": edits}, 0
     asked = sys.argv[1:] or [*tries]
     if not set(asked) <= set(tries):
         print(__doc__, end="")

@@ -37,8 +37,8 @@ def is_test(attributes):
 class Face:
     """The lines of a crate, and what is wrong with them."""
 
-    def __init__(self, crate):
-        self.source, self.list, self.faults = TOP / "rust" / crate / "src", LISTS / f"{crate}.txt", set()
+    def __init__(self, crate, top=TOP):
+        self.source, self.list, self.faults = top / "rust" / crate / "src", LISTS / f"{crate}.txt", set()
         # what each module has, by name, and whether that is public; the `impl`s; the public items, and by which paths
         self.modules, self.impls, self.paths = {}, [], {}
         self.read((), text_of(self.source / "lib.rs"))

@@ -269,6 +269,15 @@ def calls():
     return grid(["Call", *(f"`{it}`" for it in peers)], ([name, *(found.get((name, it), "") for it in peers)] for name in names))
 
 
+def way():
+    """How long the way of an entry is and how much stands by hand: in bold what isn't yet as it is to be."""
+    def told(now, aim):
+        return f"**{int(now):,}**" if aim.isdigit() and int(now) > int(aim) else now
+
+    return grid(["", "before", "now", "aim"],
+                ([PLAN["way"][name], before, told(now, aim), aim] for name, before, now, aim in rows_of("way")[1:]))
+
+
 def adapter_memory():
     """What a compact of the adapter and of its peer makes of a million entries, the longest beside the peer's first."""
     found = {(it[2], it[3]): [int(figure) for figure in it[4:]] for it in rows_of("adapter-room") if it[:2] == ["compact", "release"]}
