@@ -205,6 +205,13 @@ impl Common {
         self.hints.tick(at + 1)
     }
 
+    /// The shard that has something due first, where one has.
+    #[inline(always)]
+    pub fn most_due(&self, now: u64) -> Option<usize> {
+        let place = self.hints.first_before(1, now.saturating_add(1))?;
+        Some(place - 1)
+    }
+
     /// The least hint: nothing is due before it.
     pub fn least_hint(&self) -> u64 {
         (0..self.seen.len()).map(|at| self.hint(at)).min().unwrap_or(NEVER)
