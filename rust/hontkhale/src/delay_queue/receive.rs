@@ -241,22 +241,24 @@ impl<T> Shared<T> {
         self.taken_now(|| self.take_some(row, most))
     }
 
-    /// What is taken, or why nothing where nothing is due. What was freed is dropped while nothing is in hand.
+    /// What is taken, or why nothing where nothing is due. What was freed is dropped while nothing is in hand. It is called at one
+    /// place alone, so that it is inlined there.
+    #[inline(always)]
     fn taken_now<R>(&self, mut take: impl FnMut() -> Step<R>) -> Result<R, TryRecvError> {
+        let mut error = TryRecvError::Empty;
         loop {
             self.drop_deferred();
             match take() {
                 Step::Took(taken) => return Ok(taken),
-                Step::Works => {}
-                Step::Rests => break,
+                Step::Works => continue,
+                Step::Rests => self.maintain_all(),
             }
+            if error == TryRecvError::Closed || !self.common.is_closed() {
+                return Err(error);
+            }
+            // It may have been put in just before the close.
+            error = TryRecvError::Closed;
         }
-        self.maintain_all();
-        if !self.common.is_closed() {
-            return Err(TryRecvError::Empty);
-        }
-        // It may have been put in just before the close.
-        self.taken_last(TryRecvError::Closed, take)
     }
 }
 
