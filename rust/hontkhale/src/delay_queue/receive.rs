@@ -230,6 +230,8 @@ impl<T> Shared<T> {
         self.wait_for(None, || self.take_some(row, most)).unwrap_or(0)
     }
 
+    /// One call is all that a program makes of a receive: what is taken apart between two goes through memory twice.
+    #[inline(never)]
     pub fn try_receive(&self) -> Result<Expired<T>, TryRecvError> {
         self.taken_now(|| self.take_one())
     }
