@@ -137,15 +137,20 @@ impl Common {
         slowly: impl FnOnce() -> Result<u64, KeyError>,
         note_end: impl FnOnce(),
     ) -> Result<u64, KeyError> {
-        let made = self.quick_step(key, step).unwrap_or_else(slowly);
-        if matches!(step, Step::Cancel) && made.is_ok() {
+        // Taken apart here, it comes in registers.
+        let deadline = match self.quick_step(key, step) {
+            Some(Ok(deadline)) => deadline,
+            Some(Err(error)) => return Err(error),
+            None => slowly()?,
+        };
+        if matches!(step, Step::Cancel) {
             self.seen[key.shard()].cancels.fetch_add(1, SeqCst);
             self.uncount(1);
             if self.ends.is_asked() {
                 note_end();
             }
         }
-        made
+        Ok(deadline)
     }
 
     /// Raises the deadline of a live entry to a tick where that isn't sooner, without a lock, and tells whether it did.
