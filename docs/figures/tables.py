@@ -264,7 +264,7 @@ def idle_servers():
 
 def calls():
     """The instructions of the calls that the gate compares: a row for each, and a column for each queue."""
-    found = {(row.partition("/")[0], peer): count for peer, row, count in rows_of("calls")[1:]}
+    found = {(row.partition("/")[0], peer): count for peer, row, count in rows_of("calls")[1:] if peer in stored.PLAN["calls"]}
     names, peers = (dict.fromkeys(it[at] for it in found) for at in (0, 1))
     return grid(["Call", *(f"`{it}`" for it in peers)], ([name, *(found.get((name, it), "") for it in peers)] for name in names))
 
@@ -276,6 +276,14 @@ def way():
 
     return grid(["", "before", "now", "aim"],
                 ([PLAN["way"][name], before, told(now, aim), aim] for name, before, now, aim in rows_of("way")[1:]))
+
+
+def lives():
+    """The instructions of a life in one `DelayQueue`: a row for so many entries that stand, and a column for so many shards."""
+    found = {(peer, entries): count for peer, entries, count in rows_of("calls")[1:] if peer.startswith("life/")}
+    peers, sizes = (dict.fromkeys(it[at] for it in found) for at in (0, 1))
+    heads = (f"{it.partition('/')[2]} shard{'s' * (it != 'life/1')}" for it in peers)
+    return grid(["Entries", *heads], ([size, *(found[it, size] for it in peers)] for size in sizes))
 
 
 def adapter_memory():

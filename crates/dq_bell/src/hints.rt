@@ -1,5 +1,5 @@
 //! The hints as whoever holds no lock reads them.
-ghost use Rattle.std.specs.Prelude.{◌<◌};
+ghost use Rattle.std.specs.Prelude.{◌<◌, ◌≤◌, IfSome};
 
 use crate::APART;
 use crate::rule::BellTable;
@@ -36,5 +36,21 @@ impl<A: Allocator> Hints<A> {
         requires { place < self.now }
     {
         self.table.shared.peek((place + 1) * APART)
+    }
+
+    /// The first of the places from one on that have the least hint, where that is before a tick.
+    #[inline(always)]
+    pub fn first_before(&self, from: usize, tick: u64) -> Option<usize>
+        ensures { IfSome result (λ place. (from ≤ place) × (place < self.now)) }
+    {
+        let (mut least, mut first) = (tick, None);
+        for place in from..self.places {
+            let hint = self.tick(place);
+            if hint < least {
+                least = hint;
+                first = Some(place);
+            }
+        }
+        first
     }
 }

@@ -107,11 +107,16 @@ fn two_wait<A: Allocator + Clone>(
         hints.tick(1) == 40 && hints.tick(0) != 0,
         "as it was lowered"
     );
+    assert!(rt;
+        hints.first_before(0, 41) == Some(1) && hints.first_before(0, 40).is_none(),
+        "the one place that is before that tick"
+    );
     assert!(rt; line.first() == Some(first), "it leads");
     assert!(rt; line.rise(first).is_none(), "it was called");
     assert!(rt; told_by(line.leave(first)) == 2, "the next one leads");
     assert!(rt; told_by(line.close()) == 0, "nobody sleeps");
     assert!(rt; hints.tick(0) == 0, "it is closed");
+    assert!(rt; hints.first_before(0, 41) == Some(0), "the least one");
     assert!(rt; line.rise(second).is_none(), "it was called");
     assert!(rt; told_by(line.leave(second)) == 0, "nobody is left");
     Ok(())

@@ -19,4 +19,11 @@ impl Hints {
         // requires place < self.now
         self.table.load((place + 1) * APART)
     }
+
+    /// The first of the places from one on that have the least hint, where that is before a tick.
+    #[inline(always)]
+    pub fn first_before(&self, from: usize, tick: u64) -> Option<usize> {
+        let first = self.table.first_below((from + 1) * APART, APART, tick)?;
+        Some(first / APART - 1)
+    }
 }

@@ -137,15 +137,20 @@ impl Common {
         slowly: impl FnOnce() -> Result<u64, KeyError>,
         note_end: impl FnOnce(),
     ) -> Result<u64, KeyError> {
-        let made = self.quick_step(key, step).unwrap_or_else(slowly);
-        if matches!(step, Step::Cancel) && made.is_ok() {
+        // Taken apart here, it comes in registers.
+        let deadline = match self.quick_step(key, step) {
+            Some(Ok(deadline)) => deadline,
+            Some(Err(error)) => return Err(error),
+            None => slowly()?,
+        };
+        if matches!(step, Step::Cancel) {
             self.seen[key.shard()].cancels.fetch_add(1, SeqCst);
             self.uncount(1);
             if self.ends.is_asked() {
                 note_end();
             }
         }
-        made
+        Ok(deadline)
     }
 
     /// Raises the deadline of a live entry to a tick where that isn't sooner, without a lock, and tells whether it did.
@@ -203,6 +208,13 @@ impl Common {
     #[inline(always)]
     pub fn hint(&self, at: usize) -> u64 {
         self.hints.tick(at + 1)
+    }
+
+    /// The shard that has something due first, where one has.
+    #[inline(always)]
+    pub fn most_due(&self, now: u64) -> Option<usize> {
+        let place = self.hints.first_before(1, now.saturating_add(1))?;
+        Some(place - 1)
     }
 
     /// The least hint: nothing is due before it.

@@ -124,25 +124,11 @@ impl<T> Shared<T> {
         }
     }
 
-    /// The shard that has something due first, where one has.
-    #[inline(always)]
-    fn most_due(&self, now: u64) -> Option<usize> {
-        let (common, shards) = (&*self.common, self.common.seen.len());
-        let (mut least, mut first) = (now.saturating_add(1), shards);
-        for at in 0..shards {
-            let hint = common.hint(at);
-            if hint < least {
-                (least, first) = (hint, at);
-            }
-        }
-        (first < shards).then_some(first)
-    }
-
     /// Takes an entry out that is due, by a poll that is a whole one of cores of at most so many entries.
     #[inline(always)]
     pub fn try_poll(&self, whole: usize) -> Step<Expired<T>> {
         let now = self.common.time.tick();
-        let Some(at) = self.most_due(now) else {
+        let Some(at) = self.common.most_due(now) else {
             return Step::Rests;
         };
         let mut store = self.lock(at);
@@ -175,7 +161,7 @@ impl<T> Shared<T> {
         let now = self.common.time.tick();
         let (before, mut turns) = (row.len(), 0);
         while row.len() - before < most {
-            let Some(at) = self.most_due(now) else {
+            let Some(at) = self.common.most_due(now) else {
                 break;
             };
             let left = most - (row.len() - before);
@@ -244,6 +230,8 @@ impl<T> Shared<T> {
         self.wait_for(None, || self.take_some(row, most)).unwrap_or(0)
     }
 
+    /// One call is all that a program makes of a receive: what is taken apart between two goes through memory twice.
+    #[inline(never)]
     pub fn try_receive(&self) -> Result<Expired<T>, TryRecvError> {
         self.taken_now(|| self.take_one())
     }
@@ -255,22 +243,24 @@ impl<T> Shared<T> {
         self.taken_now(|| self.take_some(row, most))
     }
 
-    /// What is taken, or why nothing where nothing is due. What was freed is dropped while nothing is in hand.
+    /// What is taken, or why nothing where nothing is due. What was freed is dropped while nothing is in hand. It is called at one
+    /// place alone, so that it is inlined there.
+    #[inline(always)]
     fn taken_now<R>(&self, mut take: impl FnMut() -> Step<R>) -> Result<R, TryRecvError> {
+        let mut error = TryRecvError::Empty;
         loop {
             self.drop_deferred();
             match take() {
                 Step::Took(taken) => return Ok(taken),
-                Step::Works => {}
-                Step::Rests => break,
+                Step::Works => continue,
+                Step::Rests => self.maintain_all(),
             }
+            if error == TryRecvError::Closed || !self.common.is_closed() {
+                return Err(error);
+            }
+            // It may have been put in just before the close.
+            error = TryRecvError::Closed;
         }
-        self.maintain_all();
-        if !self.common.is_closed() {
-            return Err(TryRecvError::Empty);
-        }
-        // It may have been put in just before the close.
-        self.taken_last(TryRecvError::Closed, take)
     }
 }
 
@@ -420,6 +410,16 @@ mod tests {
     /// What is linked in the shard.
     fn linked(queue: &DelayQueue<String>) -> usize {
         queue.shared.lock(0).linked()
+    }
+
+    #[test]
+    fn a_receiver_goes_to_the_first_of_the_shards_that_are_due_first() {
+        let queue = DelayQueue::<String>::builder().shards(4).build();
+        for (at, tick) in [(0, 7), (2, 5), (1, 6), (3, 5)] {
+            queue.shared.lock(at).hint = tick;
+        }
+        let found = [4, 5, 9].map(|now| queue.shared.common.most_due(now));
+        assert_eq!(found, [None, Some(2), Some(2)]);
     }
 
     #[test]

@@ -157,9 +157,18 @@ impl<T> Drop for Locked<'_, T> {
     /// The same where nobody asks whom to wake, as in a panic: the leader is woken, and the panic of its waker is lost.
     #[inline(always)]
     fn drop(&mut self) {
-        let rung = self.release();
-        lose(self.common.ring(rung));
+        // Each part goes by value: a guard whose address is asked for lies in memory throughout.
+        drop_unasked(Locked {
+            shard: self.shard.take(),
+            ..*self
+        });
     }
+}
+
+#[inline(never)]
+fn drop_unasked<T>(shard: Locked<'_, T>) {
+    let common = shard.common;
+    lose(common.ring(shard.end()));
 }
 
 #[cfg(test)]

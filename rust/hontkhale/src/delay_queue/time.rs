@@ -3,6 +3,7 @@
 use crate::delay_queue::waking::first_panic;
 use crate::ticks::LAST_TICK;
 use std::fmt;
+use std::hash::{Hash, Hasher};
 use std::panic::{catch_unwind, resume_unwind, AssertUnwindSafe};
 use std::sync::atomic::{AtomicU64, Ordering::SeqCst};
 use std::sync::{Arc, Mutex, MutexGuard, PoisonError};
@@ -107,7 +108,90 @@ impl fmt::Debug for ManualClock {
 #[derive(Debug)]
 pub(crate) struct Time {
     start: Instant,
+    /// The parts of the start, where they tell how long ago it was.
+    parts: Option<Parts>,
     clock: Source,
+}
+
+/// A moment as seconds and nanoseconds, as it tells them to a [`Hasher`].
+///
+/// Each insert and each receive asks how long ago the start was. std answers by a call of some 40 instructions, and these parts
+/// tell it in eight. Nobody promises what a moment tells, so a queue goes by the parts only if they agree with std as it is made.
+#[derive(Clone, Copy, Debug, Default)]
+struct Parts {
+    seconds: u64,
+    nanos: u32,
+}
+
+impl Hasher for Parts {
+    #[inline(always)]
+    fn write_i64(&mut self, seconds: i64) {
+        self.seconds = seconds as u64;
+    }
+
+    #[inline(always)]
+    fn write_u64(&mut self, seconds: u64) {
+        self.seconds = seconds;
+    }
+
+    #[inline(always)]
+    fn write_u32(&mut self, nanos: u32) {
+        self.nanos = nanos;
+    }
+
+    fn write(&mut self, _: &[u8]) {}
+
+    fn finish(&self) -> u64 {
+        self.seconds
+    }
+}
+
+impl Parts {
+    #[inline(always)]
+    fn of(when: Instant) -> Parts {
+        let mut parts = Parts::default();
+        when.hash(&mut parts);
+        parts
+    }
+
+    /// The parts of a start, where they agree with std on moments from just before it until the last tick.
+    fn of_start(start: Instant) -> Option<Parts> {
+        let parts = Parts::of(start);
+        let lengths = [
+            Duration::ZERO,
+            Duration::from_nanos(1),
+            Duration::from_nanos(999_999_999),
+            Duration::from_secs(1),
+            Duration::from_millis(LAST_TICK),
+        ];
+        let after = lengths.map(|length| start.checked_add(length)).into_iter();
+        let before = start.checked_sub(Duration::from_nanos(1));
+        let mut moments = after.chain([before]).flatten();
+        moments
+            .all(|when| Parts::of(when).since(parts) == when.saturating_duration_since(start))
+            .then_some(parts)
+    }
+
+    /// How much later it is than a start, nothing where it is before it.
+    #[inline(always)]
+    fn since(self, start: Parts) -> Duration {
+        let (nanos, borrows) = self.nanos.overflowing_sub(start.nanos);
+        let seconds = self
+            .seconds
+            .wrapping_sub(start.seconds)
+            .wrapping_sub(u64::from(borrows));
+        if (seconds as i64) < 0 {
+            return Duration::ZERO;
+        }
+        Duration::new(
+            seconds,
+            if borrows {
+                nanos.wrapping_add(1_000_000_000)
+            } else {
+                nanos
+            },
+        )
+    }
 }
 
 /// What a queue's time is read from.
@@ -134,8 +218,10 @@ impl Time {
     /// The time from a moment on that isn't to come, or from now.
     pub fn new(clock: Source, start: Option<Instant>) -> Time {
         let now = clock.now();
+        let start = start.map_or(now, |start| start.min(now));
         Time {
-            start: start.map_or(now, |start| start.min(now)),
+            start,
+            parts: Parts::of_start(start),
             clock,
         }
     }
@@ -154,18 +240,16 @@ impl Time {
     /// The first tick that isn't before a moment, or one beyond the last. It reads no clock.
     #[inline(always)]
     pub fn tick_at(&self, when: Instant) -> u64 {
-        rounded_up(when.saturating_duration_since(self.start)).0
+        rounded_up(self.until(when)).0
     }
 
     /// The same, and the moment at which that tick begins. Nothing is divided for that one.
     #[inline(always)]
     pub fn rounded(&self, when: Instant) -> (u64, Instant) {
-        match when.checked_duration_since(self.start) {
-            None => (0, self.start),
-            Some(length) => {
-                let (tick, early) = rounded_up(length);
-                (tick, when + Duration::new(0, early))
-            }
+        match rounded_up(self.until(when)) {
+            // It may be before the start.
+            (0, _) => (0, self.start),
+            (tick, early) => (tick, when + Duration::new(0, early)),
         }
     }
 
@@ -179,9 +263,18 @@ impl Time {
         rounded_up(passed.saturating_add(after)).0
     }
 
+    /// How long after the start a moment is, nothing where it is before it.
+    #[inline(always)]
+    fn until(&self, when: Instant) -> Duration {
+        match self.parts {
+            Some(start) => Parts::of(when).since(start),
+            None => when.saturating_duration_since(self.start),
+        }
+    }
+
     #[inline]
     fn passed(&self) -> Duration {
-        self.now().saturating_duration_since(self.start)
+        self.until(self.now())
     }
 
     /// The moment at which a tick begins.
@@ -219,11 +312,9 @@ impl Time {
 
 #[inline]
 fn rounded_down(length: Duration) -> u64 {
-    let millis = length
-        .as_secs()
-        .saturating_mul(1_000)
-        .saturating_add(u64::from(length.subsec_millis()));
-    millis.min(LAST_TICK)
+    // Longer ones come to no end, and their milliseconds to no more than a number holds.
+    let seconds = length.as_secs().min(LAST_TICK / 1_000 + 1);
+    LAST_TICK.min(seconds * 1_000 + u64::from(length.subsec_millis()))
 }
 
 /// The first tick that isn't before the end of a length, or one beyond the last, and how many nanoseconds that end is before it.
@@ -242,9 +333,34 @@ fn rounded_up(length: Duration) -> (u64, u32) {
 
 #[cfg(test)]
 mod tests {
-    use super::{rounded_up, ManualClock, Source, Time, LAST_TICK};
+    use super::{rounded_up, ManualClock, Parts, Source, Time, LAST_TICK};
     use crate::DelayQueue;
-    use std::time::Duration;
+    use std::time::{Duration, Instant};
+
+    /// From starts within a second, by the parts of moments and by std alone.
+    #[test]
+    fn a_moment_is_the_tick_that_std_tells() {
+        const NANOS: [u32; 5] = [0, 1, 999_999, 1_000_000, 999_999_999];
+        let lengths = [0, 1, 7, LAST_TICK / 1_000 - 1].map(|seconds| NANOS.map(|nanos| Duration::new(seconds, nanos)));
+        let starts = (0..10).map(|part| Instant::now() + Duration::from_millis(100 * part));
+        let times = starts.flat_map(|start| [Parts::of_start(start), None].map(|parts| (start, parts)));
+        for (start, parts) in times {
+            let clock = Source::System;
+            let time = Time { start, parts, clock };
+            for length in lengths.into_iter().flatten() {
+                let ticks = length.as_nanos().div_ceil(1_000_000) as u64;
+                let after = (ticks, start + Duration::from_millis(ticks));
+                assert_eq!(
+                    (time.rounded(start + length), time.tick_at(start + length)),
+                    (after, ticks)
+                );
+                let Some(before) = start.checked_sub(length) else {
+                    continue;
+                };
+                assert_eq!((time.rounded(before), time.tick_at(before)), ((0, start), 0));
+            }
+        }
+    }
 
     #[test]
     fn a_deadline_is_rounded_up_and_refused_beyond_the_last_tick() {

@@ -33,6 +33,23 @@ impl Table {
         nth(&self.words, index).load(SeqCst)
     }
 
+    /// Loads the words from one on, each so far behind the one before, and gives the index of the first of the least, where that is
+    /// below a number. Behind an atomic load the compiler looks up the row anew, unless one loop goes through it.
+    #[inline(always)]
+    pub(crate) fn first_below(&self, from: usize, apart: usize, bound: u64) -> Option<usize> {
+        let (row, mut index) = (&self.words[..], from);
+        let (mut least, mut first) = (bound, from);
+        while let Some(word) = row.get(index) {
+            made(Made::Load);
+            let found = word.load(SeqCst);
+            if found < least {
+                (least, first) = (found, index);
+            }
+            index += apart;
+        }
+        (least < bound).then_some(first)
+    }
+
     #[inline(always)]
     pub(crate) fn store(&self, index: usize, new: u64) {
         made(Made::Step);
