@@ -1,18 +1,20 @@
 //! What the clones of a queue share: its shards, and the calls on its entries.
 
 use crate::bell::Hint;
+use crate::core::CoreError;
 use crate::delay_queue::common::{route, Common, Counted, Step};
 use crate::delay_queue::dropping::DropQueue;
 use crate::delay_queue::errors::{InsertErrorKind, KeyError};
 use crate::delay_queue::key::Key;
-use crate::delay_queue::shard::{Locked, Shard};
-use crate::delay_queue::store::ShardStore;
+use crate::delay_queue::shard::Locked;
+use crate::delay_queue::store::{refused, Shard};
 use crate::delay_queue::waking::lose;
 use crate::directory::Clerk;
 use crate::locks::Mutex;
 use crate::ticks::LAST_TICK;
 use crate::words::OpenWords;
 use std::any::Any;
+use std::iter;
 use std::mem;
 use std::panic::{catch_unwind, resume_unwind, AssertUnwindSafe};
 use std::sync::Arc;
@@ -20,7 +22,7 @@ use std::time::{Duration, Instant};
 
 pub(crate) struct Shared<T> {
     pub common: Arc<Common>,
-    shards: Box<[Mutex<Shard<T>>]>,
+    pub shards: Box<[Mutex<Shard<T>>]>,
     /// Who gives the cores their numbers, held while one is made.
     pub makes: Mutex<Clerk<OpenWords>>,
     /// After how many inserts and resets a slot is worn.
@@ -73,10 +75,7 @@ impl<T> Drop for Lends<'_, T> {
 impl<T> Shared<T> {
     /// Each shard writes one of the hints.
     pub fn new(common: Arc<Common>, hints: Vec<Hint>, clerk: Clerk<OpenWords>, last_stamp: u32) -> Shared<T> {
-        let shard = |(at, hint)| {
-            let store = ShardStore::new(common.id, at);
-            Mutex::new(Shard { store, hint })
-        };
+        let shard = |(at, hint)| Mutex::new(Shard::new(common.id, at, hint));
         Shared {
             shards: hints.into_iter().enumerate().map(shard).collect(),
             common,
@@ -84,16 +83,6 @@ impl<T> Shared<T> {
             last_stamp,
             deferred: DropQueue::new(),
         }
-    }
-
-    #[inline(always)]
-    pub fn lock(&self, at: usize) -> Locked<'_, T> {
-        Locked::new(
-            self.shards[at].lock(),
-            &self.common.seen[at],
-            &self.deferred,
-            &self.common,
-        )
     }
 
     /// The shards, each while its lock is held.
@@ -104,9 +93,9 @@ impl<T> Shared<T> {
     /// Lets a shard's lock go where so many entries ended, wakes the leader where it was rung, and makes a part of what keeps the
     /// shard of the right size. Where entries ended the caller has values in hand, and a waker's panic is lost.
     #[inline(always)]
-    pub fn leave(&self, store: Locked<'_, T>, ended: usize) {
-        let (at, has_work) = (store.at, store.sizing.has_work());
-        let woken = self.common.ring(store.end());
+    pub fn leave(&self, shard: Locked<'_, T>, ended: usize) {
+        let (at, has_work) = (shard.at, shard.entries.sizing().has_work());
+        let woken = shard.end();
         if ended > 0 {
             self.note_ended(ended);
             lose(woken);
@@ -138,22 +127,22 @@ impl<T> Shared<T> {
     /// where its halves were just stored waits for them.
     #[inline(always)]
     pub fn insert(&self, value: T, tick: u64) -> Result<Key, (InsertErrorKind, T)> {
-        let (counted, mut store) = match self.room_for_one(tick) {
+        let (counted, mut shard) = match self.room_for_one(tick) {
             Ok(room) => room,
             Err(kind) => return Err((kind, value)),
         };
-        let key = store.insert(value, tick);
+        let key = shard.insert(value, tick);
         mem::forget(counted);
-        self.is_in(store, key).map_err(|value| (InsertErrorKind::Closed, value))
+        self.is_in(shard, key).map_err(|value| (InsertErrorKind::Closed, value))
     }
 
     /// The same of a value that is made under the shard's lock, once its key is known.
     pub fn insert_with(&self, make: impl FnOnce(Key) -> T, tick: u64) -> Result<Key, InsertErrorKind> {
         let _lends = Lends(self);
-        let (counted, mut store) = self.room_for_one(tick)?;
-        let key = store.insert_with(make, tick);
+        let (counted, mut shard) = self.room_for_one(tick)?;
+        let key = shard.insert_with(make, tick);
         mem::forget(counted);
-        self.is_in(store, key).map_err(|value| {
+        self.is_in(shard, key).map_err(|value| {
             self.deferred.drop_value(value);
             InsertErrorKind::Closed
         })
@@ -172,12 +161,12 @@ impl<T> Shared<T> {
         let (route, shards) = (route(), self.shards.len());
         // The first threads are spared the division.
         let at = if route < shards { route } else { route % shards };
-        let mut store = self.lock(at);
-        if !store.finds_room(false) {
-            drop(store);
-            store = self.made_room(at)?;
+        let mut shard = self.lock(at);
+        if !shard.entries.finds_room(false) {
+            drop(shard);
+            shard = self.made_room(at)?;
         }
-        Ok((counted, store))
+        Ok((counted, shard))
     }
 
     /// Room where a shard has none: once what was cancelled there was freed, and at last in a new core, or in another shard. Where
@@ -186,9 +175,9 @@ impl<T> Shared<T> {
     fn made_room(&self, at: usize) -> Result<Locked<'_, T>, InsertErrorKind> {
         let mut has_freed = false;
         loop {
-            if self.lock(at).sizing.is_kept() {
-                if let Some(store) = self.any_room(at) {
-                    return Ok(store);
+            if self.lock(at).entries.sizing().is_kept() {
+                if let Some(shard) = self.any_room(at) {
+                    return Ok(shard);
                 }
             }
             if let Err(kind) = self.make_room(at, &mut has_freed) {
@@ -199,9 +188,9 @@ impl<T> Shared<T> {
                 }
                 return self.any_room(at).ok_or(kind);
             }
-            let mut store = self.lock(at);
-            if store.finds_room(false) {
-                return Ok(store);
+            let mut shard = self.lock(at);
+            if shard.entries.finds_room(false) {
+                return Ok(shard);
             }
         }
     }
@@ -209,8 +198,8 @@ impl<T> Shared<T> {
     /// Any slot that is free, first in a shard.
     fn any_room(&self, at: usize) -> Option<Locked<'_, T>> {
         (at..self.shards.len()).chain(0..at).find_map(|other| {
-            let mut store = self.lock(other);
-            store.finds_room(true).then_some(store)
+            let mut shard = self.lock(other);
+            shard.entries.finds_room(true).then_some(shard)
         })
     }
 
@@ -225,9 +214,9 @@ impl<T> Shared<T> {
 
     /// Has receivers come for an entry that is in. Its value is taken back, and given, where that was too late.
     #[inline(always)]
-    fn is_in(&self, store: Locked<'_, T>, key: Key) -> Result<Key, T> {
+    fn is_in(&self, shard: Locked<'_, T>, key: Key) -> Result<Key, T> {
         // A waker that panics takes the key along, but not the entry.
-        self.leave(store, 0);
+        self.leave(shard, 0);
         if self.common.ends.ends_when_empty() {
             if let Some(value) = self.take_back(key) {
                 return Err(value);
@@ -295,38 +284,33 @@ impl<T> Shared<T> {
     }
 
     fn reset_under_lock(&self, key: &Key, tick: u64) -> Result<Key, KeyError> {
-        let mut store = self.lock_of(key)?;
+        let mut shard = self.lock_of(key)?;
         if tick > LAST_TICK {
             return Err(KeyError::TooFar);
         }
         let mut has_freed = false;
         loop {
-            let (renamed, beside) = store.reset(key, tick);
-            let lacks_room = store.lacks_room(&renamed);
-            let woken = self.common.ring(store.end());
+            let (renamed, beside) = shard.reset(key, tick);
+            let woken = shard.end();
             if let Some(value) = beside {
                 self.deferred.drop_value(value);
             }
             woken.unwrap_or_else(|panic| resume_unwind(panic));
-            match renamed {
-                Err(_) if lacks_room => store = self.room_for_a_move(key, &mut has_freed)?,
-                renamed => return renamed,
-            }
+            let Err(CoreError::Full { .. }) = renamed else {
+                return renamed.map_err(refused);
+            };
+            self.make_room(key.shard(), &mut has_freed)
+                .map_err(|_| KeyError::NoMemory)?;
+            shard = self.lock(key.shard());
         }
-    }
-
-    /// Makes room for an entry that is moved.
-    fn room_for_a_move(&self, key: &Key, has_freed: &mut bool) -> Result<Locked<'_, T>, KeyError> {
-        self.make_room(key.shard(), has_freed).map_err(|_| KeyError::NoMemory)?;
-        Ok(self.lock(key.shard()))
     }
 
     /// Takes a live entry out, and gives its value.
     #[inline]
     pub fn remove(&self, key: &Key) -> Result<T, KeyError> {
-        let mut store = self.lock_of(key)?;
-        let value = store.remove(key)?;
-        self.leave(store, 1);
+        let mut shard = self.lock_of(key)?;
+        let value = shard.remove(key)?;
+        self.leave(shard, 1);
         Ok(value)
     }
 
@@ -336,10 +320,10 @@ impl<T> Shared<T> {
         if self.step(key, Step::Look)? > now {
             return Ok(None);
         }
-        let mut store = self.lock_of(key)?;
-        let ended = store.remove_if_due(key, now);
+        let mut shard = self.lock_of(key)?;
+        let ended = shard.remove_if_due(key, now);
         let taken = matches!(ended, Ok(Some(_)));
-        self.leave(store, usize::from(taken));
+        self.leave(shard, usize::from(taken));
         ended
     }
 }
@@ -356,21 +340,15 @@ impl<T> Shared<T> {
     #[cold]
     fn drop_all(&self) {
         self.deferred.drop_all();
-        (0..self.shards.len()).for_each(|at| self.drop_deferred_at(at));
+        for at in 0..self.shards.len() {
+            // Each is dropped while the lock is free. Within a drop of the queue they stay deferred.
+            iter::from_fn(|| self.lock(at).take_deferred()).for_each(|value| self.deferred.drop_value(value));
+        }
     }
 
     /// Whether there are no such values that this thread may drop now.
     pub fn has_no_deferred(&self) -> bool {
         !self.deferred.has_values() || self.deferred.is_dropping()
-    }
-
-    /// Drops the values that are deferred in a shard, each while the lock is free. Within a drop of the queue they stay deferred.
-    fn drop_deferred_at(&self, at: usize) {
-        loop {
-            let value = self.lock(at).take_deferred();
-            let Some(value) = value else { return };
-            self.deferred.drop_value(value);
-        }
     }
 }
 
