@@ -25,31 +25,7 @@ struct Made<T> {
     words: Option<OpenWords>,
 }
 
-/// What is to be done for a shard's size, the first two without its lock.
-// It is taken apart where it is given.
-#[allow(clippy::large_enum_variant)]
-enum Work<T> {
-    /// A core has drained, and is to be folded.
-    Fold(Core<T>),
-    /// A core is to be made.
-    Make,
-    /// An entry was moved out of a core that drains.
-    Moved,
-    /// Nothing.
-    Nothing,
-}
-
 impl<T> Shard<T> {
-    /// What is to be done next so that it keeps the right size, once so many cancels were accepted.
-    fn work(&mut self, now: u64, cancels: u64) -> Work<T> {
-        match self.entries.take_needless() {
-            Some(core) => Work::Fold(core),
-            None if self.wanted(cancels).is_some() => Work::Make,
-            None if self.move_straggler(now) => Work::Moved,
-            None => Work::Nothing,
-        }
-    }
-
     /// The capacity of a core that is to be made though an insert has room, once so many cancels were accepted. None is made for
     /// cancelled entries: where they are the most, they are freed once there is no room.
     fn wanted(&self, cancels: u64) -> Option<usize> {
@@ -155,17 +131,18 @@ impl<T> Shared<T> {
         for _ in 0..STEPS {
             // A program's clock isn't read under a lock.
             let now = self.common.time.tick();
-            let cancels = self.common.seen[at].cancels();
+            let wanted = |shard: &Shard<T>| shard.wanted(self.common.seen[at].cancels());
             let mut shard = self.lock(at);
-            let work = shard.work(now, cancels);
+            let drained = shard.entries.take_needless();
+            let is_making = drained.is_none() && wanted(&shard).is_some();
+            is_moving = drained.is_none() && !is_making && shard.move_straggler(now);
             shard.end().unwrap_or_else(|panic| resume_unwind(panic));
-            is_moving = matches!(work, Work::Moved);
-            match work {
-                Work::Fold(core) => self.fold(at, core),
+            match drained {
+                Some(core) => self.fold(at, core),
                 // Another thread may have made it meanwhile.
-                Work::Make if self.make_wanted(at, |shard| Ok(shard.wanted(cancels))) == Ok(true) => {}
-                Work::Moved => {}
-                Work::Make | Work::Nothing => return false,
+                None if is_making && self.make_wanted(at, |shard| Ok(wanted(shard))) == Ok(true) => {}
+                None if is_moving => {}
+                None => return false,
             }
         }
         // What is moved is moved on by a receiver that has time.

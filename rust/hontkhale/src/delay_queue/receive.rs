@@ -277,25 +277,13 @@ impl<T> Shared<T> {
 /// What comes out of a queue, one entry after the other, until its receivers end.
 #[must_use = "an iterator does nothing until it is asked"]
 pub struct Iter<'q, T> {
-    shared: &'q Shared<T>,
+    pub(crate) shared: &'q Shared<T>,
 }
 
 /// What is due of a queue, one entry after the other.
 #[must_use = "an iterator does nothing until it is asked"]
 pub struct TryIter<'q, T> {
-    shared: &'q Shared<T>,
-}
-
-impl<'q, T> Iter<'q, T> {
-    pub(crate) fn new(shared: &'q Shared<T>) -> Iter<'q, T> {
-        Iter { shared }
-    }
-}
-
-impl<'q, T> TryIter<'q, T> {
-    pub(crate) fn new(shared: &'q Shared<T>) -> TryIter<'q, T> {
-        TryIter { shared }
-    }
+    pub(crate) shared: &'q Shared<T>,
 }
 
 impl<T> Iterator for Iter<'_, T> {

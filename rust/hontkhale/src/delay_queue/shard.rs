@@ -24,6 +24,7 @@ use std::thread;
 
 /// What is known of a shard without its lock, beside its hint. All but the cancels is written as the lock is let go, and nowhere
 /// else.
+#[derive(Default)]
 #[repr(align(128))]
 pub(crate) struct Seen {
     /// How many entries came in, less those that came out or were removed: the cancelled ones count. Where it is 0 none waits.
@@ -43,14 +44,6 @@ pub(crate) struct Locked<'s, T> {
 }
 
 impl Seen {
-    pub fn new() -> Seen {
-        Seen {
-            left: AtomicU64::new(0),
-            quiet_since: AtomicU64::new(0),
-            cancels: AtomicU64::new(0),
-        }
-    }
-
     pub fn cancels(&self) -> u64 {
         self.cancels.load(SeqCst)
     }

@@ -1,17 +1,17 @@
 //! What the clones of a queue share: its shards, and the calls on its entries.
 
 use crate::bell::Hint;
-use crate::core::CoreError;
+use crate::core::{CallError, CoreError};
 use crate::delay_queue::common::{route, Common, Counted, Step};
 use crate::delay_queue::dropping::DropQueue;
-use crate::delay_queue::errors::{InsertErrorKind, KeyError};
+use crate::delay_queue::errors::{InsertError, InsertErrorKind, KeyError};
 use crate::delay_queue::key::Key;
 use crate::delay_queue::shard::Locked;
-use crate::delay_queue::store::{refused, Shard};
+use crate::delay_queue::store::Shard;
 use crate::delay_queue::waking::lose;
 use crate::directory::Clerk;
-use crate::locks::Mutex;
-use crate::ticks::LAST_TICK;
+use crate::locks::{with_lock, Mutex};
+use crate::ticks::{self, LAST_TICK};
 use crate::words::OpenWords;
 use std::any::Any;
 use std::iter;
@@ -96,18 +96,16 @@ impl<T> Shared<T> {
     pub fn leave(&self, shard: Locked<'_, T>, ended: usize) {
         let (at, has_work) = (shard.at, shard.entries.sizing().has_work());
         let woken = shard.end();
-        if ended > 0 {
-            self.note_ended(ended);
-            lose(woken);
-        } else {
-            woken.unwrap_or_else(|panic| resume_unwind(panic));
-        }
         // It may call a task's waker.
-        let maintains = || _ = self.maintain(at);
-        match (has_work, ended) {
-            (false, _) => {}
-            (true, 0) => maintains(),
-            (true, _) => lose(catch_unwind(AssertUnwindSafe(maintains))),
+        let maintains = || _ = has_work && self.maintain(at);
+        if ended == 0 {
+            woken.unwrap_or_else(|panic| resume_unwind(panic));
+            return maintains();
+        }
+        self.note_ended(ended);
+        lose(woken);
+        if has_work {
+            lose(catch_unwind(AssertUnwindSafe(maintains)));
         }
     }
 
@@ -126,21 +124,27 @@ impl<T> Shared<T> {
     /// Puts an entry in that is due at a tick. It is inlined so that the key comes in registers: whoever reads it as a whole from
     /// where its halves were just stored waits for them.
     #[inline(always)]
-    pub fn insert(&self, value: T, tick: u64) -> Result<Key, (InsertErrorKind, T)> {
+    pub fn insert(&self, value: T, tick: u64) -> Result<Key, InsertError<T>> {
         let (counted, mut shard) = match self.room_for_one(tick) {
             Ok(room) => room,
-            Err(kind) => return Err((kind, value)),
+            Err(kind) => return Err(InsertError::new(kind, value)),
         };
         let key = shard.insert(value, tick);
         mem::forget(counted);
-        self.is_in(shard, key).map_err(|value| (InsertErrorKind::Closed, value))
+        self.is_in(shard, key)
+            .map_err(|value| InsertError::new(InsertErrorKind::Closed, value))
     }
 
     /// The same of a value that is made under the shard's lock, once its key is known.
     pub fn insert_with(&self, make: impl FnOnce(Key) -> T, tick: u64) -> Result<Key, InsertErrorKind> {
         let _lends = Lends(self);
         let (counted, mut shard) = self.room_for_one(tick)?;
-        let key = shard.insert_with(make, tick);
+        let next = shard.next_key();
+        let value = with_lock(&mut *shard, self.common.id as usize, |_| make(next));
+        let key = shard.insert(value, tick);
+        // The contracts say that an insert may give that key. Which one it gives of several is the order of the free slots,
+        // of which no contract speaks.
+        assert!(next == key, "an insert takes the slot that is told as the next");
         mem::forget(counted);
         self.is_in(shard, key).map_err(|value| {
             self.deferred.drop_value(value);
@@ -233,7 +237,15 @@ impl<T> Shared<T> {
     }
 }
 
-/// The calls by key.
+/// Why a call by key isn't made: the entry has ended, or `NoMemory` where it is to be moved and no slot is free.
+fn refused(error: CoreError) -> KeyError {
+    match error {
+        CoreError::NoMemory | CoreError::Full { .. } => KeyError::NoMemory,
+        _ => KeyError::Ended,
+    }
+}
+
+/// The calls by key. An entry has the key that its insert gave, wherever it is.
 impl<T> Shared<T> {
     #[inline(always)]
     pub fn step(&self, key: &Key, step: Step) -> Result<u64, KeyError> {
@@ -263,14 +275,32 @@ impl<T> Shared<T> {
     /// A step under the shard's lock: the entry's stamp was changed by a reset, it was moved, or it has ended.
     #[cold]
     fn step_slowly(&self, key: &Key, step: Step) -> Result<u64, KeyError> {
-        self.lock_of(key)?.step(key, step, &self.common.words)
+        let (mut shard, entry) = (self.lock_of(key)?, key.entry());
+        shard.entries.deadline(&entry).map_err(refused)?;
+        let place = shard.entries.store().place(&entry).ok_or(KeyError::Ended)?;
+        let words = self.common.words.get(place.shard()).ok_or(KeyError::Ended)?;
+        // The entry is there by its birth, and under the lock nobody changes its stamp.
+        let made = match step.make(words, &ticks::Key::new(place, place.born())) {
+            Err(CallError::Stale { seen }) => step.make(words, &ticks::Key::new(place, seen)),
+            made => made,
+        };
+        if matches!(step, Step::Cancel) && made.is_ok() {
+            // It doesn't come out by this key any more.
+            let _ = shard.entries.reap(&entry);
+            shard.may_have_deferred = true;
+        }
+        made.map_err(|_| KeyError::Ended)
     }
 
     /// What a program's closure makes of a live entry's value, under its shard's lock and no other one.
     pub fn with_value<R>(&self, key: &Key, call: impl FnOnce(&mut T) -> R) -> Result<R, KeyError> {
         let _lends = Lends(self);
-        let made = self.lock_of(key)?.with_value(key, call);
-        made
+        let (mut shard, entry) = (self.lock_of(key)?, key.entry());
+        shard.entries.deadline(&entry).map_err(refused)?;
+        let made = with_lock(&mut *shard, self.common.id as usize, |shard| {
+            shard.entries.with_value(&entry, call)
+        });
+        Ok(made.expect("a live entry"))
     }
 
     /// Gives an entry the deadline `tick`, and gives its key of the present stamp. One that isn't sooner is an extend, without a
@@ -309,9 +339,9 @@ impl<T> Shared<T> {
     #[inline]
     pub fn remove(&self, key: &Key) -> Result<T, KeyError> {
         let mut shard = self.lock_of(key)?;
-        let value = shard.remove(key)?;
+        let removed = shard.remove(&key.entry()).map_err(refused)?;
         self.leave(shard, 1);
-        Ok(value)
+        Ok(removed.value)
     }
 
     /// Takes a live entry out where its deadline isn't after the present tick.
@@ -321,10 +351,13 @@ impl<T> Shared<T> {
             return Ok(None);
         }
         let mut shard = self.lock_of(key)?;
-        let ended = shard.remove_if_due(key, now);
-        let taken = matches!(ended, Ok(Some(_)));
-        self.leave(shard, usize::from(taken));
-        ended
+        let due = shard.entries.remove_if_due(&key.entry(), now);
+        let Some(removed) = due.map_err(refused)? else {
+            return Ok(None);
+        };
+        shard.note_left();
+        self.leave(shard, 1);
+        Ok(Some(removed.value))
     }
 }
 

@@ -135,16 +135,11 @@ impl Stats {
 
 impl fmt::Display for Stats {
     fn fmt(&self, f: &mut fmt::Formatter<'_>) -> fmt::Result {
-        let Stats {
-            waiting,
-            cancelled,
-            memory,
-            ..
-        } = self;
         let (late, latest) = (self.late.as_secs_f64(), self.latest.as_secs_f64());
         write!(
             f,
-            "{waiting} waiting, {cancelled} cancelled, {memory} bytes, {late:.3} s late, at most {latest:.3} s"
+            "{} waiting, {} cancelled, {} bytes, {late:.3} s late, at most {latest:.3} s",
+            self.waiting, self.cancelled, self.memory
         )
     }
 }

@@ -1,20 +1,14 @@
 //! What lies behind a shard's lock: its entries, in a proved store that keeps itself at the right size and tells when to
 //! come next.
-//!
-//! Nobody's code runs in it, but for the closure of `with_value` and of `insert_with`.
 
 use crate::bell::Hint;
-use crate::core::{CallError, CoreError, DelayCore, Piece, Turn};
-use crate::delay_queue::common::Step;
-use crate::delay_queue::errors::KeyError;
+use crate::core::{CoreError, DelayCore, Piece, Removed, Turn};
 use crate::delay_queue::key::Key;
-use crate::delay_queue::receive;
+use crate::delay_queue::receive::Step;
 use crate::delay_queue::stats::Counts;
-use crate::directory::Directory;
 use crate::growing::{Folds, SizedStore};
-use crate::locks::with_lock;
 use crate::ticks::{self, EntryId};
-use crate::words::{Keeper, OpenWords};
+use crate::words::Keeper;
 use std::mem::{needs_drop, size_of};
 
 /// About how many bytes the values of the smallest core take.
@@ -27,7 +21,7 @@ const INSERTS: u64 = 1_024;
 
 pub(crate) type Core<T> = DelayCore<T, Keeper>;
 /// What a poll comes to. An entry that comes out has its key, its deadline and its value.
-pub(crate) type Polled<T> = receive::Step<(Key, u64, T)>;
+pub(crate) type Polled<T> = Step<(Key, u64, T)>;
 
 /// The slots of the smallest core: 64, and fewer of large values.
 pub(crate) fn least<T>() -> usize {
@@ -48,14 +42,6 @@ pub(crate) struct Shard<T> {
     pub has_deferred: bool,
     /// The hint of the entries, as others read it.
     pub hint: Hint,
-}
-
-/// Why a call by key isn't made: the entry has ended, or `NoMemory` where it is to be moved and no slot is free.
-pub(crate) fn refused(error: CoreError) -> KeyError {
-    match error {
-        CoreError::NoMemory | CoreError::Full { .. } => KeyError::NoMemory,
-        _ => KeyError::Ended,
-    }
 }
 
 impl<T> Shard<T> {
@@ -107,7 +93,7 @@ impl<T> Shard<T> {
 
     /// Notes that an entry left.
     #[inline(always)]
-    fn note_left(&mut self) {
+    pub fn note_left(&mut self) {
         self.counts.left -= 1;
         self.entries.note_left(self.counts.left);
     }
@@ -132,55 +118,18 @@ impl<T> Shard<T> {
         self.named(key.entry(), key.stamp())
     }
 
-    /// The same of a value that a program's closure makes of its key.
-    pub fn insert_with(&mut self, make: impl FnOnce(Key) -> T, tick: u64) -> Key {
+    /// The key that the next insert gives.
+    pub fn next_key(&self) -> Key {
         let next = self.entries.store().next_key().expect("a free slot");
-        let (next, queue) = (self.named(next.entry(), next.stamp()), self.queue as usize);
-        let value = with_lock(self, queue, |_| make(next));
-        let key = self.insert(value, tick);
-        // The contracts say that an insert may give that key. Which one it gives of several is the order of the free slots,
-        // of which no contract speaks.
-        assert!(next == key, "an insert takes the slot that is told as the next");
-        key
-    }
-}
-
-/// The calls by key. An entry has the key that its insert gave, wherever it is.
-impl<T> Shard<T> {
-    /// Makes a step where the entry is.
-    pub fn step(&mut self, key: &Key, step: Step, words: &Directory<OpenWords>) -> Result<u64, KeyError> {
-        let entry = key.entry();
-        self.entries.deadline(&entry).map_err(refused)?;
-        let place = self.entries.store().place(&entry).ok_or(KeyError::Ended)?;
-        let words = words.get(place.shard()).ok_or(KeyError::Ended)?;
-        // The entry is there by its birth, and under the lock nobody changes its stamp.
-        let made = match step.make(words, &ticks::Key::new(place, place.born())) {
-            Err(CallError::Stale { seen }) => step.make(words, &ticks::Key::new(place, seen)),
-            made => made,
-        };
-        if matches!(step, Step::Cancel) && made.is_ok() {
-            // It doesn't come out by this key any more.
-            let _ = self.entries.reap(&entry);
-            self.may_have_deferred = true;
-        }
-        made.map_err(|_| KeyError::Ended)
+        self.named(next.entry(), next.stamp())
     }
 
-    /// Takes a live entry out, and gives its value.
+    /// Takes a live entry out.
     #[inline(always)]
-    pub fn remove(&mut self, key: &Key) -> Result<T, KeyError> {
-        let removed = self.entries.remove(&key.entry()).map_err(refused)?;
+    pub fn remove(&mut self, entry: &EntryId) -> Result<Removed<T>, CoreError> {
+        let removed = self.entries.remove(entry)?;
         self.note_left();
-        Ok(removed.value)
-    }
-
-    /// Takes a live entry out where its deadline isn't after a tick, and gives its value.
-    pub fn remove_if_due(&mut self, key: &Key, now: u64) -> Result<Option<T>, KeyError> {
-        let removed = self.entries.remove_if_due(&key.entry(), now).map_err(refused)?;
-        if removed.is_some() {
-            self.note_left();
-        }
-        Ok(removed.map(|removed| removed.value))
+        Ok(removed)
     }
 
     /// Gives an entry another deadline, and gives its key of the present stamp. It is moved where its slot has no stamp left; then
@@ -206,14 +155,6 @@ impl<T> Shard<T> {
             self.note_moved();
         }
         (moved.map(|_| *key), beside)
-    }
-
-    /// What a program's closure makes of a live entry's value.
-    pub fn with_value<R>(&mut self, key: &Key, call: impl FnOnce(&mut T) -> R) -> Result<R, KeyError> {
-        let (entry, queue) = (key.entry(), self.queue as usize);
-        self.entries.deadline(&entry).map_err(refused)?;
-        let made = with_lock(self, queue, |shard| shard.entries.with_value(&entry, call));
-        Ok(made.expect("a live entry"))
     }
 }
 
@@ -245,10 +186,10 @@ impl<T> Shard<T> {
                 self.counts.came_out(now, out.deadline);
                 self.note_left();
                 let entry = out.key.entry();
-                Polled::Took((self.named(entry, entry.born()), out.deadline, out.value))
+                Step::Took((self.named(entry, entry.born()), out.deadline, out.value))
             }
-            Piece::Answer(_) => Polled::Rests,
-            Piece::Working => Polled::Works,
+            Piece::Answer(_) => Step::Rests,
+            Piece::Working => Step::Works,
         }
     }
 
@@ -257,7 +198,7 @@ impl<T> Shard<T> {
     pub fn take_next(&mut self, way: &mut Way) -> Polled<T> {
         let store = self.entries.store();
         let Some(place) = way.place.min(store.cores().count()).checked_sub(1) else {
-            return Polled::Rests;
+            return Step::Rests;
         };
         let core = store.cores().get(place).expect("a core before the last");
         let found = core.entry_from(way.slot, SLOTS).map(|entry| entry.index() as usize);
@@ -270,17 +211,14 @@ impl<T> Shard<T> {
             false => Way { slot: 0, place },
         };
         let Some(entry) = found.and_then(|slot| store.entry_from(place, slot, 1)) else {
-            return Polled::Works;
+            return Step::Works;
         };
-        match self.entries.remove(&entry) {
-            Ok(removed) => {
-                self.note_left();
-                Polled::Took((self.named(entry, entry.born()), removed.deadline, removed.value))
-            }
+        match self.remove(&entry) {
+            Ok(removed) => Step::Took((self.named(entry, entry.born()), removed.deadline, removed.value)),
             Err(_) => {
                 let _ = self.entries.reap(&entry);
                 self.may_have_deferred = true;
-                Polled::Works
+                Step::Works
             }
         }
     }
