@@ -3,6 +3,7 @@ pub mod Moving
 pub mod Notes
 pub mod Polls
 pub mod Runs
+pub mod Sized
 pub mod Sizing
 pub mod Stands
 pub mod Store

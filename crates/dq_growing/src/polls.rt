@@ -19,7 +19,7 @@ use dq_ticks::{Key, LAST_TICK};
 use std::alloc::Allocator;
 
 // The next wake of a core.
-fn wake_of<T, W: Words, A: Allocator>(core: &DelayCore<T, W, A>) -> Option<u64>
+pub(crate) fn wake_of<T, W: Words, A: Allocator>(core: &DelayCore<T, W, A>) -> Option<u64>
     ensures tells { TellsWake core.now result }
     ensures bounds { WakeBounds core.now result }
 {

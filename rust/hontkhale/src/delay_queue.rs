@@ -173,10 +173,7 @@ impl<T> DelayQueue<T> {
     /// ```
     #[inline]
     pub fn insert(&self, value: T, after: Duration) -> Result<Key, InsertError<T>> {
-        let tick = self.shared.common.time.tick_in(after);
-        self.shared
-            .insert(value, tick)
-            .map_err(|(kind, value)| InsertError::new(kind, value))
+        self.shared.insert(value, self.shared.common.time.tick_in(after))
     }
 
     /// Puts a value in, to come out at `when`, or at once if that is over, and returns its key. A receiver that waits for a
@@ -191,10 +188,7 @@ impl<T> DelayQueue<T> {
     /// - `NoMemory` if the queue has to grow and memory is refused.
     #[inline]
     pub fn insert_at(&self, value: T, when: Instant) -> Result<Key, InsertError<T>> {
-        let tick = self.shared.common.time.tick_at(when);
-        self.shared
-            .insert(value, tick)
-            .map_err(|(kind, value)| InsertError::new(kind, value))
+        self.shared.insert(value, self.shared.common.time.tick_at(when))
     }
 
     /// Puts in the value that `make` makes of its key, to come out after `after`, and returns the key: for a value that knows its
@@ -572,12 +566,12 @@ impl<T> DelayQueue<T> {
 
     /// What comes out, one entry after the other, until the queue is closed: each step is a [`recv`](DelayQueue::recv).
     pub fn iter(&self) -> Iter<'_, T> {
-        Iter::new(&self.shared)
+        Iter { shared: &self.shared }
     }
 
     /// What is due now, one entry after the other: each step is a [`try_recv`](DelayQueue::try_recv).
     pub fn try_iter(&self) -> TryIter<'_, T> {
-        TryIter::new(&self.shared)
+        TryIter { shared: &self.shared }
     }
 
     /// What receives in the place of a clone, in a thread or a task, and ends once nothing is inserted any more and nothing

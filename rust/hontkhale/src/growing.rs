@@ -10,6 +10,7 @@ mod least;
 mod moving;
 mod notes;
 mod polls;
+mod sized;
 mod sizing;
 mod store;
 mod sweeping;
@@ -22,5 +23,8 @@ pub(crate) const NEVER: u64 = u64::MAX;
 pub use cores::{Cores, TakeError};
 pub use folds::Folds;
 pub use moving::{Moved, NextDeadline};
-pub use sizing::{Sizing, CORES};
+pub use sized::SizedStore;
+#[cfg(test)]
+pub use sizing::Sizing;
+pub use sizing::CORES;
 pub use store::Store;

@@ -108,7 +108,7 @@ impl Common {
             ends: Ends::default(),
             most,
             waiting: AtomicUsize::new(0),
-            seen: (0..shards).map(|_| Seen::new()).collect(),
+            seen: (0..shards).map(|_| Seen::default()).collect(),
         };
         Ok((common, written))
     }

@@ -187,12 +187,12 @@ mod tests {
         let queue = DelayQueue::builder().max_entries(4).build();
         let key = queue.insert("last".to_string(), FAR).expect("room");
         let shared = &queue.shared;
-        let value = shared.lock(key.shard()).remove(&key).expect("it waits");
+        let last = shared.lock(key.shard()).remove(&key.entry()).expect("it waits");
         queue.close_when_empty();
         let is_empty = queue.wait_empty(Duration::ZERO);
         shared.common.uncount(1);
         assert!(is_empty && shared.common.is_closed());
-        assert_eq!((value.as_str(), queue.len()), ("last", 0));
+        assert_eq!((last.value.as_str(), queue.len()), ("last", 0));
     }
 
     /// Else the end of each entry from then on would look at all shards.

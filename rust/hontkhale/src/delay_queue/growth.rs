@@ -4,7 +4,7 @@ use crate::core::{CoreConfig, DelayCore};
 use crate::delay_queue::errors::InsertErrorKind;
 use crate::delay_queue::shard::Seen;
 use crate::delay_queue::shared::Shared;
-use crate::delay_queue::store::{least, Core, Work};
+use crate::delay_queue::store::{least, Core, Shard};
 use crate::directory::Clerk;
 use crate::growing::CORES;
 use crate::memory::AllocError;
@@ -17,16 +17,32 @@ const SWEEPS: usize = 8;
 /// How many steps are made at a time of what keeps a shard of the right size.
 const STEPS: usize = 8;
 
-/// How many slots a core is to have, and the tick from which on what is put in is filed.
-#[derive(Clone, Copy)]
-struct Size {
-    capacity: usize,
-    now: u64,
+/// An empty core that was made for a shard, and is to be taken into it.
+struct Made<T> {
+    at: usize,
+    core: Core<T>,
+    /// Its words where they are new, and aren't in the directory yet.
+    words: Option<OpenWords>,
 }
 
-/// How many parts of a size it takes for a whole.
-fn parts(whole: usize, size: usize) -> usize {
-    whole / size + usize::from(whole % size > 0)
+impl<T> Shard<T> {
+    /// The capacity of a core that is to be made though an insert has room, once so many cancels were accepted. None is made for
+    /// cancelled entries: where they are the most, they are freed once there is no room.
+    fn wanted(&self, cancels: u64) -> Option<usize> {
+        let cancelled = cancels.saturating_sub(self.freed()) as usize;
+        let is_for_live = 2 * cancelled <= self.linked();
+        let (sizing, store) = (self.entries.sizing(), self.entries.store());
+        sizing.capacity_ahead(store).filter(|_| is_for_live)
+    }
+
+    /// The capacity of a core that is to be made for an insert, none where it has room by now.
+    fn wanted_for_insert(&mut self) -> Result<Option<usize>, InsertErrorKind> {
+        if self.entries.finds_room(false) {
+            return Ok(None);
+        }
+        let capacity = self.entries.sizing().capacity_for_insert(self.entries.store());
+        capacity.map(Some).ok_or(InsertErrorKind::Full)
+    }
 }
 
 impl<T> Shared<T> {
@@ -43,9 +59,9 @@ impl<T> Shared<T> {
         Ok((core, words))
     }
 
-    /// An empty core for a shard, with its words where they are new: then it has that number. No lock of a shard is held.
-    fn make(&self, number: u32, at: usize, size: Size) -> Result<(Core<T>, Option<OpenWords>), AllocError> {
-        let Size { capacity, now } = size;
+    /// An empty core for a shard, in which entries are filed from the present tick on. Where it is a new one it has the number,
+    /// of which the next is one more. No lock of a shard is held.
+    fn make(&self, number: &mut u32, at: usize, capacity: usize, now: u64) -> Result<Made<T>, AllocError> {
         let folded = self.lock(at).folds.take(capacity);
         let (mut core, words) = match folded.map(|folded| folded.unfold::<T>()) {
             Some(Ok(core)) => (core, None),
@@ -54,40 +70,57 @@ impl<T> Shared<T> {
                 return Err(AllocError);
             }
             None => {
-                let (core, words) = self.fresh(number, capacity)?;
+                let (core, words) = self.fresh(*number, capacity)?;
+                *number = number.checked_add(1).ok_or(AllocError)?;
                 (core, Some(words))
             }
         };
-        // What is put in is filed from here on.
         let _idle = core.poll_deferring(now);
-        Ok((core, words))
+        Ok(Made { at, core, words })
     }
 
-    /// The same of one core, whose words are in the directory then. It tells how many of them are new.
-    fn make_one(&self, clerk: &mut Clerk<OpenWords>, at: usize, size: Size) -> Result<(Core<T>, usize), AllocError> {
-        let (core, words) = self.make(clerk.given(), at, size)?;
-        let Some(words) = words else {
-            return Ok((core, 0));
-        };
-        clerk.add(words).map_err(|_| AllocError)?;
-        Ok((core, size.capacity))
+    /// Takes a core that was made into its shard, in which there is a place for it. Its words are in the directory then.
+    fn bring(&self, clerk: &mut Clerk<OpenWords>, made: Made<T>) -> Result<(), AllocError> {
+        let Made { at, core, words } = made;
+        let mut new = 0;
+        if let Some(words) = words {
+            // They are found by its number.
+            if core.shard() != clerk.given() || clerk.add(words).is_err() {
+                return Err(AllocError);
+            }
+            new = core.capacity();
+        }
+        let mut shard = self.lock(at);
+        shard.words += new;
+        // One that is refused goes.
+        let _ = shard.entries.bring(core);
+        Ok(())
     }
 
-    /// Makes room in a shard for an insert, unless another thread has.
-    pub fn grow(&self, at: usize) -> Result<(), InsertErrorKind> {
+    /// Makes a core for a shard of as many slots as are wanted there once nobody else makes one, and tells whether some were.
+    fn make_wanted(
+        &self,
+        at: usize,
+        wanted: impl FnOnce(&mut Shard<T>) -> Result<Option<usize>, InsertErrorKind>,
+    ) -> Result<bool, InsertErrorKind> {
         let now = self.common.time.tick();
         let mut clerk = self.makes.lock();
-        let wanted = {
-            let mut store = self.lock(at);
-            let Some(capacity) = store.wanted_for_insert()? else {
-                return Ok(());
-            };
-            store.prepare(1).map(|()| capacity)
+        let mut shard = self.lock(at);
+        let Some(capacity) = wanted(&mut shard)? else {
+            return Ok(false);
         };
-        let made = wanted.and_then(|capacity| self.make_one(&mut clerk, at, Size { capacity, now }));
-        let (core, words) = made.map_err(|_| InsertErrorKind::NoMemory)?;
-        self.lock(at).bring(core, words);
-        Ok(())
+        let reserved = shard.entries.reserve(1);
+        drop(shard);
+        reserved
+            .and_then(|()| self.make(&mut clerk.given(), at, capacity, now))
+            .and_then(|made| self.bring(&mut clerk, made))
+            .map_err(|_| InsertErrorKind::NoMemory)?;
+        Ok(true)
+    }
+
+    /// Makes room in a shard for an insert, unless another thread has. `Full` where it has as many cores as it may have.
+    pub fn grow(&self, at: usize) -> Result<(), InsertErrorKind> {
+        self.make_wanted(at, Shard::wanted_for_insert).map(drop)
     }
 
     /// A bounded part of what keeps a shard of the right size. Where memory is refused it is done later. It tells whether more
@@ -98,22 +131,23 @@ impl<T> Shared<T> {
         for _ in 0..STEPS {
             // A program's clock isn't read under a lock.
             let now = self.common.time.tick();
-            let cancels = self.common.seen[at].cancels();
-            let mut store = self.lock(at);
-            let work = store.work(now, cancels);
-            let woken = self.common.ring(store.end());
-            woken.unwrap_or_else(|panic| resume_unwind(panic));
-            is_moving = matches!(work, Work::Moved);
-            match work {
-                Work::Fold(core) => self.fold(at, core),
-                Work::Make if self.make_ahead(at, now) => {}
-                Work::Moved => {}
-                Work::Make | Work::Nothing => return false,
+            let wanted = |shard: &Shard<T>| shard.wanted(self.common.seen[at].cancels());
+            let mut shard = self.lock(at);
+            let drained = shard.entries.take_needless();
+            let is_making = drained.is_none() && wanted(&shard).is_some();
+            is_moving = drained.is_none() && !is_making && shard.move_straggler(now);
+            shard.end().unwrap_or_else(|panic| resume_unwind(panic));
+            match drained {
+                Some(core) => self.fold(at, core),
+                // Another thread may have made it meanwhile.
+                None if is_making && self.make_wanted(at, |shard| Ok(wanted(shard))) == Ok(true) => {}
+                None if is_moving => {}
+                None => return false,
             }
         }
         // What is moved is moved on by a receiver that has time.
         if !is_moving {
-            self.lock(at).sizing.note_work();
+            self.lock(at).entries.note_work();
         }
         !is_moving
     }
@@ -126,23 +160,6 @@ impl<T> Shared<T> {
             // Where memory is refused it goes.
             drop(kept);
         }
-    }
-
-    /// Makes the next core where one is wanted soon, and tells whether memory was granted.
-    fn make_ahead(&self, at: usize, now: u64) -> bool {
-        let mut clerk = self.makes.lock();
-        let wanted = {
-            let cancels = self.common.seen[at].cancels();
-            let mut store = self.lock(at);
-            store.wanted(cancels).filter(|_| store.prepare(1).is_ok())
-        };
-        // Another thread may have made it meanwhile.
-        let Some(capacity) = wanted else { return false };
-        let Ok((core, words)) = self.make_one(&mut clerk, at, Size { capacity, now }) else {
-            return false;
-        };
-        self.lock(at).bring(core, words);
-        true
     }
 
     /// Frees what was cancelled in a shard, by a bounded number of slots, and drops the values. Where a drop panics the entry
@@ -169,10 +186,10 @@ impl<T> Shared<T> {
         let from = (self.common.time.tick() % count as u64) as usize;
         let mut is_swept = false;
         for at in (from..count).chain(0..from) {
-            let mut store = self.lock(at);
-            is_swept = is_swept || store.sweep(self.common.seen[at].cancels());
-            let is_busy = store.is_busy();
-            drop(store);
+            let mut shard = self.lock(at);
+            is_swept = is_swept || shard.sweep(self.common.seen[at].cancels());
+            let is_busy = shard.entries.sizing().is_busy(shard.entries.store());
+            drop(shard);
             if is_busy {
                 self.maintain(at);
             }
@@ -185,58 +202,43 @@ impl<T> Shared<T> {
         if entries > self.common.most.min(shards * CORES * CAPACITY_LIMIT) {
             return Err(InsertErrorKind::Full);
         }
-        let (share, now) = (parts(entries, shards), self.common.time.tick());
+        let (share, now) = (entries.div_ceil(shards), self.common.time.tick());
         let mut clerk = self.makes.lock();
-        let mut made = Vec::new();
+        let (mut number, mut made) = (clerk.given(), Vec::new());
         let reserved = (0..shards)
-            .try_for_each(|at| self.make_up_to(clerk.given(), at, (share, now), &mut made))
-            .and_then(|()| self.make_places(&clerk, made.len()));
-        for (at, core, words) in made {
-            let mut store = self.lock(at);
-            match (reserved, words) {
-                (Ok(()), None) => store.bring(core, 0),
-                (Ok(()), Some(words)) => {
-                    let capacity = core.capacity();
-                    // It has the number that is given next.
-                    if core.shard() == clerk.given() && clerk.add(words).is_ok() {
-                        store.bring(core, capacity);
-                    }
-                }
-                (Err(AllocError), None) => _ = core.fold().map(|folded| store.folds.keep(folded)),
-                (Err(AllocError), Some(_)) => {}
+            .try_for_each(|at| self.make_up_to(share, at, now, &mut number, &mut made))
+            // The places of their words.
+            .and_then(|()| (clerk.given()..number).try_for_each(|number| self.common.words.make_row(number)));
+        for made in made {
+            match reserved {
+                Ok(()) => _ = self.bring(&mut clerk, made),
+                // What was folded is so again. New ones go.
+                Err(AllocError) if made.words.is_none() => self.fold(made.at, made.core),
+                Err(AllocError) => {}
             }
         }
         reserved.map_err(|_| InsertErrorKind::NoMemory)?;
-        self.locked().for_each(|mut store| store.sizing.keep(share));
+        self.locked().for_each(|mut shard| shard.entries.keep(share));
         Ok(())
     }
 
-    /// Makes places in the directory for so many words more.
-    fn make_places(&self, clerk: &Clerk<OpenWords>, count: usize) -> Result<(), AllocError> {
-        let given = clerk.given();
-        (0..count).try_for_each(|more| self.common.words.make_row(given.saturating_add(more as u32)))
-    }
-
-    /// Makes cores until a shard has slots for so many entries once they are brought there. Those that are new have the numbers
-    /// from one on, each that is new one more.
+    /// Makes cores until a shard has slots for so many entries once they are brought there.
     fn make_up_to(
         &self,
-        first: u32,
+        share: usize,
         at: usize,
-        (share, now): (usize, u64),
-        made: &mut Vec<(usize, Core<T>, Option<OpenWords>)>,
+        now: u64,
+        number: &mut u32,
+        made: &mut Vec<Made<T>>,
     ) -> Result<(), AllocError> {
-        let mut store = self.lock(at);
-        let mut lacks = store.lacks(share);
-        store.prepare(parts(lacks, CAPACITY_LIMIT))?;
-        drop(store);
+        let mut shard = self.lock(at);
+        let mut lacks = share.saturating_sub(shard.slots());
+        shard.entries.reserve(lacks.div_ceil(CAPACITY_LIMIT))?;
+        drop(shard);
         while lacks > 0 {
             made.try_reserve(1)?;
             let capacity = lacks.next_power_of_two().clamp(least::<T>(), CAPACITY_LIMIT);
-            let fresh = made.iter().filter(|(.., words)| words.is_some()).count();
-            let number = first.checked_add(fresh as u32).ok_or(AllocError)?;
-            let (core, words) = self.make(number, at, Size { capacity, now })?;
-            made.push((at, core, words));
+            made.push(self.make(number, at, capacity, now)?);
             lacks = lacks.saturating_sub(capacity);
         }
         Ok(())

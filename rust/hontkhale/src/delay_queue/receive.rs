@@ -3,7 +3,7 @@
 use crate::delay_queue::errors::{RecvTimeoutError, TryRecvError};
 use crate::delay_queue::key::Key;
 use crate::delay_queue::shared::Shared;
-use crate::delay_queue::store::{Polled, Way};
+use crate::delay_queue::store::Way;
 use crate::delay_queue::waking::{Seat, Wakes};
 use crate::delay_queue::Expired;
 use std::fmt;
@@ -131,13 +131,13 @@ impl<T> Shared<T> {
         let Some(at) = self.common.most_due(now) else {
             return Step::Rests;
         };
-        let mut store = self.lock(at);
-        let is_whole = store.is_small(whole);
-        let Polled::Out(key, deadline, value) = store.poll(now, is_whole) else {
+        let mut shard = self.lock(at);
+        let is_whole = shard.is_small(whole);
+        let Step::Took((key, deadline, value)) = shard.poll(now, is_whole) else {
             return Step::Works;
         };
-        store.note_next();
-        self.leave(store, 1);
+        shard.entries.note_next();
+        self.leave(shard, 1);
         Step::Took(Expired {
             key,
             deadline: self.common.time.moment(deadline),
@@ -182,30 +182,30 @@ impl<T> Shared<T> {
         let first = row.len();
         let room = TAKEN_AT_ONCE.min(most);
         row.reserve(room);
-        let mut store = self.lock(at);
-        let is_whole = store.is_small(POLLED_WHOLE);
-        let linked = store.linked();
+        let mut shard = self.lock(at);
+        let is_whole = shard.is_small(POLLED_WHOLE);
+        let linked = shard.linked();
         let mut is_next = false;
         while row.len() < first + room {
-            match store.poll(now, is_whole) {
-                Polled::Out(key, tick, value) => {
+            match shard.poll(now, is_whole) {
+                Step::Took((key, tick, value)) => {
                     is_next = false;
                     let deadline = self.common.time.moment(tick);
                     row.push(Expired { key, deadline, value });
-                    if !is_whole && linked - store.linked() > FEW {
+                    if !is_whole && linked - shard.linked() > FEW {
                         break;
                     }
                 }
                 // Another core is next. The lock is kept for one that has nothing to give, while few cancelled entries were
                 // reaped under it.
-                Polled::Works if is_whole && !is_next && linked - store.linked() <= FEW => is_next = true,
-                Polled::Works | Polled::Rests => break,
+                Step::Works if is_whole && !is_next && linked - shard.linked() <= FEW => is_next = true,
+                Step::Works | Step::Rests => break,
             }
         }
         if row.len() == first + room {
-            store.note_next();
+            shard.entries.note_next();
         }
-        self.leave(store, row.len() - first);
+        self.leave(shard, row.len() - first);
     }
 }
 
@@ -267,25 +267,13 @@ impl<T> Shared<T> {
 /// What comes out of a queue, one entry after the other, until its receivers end.
 #[must_use = "an iterator does nothing until it is asked"]
 pub struct Iter<'q, T> {
-    shared: &'q Shared<T>,
+    pub(crate) shared: &'q Shared<T>,
 }
 
 /// What is due of a queue, one entry after the other.
 #[must_use = "an iterator does nothing until it is asked"]
 pub struct TryIter<'q, T> {
-    shared: &'q Shared<T>,
-}
-
-impl<'q, T> Iter<'q, T> {
-    pub(crate) fn new(shared: &'q Shared<T>) -> Iter<'q, T> {
-        Iter { shared }
-    }
-}
-
-impl<'q, T> TryIter<'q, T> {
-    pub(crate) fn new(shared: &'q Shared<T>) -> TryIter<'q, T> {
-        TryIter { shared }
-    }
+    pub(crate) shared: &'q Shared<T>,
 }
 
 impl<T> Iterator for Iter<'_, T> {
@@ -340,19 +328,19 @@ impl<'q, T> Drain<'q, T> {
     /// The next live entry on the way through the shards.
     fn next_on_the_way(&mut self) -> Option<(Key, Instant, T)> {
         while self.at < self.shared.common.seen.len() {
-            let mut store = self.shared.lock(self.at);
-            let moved = *self.moved.get_or_insert(store.counts.moved);
-            let polled = store.take_next(&mut self.way);
+            let mut shard = self.shared.lock(self.at);
+            let moved = *self.moved.get_or_insert(shard.counts.moved);
+            let polled = shard.take_next(&mut self.way);
             // What was moved meanwhile may be where the way has been.
-            let is_over = store.counts.moved == moved;
-            drop(store);
+            let is_over = shard.counts.moved == moved;
+            drop(shard);
             match polled {
-                Polled::Out(key, deadline, value) => {
+                Step::Took((key, deadline, value)) => {
                     self.shared.note_ended(1);
                     return Some((key, self.shared.common.time.moment(deadline), value));
                 }
-                Polled::Works => {}
-                Polled::Rests => {
+                Step::Works => {}
+                Step::Rests => {
                     while self.shared.maintain(self.at) {}
                     self.at += usize::from(is_over);
                     (self.way, self.moved) = (Way::BEGIN, None);

@@ -138,12 +138,12 @@ impl<T> Receiver<T> {
 
     /// What comes out, one entry after the other, until the receiver has ended: each step is a [`recv`](Receiver::recv).
     pub fn iter(&self) -> Iter<'_, T> {
-        Iter::new(&self.shared)
+        Iter { shared: &self.shared }
     }
 
     /// What is due now, one entry after the other: each step is a [`try_recv`](Receiver::try_recv).
     pub fn try_iter(&self) -> TryIter<'_, T> {
-        TryIter::new(&self.shared)
+        TryIter { shared: &self.shared }
     }
 
     /// Takes an entry out that is due; none once the receiver has ended.

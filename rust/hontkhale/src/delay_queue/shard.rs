@@ -1,4 +1,4 @@
-//! A shard: its entries behind one lock, and what is known of them without it.
+//! The lock around a shard, and what is known of the shard without it.
 //!
 //! # The order of locks
 //! A thread takes a lock only while it holds none but those before it here:
@@ -7,10 +7,10 @@
 //! 3. Each of these alone, while nobody's code runs: the line of receivers, the deferred values, the queues of a manual
 //!    clock.
 
-use crate::bell::{Hint, Rung};
-use crate::delay_queue::common::Common;
+use crate::bell::Rung;
 use crate::delay_queue::dropping::DropQueue;
-use crate::delay_queue::store::ShardStore;
+use crate::delay_queue::shared::Shared;
+use crate::delay_queue::store::Shard;
 use crate::delay_queue::waking::lose;
 use crate::locks::MutexGuard;
 use std::mem;
@@ -19,9 +19,11 @@ use std::sync::atomic::{
     AtomicU64,
     Ordering::{Relaxed, SeqCst},
 };
+use std::thread;
 
 /// What is known of a shard without its lock, beside its hint. All but the cancels is written as the lock is let go, and nowhere
 /// else.
+#[derive(Default)]
 #[repr(align(128))]
 pub(crate) struct Seen {
     /// How many entries came in, less those that came out or were removed: the cancelled ones count. Where it is 0 none waits.
@@ -32,31 +34,15 @@ pub(crate) struct Seen {
     pub cancels: AtomicU64,
 }
 
-/// What lies behind a shard's lock.
-pub(crate) struct Shard<T> {
-    pub store: ShardStore<T>,
-    /// The hint of the store, as others read it.
-    pub hint: Hint,
-}
-
 /// A shard while its lock is held.
 pub(crate) struct Locked<'s, T> {
     /// None once the lock is let go.
     shard: Option<MutexGuard<'s, Shard<T>>>,
     seen: &'s Seen,
-    deferred: &'s DropQueue<T>,
-    common: &'s Common,
+    shared: &'s Shared<T>,
 }
 
 impl Seen {
-    pub fn new() -> Seen {
-        Seen {
-            left: AtomicU64::new(0),
-            quiet_since: AtomicU64::new(0),
-            cancels: AtomicU64::new(0),
-        }
-    }
-
     pub fn cancels(&self) -> u64 {
         self.cancels.load(SeqCst)
     }
@@ -76,77 +62,76 @@ impl Seen {
     }
 }
 
-impl<T> Deref for Locked<'_, T> {
-    type Target = ShardStore<T>;
-
+impl<T> Shared<T> {
     #[inline(always)]
-    fn deref(&self) -> &ShardStore<T> {
-        &self.shard.as_ref().expect(IS_HELD).store
-    }
-}
-
-impl<T> DerefMut for Locked<'_, T> {
-    #[inline(always)]
-    fn deref_mut(&mut self) -> &mut ShardStore<T> {
-        &mut self.shard.as_mut().expect(IS_HELD).store
+    pub fn lock(&self, at: usize) -> Locked<'_, T> {
+        Locked {
+            shard: Some(self.shards[at].lock()),
+            seen: &self.common.seen[at],
+            shared: self,
+        }
     }
 }
 
 const IS_HELD: &str = "the lock is held";
 
-impl<'s, T> Locked<'s, T> {
-    #[inline(always)]
-    pub fn new(
-        shard: MutexGuard<'s, Shard<T>>,
-        seen: &'s Seen,
-        deferred: &'s DropQueue<T>,
-        common: &'s Common,
-    ) -> Locked<'s, T> {
-        Locked {
-            shard: Some(shard),
-            seen,
-            deferred,
-            common,
-        }
-    }
+impl<T> Deref for Locked<'_, T> {
+    type Target = Shard<T>;
 
-    /// Lets the lock go, and tells whom to wake.
     #[inline(always)]
-    pub fn end(mut self) -> Rung {
-        let rung = self.release();
+    fn deref(&self) -> &Shard<T> {
+        self.shard.as_ref().expect(IS_HELD)
+    }
+}
+
+impl<T> DerefMut for Locked<'_, T> {
+    #[inline(always)]
+    fn deref_mut(&mut self) -> &mut Shard<T> {
+        self.shard.as_mut().expect(IS_HELD)
+    }
+}
+
+impl<T> Locked<'_, T> {
+    /// Lets the lock go and wakes the leader where it was rung, and gives the panic of the clock or of a waker.
+    #[inline(always)]
+    pub fn end(mut self) -> thread::Result<()> {
+        let woken = self.release();
         // Nothing is left to be dropped.
         mem::forget(self);
-        rung
+        woken
     }
 
     /// Tells those who hold no lock what the shard has come to, and lets the lock go.
     #[inline(always)]
-    fn release(&mut self) -> Rung {
+    fn release(&mut self) -> thread::Result<()> {
         let Some(mut shard) = self.shard.take() else {
-            return Rung::Nobody;
+            return Ok(());
         };
-        let Shard { store, hint } = &mut *shard;
-        if store.may_have_deferred {
-            note_deferred(store, self.deferred);
+        if shard.may_have_deferred {
+            note_deferred(&mut shard, &self.shared.deferred);
         }
-        let rung = if hint.tick() == store.hint {
+        let hint = shard.entries.hint();
+        let rung = if shard.hint.tick() == hint {
             Rung::Nobody
         } else {
-            hint.set(store.hint)
+            shard.hint.set(hint)
         };
-        self.seen.left.store(store.left(), Relaxed);
-        let quiet_since = store.sizing.quiet_since();
+        self.seen.left.store(shard.counts.left, Relaxed);
+        let quiet_since = shard.entries.sizing().quiet_since();
         if self.seen.quiet_since.load(Relaxed) != quiet_since {
             self.seen.quiet_since.store(quiet_since, Relaxed);
         }
-        rung
+        drop(shard);
+        self.shared.common.ring(rung)
     }
 }
 
 /// Notes whether values are deferred, and counts the places where some are.
 #[cold]
-fn note_deferred<T>(store: &mut ShardStore<T>, deferred: &DropQueue<T>) {
-    match store.note_deferred() {
+fn note_deferred<T>(shard: &mut Shard<T>, deferred: &DropQueue<T>) {
+    shard.may_have_deferred = false;
+    let has_deferred = shard.deferred() > 0;
+    match (mem::replace(&mut shard.has_deferred, has_deferred), has_deferred) {
         (false, true) => deferred.count_place(),
         (true, false) => deferred.uncount_place(),
         _ => {}
@@ -154,7 +139,7 @@ fn note_deferred<T>(store: &mut ShardStore<T>, deferred: &DropQueue<T>) {
 }
 
 impl<T> Drop for Locked<'_, T> {
-    /// The same where nobody asks whom to wake, as in a panic: the leader is woken, and the panic of its waker is lost.
+    /// The same where nobody asks whether a panic came of it, as within one: it is lost.
     #[inline(always)]
     fn drop(&mut self) {
         // Each part goes by value: a guard whose address is asked for lies in memory throughout.
@@ -167,8 +152,7 @@ impl<T> Drop for Locked<'_, T> {
 
 #[inline(never)]
 fn drop_unasked<T>(shard: Locked<'_, T>) {
-    let common = shard.common;
-    lose(common.ring(shard.end()));
+    lose(shard.end());
 }
 
 #[cfg(test)]
@@ -200,8 +184,8 @@ mod tests {
             let waker = Waker::from(Arc::clone(&wakes));
             assert!(task.poll_recv(&mut Context::from_waker(&waker)).is_pending());
             let inserts = || {
-                let mut store = queue.shared.lock(0);
-                store.insert(2, 5);
+                let mut shard = queue.shared.lock(0);
+                shard.insert(2, 5);
                 assert!(!panics);
             };
             assert_eq!(catch_unwind(AssertUnwindSafe(inserts)).is_err(), panics);

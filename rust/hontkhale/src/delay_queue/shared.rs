@@ -1,18 +1,20 @@
 //! What the clones of a queue share: its shards, and the calls on its entries.
 
 use crate::bell::Hint;
+use crate::core::{CallError, CoreError};
 use crate::delay_queue::common::{route, Common, Counted, Step};
 use crate::delay_queue::dropping::DropQueue;
-use crate::delay_queue::errors::{InsertErrorKind, KeyError};
+use crate::delay_queue::errors::{InsertError, InsertErrorKind, KeyError};
 use crate::delay_queue::key::Key;
-use crate::delay_queue::shard::{Locked, Shard};
-use crate::delay_queue::store::ShardStore;
+use crate::delay_queue::shard::Locked;
+use crate::delay_queue::store::Shard;
 use crate::delay_queue::waking::lose;
 use crate::directory::Clerk;
-use crate::locks::Mutex;
-use crate::ticks::LAST_TICK;
+use crate::locks::{with_lock, Mutex};
+use crate::ticks::{self, LAST_TICK};
 use crate::words::OpenWords;
 use std::any::Any;
+use std::iter;
 use std::mem;
 use std::panic::{catch_unwind, resume_unwind, AssertUnwindSafe};
 use std::sync::Arc;
@@ -20,7 +22,7 @@ use std::time::{Duration, Instant};
 
 pub(crate) struct Shared<T> {
     pub common: Arc<Common>,
-    shards: Box<[Mutex<Shard<T>>]>,
+    pub shards: Box<[Mutex<Shard<T>>]>,
     /// Who gives the cores their numbers, held while one is made.
     pub makes: Mutex<Clerk<OpenWords>>,
     /// After how many inserts and resets a slot is worn.
@@ -73,10 +75,7 @@ impl<T> Drop for Lends<'_, T> {
 impl<T> Shared<T> {
     /// Each shard writes one of the hints.
     pub fn new(common: Arc<Common>, hints: Vec<Hint>, clerk: Clerk<OpenWords>, last_stamp: u32) -> Shared<T> {
-        let shard = |(at, hint)| {
-            let store = ShardStore::new(common.id, at);
-            Mutex::new(Shard { store, hint })
-        };
+        let shard = |(at, hint)| Mutex::new(Shard::new(common.id, at, hint));
         Shared {
             shards: hints.into_iter().enumerate().map(shard).collect(),
             common,
@@ -84,16 +83,6 @@ impl<T> Shared<T> {
             last_stamp,
             deferred: DropQueue::new(),
         }
-    }
-
-    #[inline(always)]
-    pub fn lock(&self, at: usize) -> Locked<'_, T> {
-        Locked::new(
-            self.shards[at].lock(),
-            &self.common.seen[at],
-            &self.deferred,
-            &self.common,
-        )
     }
 
     /// The shards, each while its lock is held.
@@ -104,21 +93,19 @@ impl<T> Shared<T> {
     /// Lets a shard's lock go where so many entries ended, wakes the leader where it was rung, and makes a part of what keeps the
     /// shard of the right size. Where entries ended the caller has values in hand, and a waker's panic is lost.
     #[inline(always)]
-    pub fn leave(&self, store: Locked<'_, T>, ended: usize) {
-        let (at, has_work) = (store.at, store.sizing.has_work());
-        let woken = self.common.ring(store.end());
-        if ended > 0 {
-            self.note_ended(ended);
-            lose(woken);
-        } else {
-            woken.unwrap_or_else(|panic| resume_unwind(panic));
-        }
+    pub fn leave(&self, shard: Locked<'_, T>, ended: usize) {
+        let (at, has_work) = (shard.at, shard.entries.sizing().has_work());
+        let woken = shard.end();
         // It may call a task's waker.
-        let maintains = || _ = self.maintain(at);
-        match (has_work, ended) {
-            (false, _) => {}
-            (true, 0) => maintains(),
-            (true, _) => lose(catch_unwind(AssertUnwindSafe(maintains))),
+        let maintains = || _ = has_work && self.maintain(at);
+        if ended == 0 {
+            woken.unwrap_or_else(|panic| resume_unwind(panic));
+            return maintains();
+        }
+        self.note_ended(ended);
+        lose(woken);
+        if has_work {
+            lose(catch_unwind(AssertUnwindSafe(maintains)));
         }
     }
 
@@ -137,23 +124,29 @@ impl<T> Shared<T> {
     /// Puts an entry in that is due at a tick. It is inlined so that the key comes in registers: whoever reads it as a whole from
     /// where its halves were just stored waits for them.
     #[inline(always)]
-    pub fn insert(&self, value: T, tick: u64) -> Result<Key, (InsertErrorKind, T)> {
-        let (counted, mut store) = match self.room_for_one(tick) {
+    pub fn insert(&self, value: T, tick: u64) -> Result<Key, InsertError<T>> {
+        let (counted, mut shard) = match self.room_for_one(tick) {
             Ok(room) => room,
-            Err(kind) => return Err((kind, value)),
+            Err(kind) => return Err(InsertError::new(kind, value)),
         };
-        let key = store.insert(value, tick);
+        let key = shard.insert(value, tick);
         mem::forget(counted);
-        self.is_in(store, key).map_err(|value| (InsertErrorKind::Closed, value))
+        self.is_in(shard, key)
+            .map_err(|value| InsertError::new(InsertErrorKind::Closed, value))
     }
 
     /// The same of a value that is made under the shard's lock, once its key is known.
     pub fn insert_with(&self, make: impl FnOnce(Key) -> T, tick: u64) -> Result<Key, InsertErrorKind> {
         let _lends = Lends(self);
-        let (counted, mut store) = self.room_for_one(tick)?;
-        let key = store.insert_with(make, tick);
+        let (counted, mut shard) = self.room_for_one(tick)?;
+        let next = shard.next_key();
+        let value = with_lock(&mut *shard, self.common.id as usize, |_| make(next));
+        let key = shard.insert(value, tick);
+        // The contracts say that an insert may give that key. Which one it gives of several is the order of the free slots,
+        // of which no contract speaks.
+        assert!(next == key, "an insert takes the slot that is told as the next");
         mem::forget(counted);
-        self.is_in(store, key).map_err(|value| {
+        self.is_in(shard, key).map_err(|value| {
             self.deferred.drop_value(value);
             InsertErrorKind::Closed
         })
@@ -172,12 +165,12 @@ impl<T> Shared<T> {
         let (route, shards) = (route(), self.shards.len());
         // The first threads are spared the division.
         let at = if route < shards { route } else { route % shards };
-        let mut store = self.lock(at);
-        if !store.finds_room(false) {
-            drop(store);
-            store = self.made_room(at)?;
+        let mut shard = self.lock(at);
+        if !shard.entries.finds_room(false) {
+            drop(shard);
+            shard = self.made_room(at)?;
         }
-        Ok((counted, store))
+        Ok((counted, shard))
     }
 
     /// Room where a shard has none: once what was cancelled there was freed, and at last in a new core, or in another shard. Where
@@ -186,9 +179,9 @@ impl<T> Shared<T> {
     fn made_room(&self, at: usize) -> Result<Locked<'_, T>, InsertErrorKind> {
         let mut has_freed = false;
         loop {
-            if self.lock(at).sizing.is_kept() {
-                if let Some(store) = self.any_room(at) {
-                    return Ok(store);
+            if self.lock(at).entries.sizing().is_kept() {
+                if let Some(shard) = self.any_room(at) {
+                    return Ok(shard);
                 }
             }
             if let Err(kind) = self.make_room(at, &mut has_freed) {
@@ -199,9 +192,9 @@ impl<T> Shared<T> {
                 }
                 return self.any_room(at).ok_or(kind);
             }
-            let mut store = self.lock(at);
-            if store.finds_room(false) {
-                return Ok(store);
+            let mut shard = self.lock(at);
+            if shard.entries.finds_room(false) {
+                return Ok(shard);
             }
         }
     }
@@ -209,8 +202,8 @@ impl<T> Shared<T> {
     /// Any slot that is free, first in a shard.
     fn any_room(&self, at: usize) -> Option<Locked<'_, T>> {
         (at..self.shards.len()).chain(0..at).find_map(|other| {
-            let mut store = self.lock(other);
-            store.finds_room(true).then_some(store)
+            let mut shard = self.lock(other);
+            shard.entries.finds_room(true).then_some(shard)
         })
     }
 
@@ -225,9 +218,9 @@ impl<T> Shared<T> {
 
     /// Has receivers come for an entry that is in. Its value is taken back, and given, where that was too late.
     #[inline(always)]
-    fn is_in(&self, store: Locked<'_, T>, key: Key) -> Result<Key, T> {
+    fn is_in(&self, shard: Locked<'_, T>, key: Key) -> Result<Key, T> {
         // A waker that panics takes the key along, but not the entry.
-        self.leave(store, 0);
+        self.leave(shard, 0);
         if self.common.ends.ends_when_empty() {
             if let Some(value) = self.take_back(key) {
                 return Err(value);
@@ -244,7 +237,15 @@ impl<T> Shared<T> {
     }
 }
 
-/// The calls by key.
+/// Why a call by key isn't made: the entry has ended, or `NoMemory` where it is to be moved and no slot is free.
+fn refused(error: CoreError) -> KeyError {
+    match error {
+        CoreError::NoMemory | CoreError::Full { .. } => KeyError::NoMemory,
+        _ => KeyError::Ended,
+    }
+}
+
+/// The calls by key. An entry has the key that its insert gave, wherever it is.
 impl<T> Shared<T> {
     #[inline(always)]
     pub fn step(&self, key: &Key, step: Step) -> Result<u64, KeyError> {
@@ -274,14 +275,32 @@ impl<T> Shared<T> {
     /// A step under the shard's lock: the entry's stamp was changed by a reset, it was moved, or it has ended.
     #[cold]
     fn step_slowly(&self, key: &Key, step: Step) -> Result<u64, KeyError> {
-        self.lock_of(key)?.step(key, step, &self.common.words)
+        let (mut shard, entry) = (self.lock_of(key)?, key.entry());
+        shard.entries.deadline(&entry).map_err(refused)?;
+        let place = shard.entries.store().place(&entry).ok_or(KeyError::Ended)?;
+        let words = self.common.words.get(place.shard()).ok_or(KeyError::Ended)?;
+        // The entry is there by its birth, and under the lock nobody changes its stamp.
+        let made = match step.make(words, &ticks::Key::new(place, place.born())) {
+            Err(CallError::Stale { seen }) => step.make(words, &ticks::Key::new(place, seen)),
+            made => made,
+        };
+        if matches!(step, Step::Cancel) && made.is_ok() {
+            // It doesn't come out by this key any more.
+            let _ = shard.entries.reap(&entry);
+            shard.may_have_deferred = true;
+        }
+        made.map_err(|_| KeyError::Ended)
     }
 
     /// What a program's closure makes of a live entry's value, under its shard's lock and no other one.
     pub fn with_value<R>(&self, key: &Key, call: impl FnOnce(&mut T) -> R) -> Result<R, KeyError> {
         let _lends = Lends(self);
-        let made = self.lock_of(key)?.with_value(key, call);
-        made
+        let (mut shard, entry) = (self.lock_of(key)?, key.entry());
+        shard.entries.deadline(&entry).map_err(refused)?;
+        let made = with_lock(&mut *shard, self.common.id as usize, |shard| {
+            shard.entries.with_value(&entry, call)
+        });
+        Ok(made.expect("a live entry"))
     }
 
     /// Gives an entry the deadline `tick`, and gives its key of the present stamp. One that isn't sooner is an extend, without a
@@ -295,39 +314,34 @@ impl<T> Shared<T> {
     }
 
     fn reset_under_lock(&self, key: &Key, tick: u64) -> Result<Key, KeyError> {
-        let mut store = self.lock_of(key)?;
+        let mut shard = self.lock_of(key)?;
         if tick > LAST_TICK {
             return Err(KeyError::TooFar);
         }
         let mut has_freed = false;
         loop {
-            let (renamed, beside) = store.reset(key, tick);
-            let lacks_room = store.lacks_room(&renamed);
-            let woken = self.common.ring(store.end());
+            let (renamed, beside) = shard.reset(key, tick);
+            let woken = shard.end();
             if let Some(value) = beside {
                 self.deferred.drop_value(value);
             }
             woken.unwrap_or_else(|panic| resume_unwind(panic));
-            match renamed {
-                Err(_) if lacks_room => store = self.room_for_a_move(key, &mut has_freed)?,
-                renamed => return renamed,
-            }
+            let Err(CoreError::Full { .. }) = renamed else {
+                return renamed.map_err(refused);
+            };
+            self.make_room(key.shard(), &mut has_freed)
+                .map_err(|_| KeyError::NoMemory)?;
+            shard = self.lock(key.shard());
         }
-    }
-
-    /// Makes room for an entry that is moved.
-    fn room_for_a_move(&self, key: &Key, has_freed: &mut bool) -> Result<Locked<'_, T>, KeyError> {
-        self.make_room(key.shard(), has_freed).map_err(|_| KeyError::NoMemory)?;
-        Ok(self.lock(key.shard()))
     }
 
     /// Takes a live entry out, and gives its value.
     #[inline]
     pub fn remove(&self, key: &Key) -> Result<T, KeyError> {
-        let mut store = self.lock_of(key)?;
-        let value = store.remove(key)?;
-        self.leave(store, 1);
-        Ok(value)
+        let mut shard = self.lock_of(key)?;
+        let removed = shard.remove(&key.entry()).map_err(refused)?;
+        self.leave(shard, 1);
+        Ok(removed.value)
     }
 
     /// Takes a live entry out where its deadline isn't after the present tick.
@@ -336,11 +350,14 @@ impl<T> Shared<T> {
         if self.step(key, Step::Look)? > now {
             return Ok(None);
         }
-        let mut store = self.lock_of(key)?;
-        let ended = store.remove_if_due(key, now);
-        let taken = matches!(ended, Ok(Some(_)));
-        self.leave(store, usize::from(taken));
-        ended
+        let mut shard = self.lock_of(key)?;
+        let due = shard.entries.remove_if_due(&key.entry(), now);
+        let Some(removed) = due.map_err(refused)? else {
+            return Ok(None);
+        };
+        shard.note_left();
+        self.leave(shard, 1);
+        Ok(Some(removed.value))
     }
 }
 
@@ -356,21 +373,15 @@ impl<T> Shared<T> {
     #[cold]
     fn drop_all(&self) {
         self.deferred.drop_all();
-        (0..self.shards.len()).for_each(|at| self.drop_deferred_at(at));
+        for at in 0..self.shards.len() {
+            // Each is dropped while the lock is free. Within a drop of the queue they stay deferred.
+            iter::from_fn(|| self.lock(at).take_deferred()).for_each(|value| self.deferred.drop_value(value));
+        }
     }
 
     /// Whether there are no such values that this thread may drop now.
     pub fn has_no_deferred(&self) -> bool {
         !self.deferred.has_values() || self.deferred.is_dropping()
-    }
-
-    /// Drops the values that are deferred in a shard, each while the lock is free. Within a drop of the queue they stay deferred.
-    fn drop_deferred_at(&self, at: usize) {
-        loop {
-            let value = self.lock(at).take_deferred();
-            let Some(value) = value else { return };
-            self.deferred.drop_value(value);
-        }
     }
 }
 

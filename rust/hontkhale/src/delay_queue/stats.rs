@@ -2,10 +2,17 @@
 
 use crate::delay_queue::shard::Seen;
 use crate::delay_queue::shared::Shared;
-use crate::delay_queue::store::{Counts, ShardStore, POWERS};
+use crate::delay_queue::store::{Core, Shard};
 use std::fmt;
 use std::mem::size_of;
 use std::time::Duration;
+
+/// By how many powers of two of ticks entries that come out late are counted. The last one is for all that are later, too.
+const POWERS: usize = 12;
+/// What the wheel and the words take of each slot, what the words alone take, and what a core takes besides.
+const SLOT_BYTES: usize = 32;
+const WORD_BYTES: usize = 8;
+const CORE_BYTES: usize = 6_000;
 
 /// What a server watches of a [`DelayQueue`](crate::DelayQueue).
 ///
@@ -128,17 +135,74 @@ impl Stats {
 
 impl fmt::Display for Stats {
     fn fmt(&self, f: &mut fmt::Formatter<'_>) -> fmt::Result {
-        let Stats {
-            waiting,
-            cancelled,
-            memory,
-            ..
-        } = self;
         let (late, latest) = (self.late.as_secs_f64(), self.latest.as_secs_f64());
         write!(
             f,
-            "{waiting} waiting, {cancelled} cancelled, {memory} bytes, {late:.3} s late, at most {latest:.3} s"
+            "{} waiting, {} cancelled, {} bytes, {late:.3} s late, at most {latest:.3} s",
+            self.waiting, self.cancelled, self.memory
         )
+    }
+}
+
+/// What became of a shard's entries. One that is moved isn't counted.
+#[derive(Clone, Copy, Default)]
+pub(crate) struct Counts {
+    pub inserted: u64,
+    expired: u64,
+    /// Those that came in, less those that came out or were removed: the cancelled ones count.
+    pub left: u64,
+    pub moved: u64,
+    /// By how many ticks one was late at most as it came out, how many were late by which power of two of ticks, and how many
+    /// had come out as these were counted anew.
+    latest: u64,
+    late: [u64; POWERS],
+    counted_late: u64,
+}
+
+impl Counts {
+    /// Counts an entry that came out. Those that weren't late aren't counted as such.
+    #[inline(always)]
+    pub fn came_out(&mut self, now: u64, deadline: u64) {
+        self.expired += 1;
+        let late = now.saturating_sub(deadline);
+        if late > 0 {
+            let power = late.ilog2() as usize;
+            self.late[power.min(POWERS - 1)] += 1;
+            self.latest = self.latest.max(late);
+        }
+    }
+
+    /// Adds those of another shard.
+    fn add(&mut self, other: &Counts) {
+        self.inserted += other.inserted;
+        self.expired += other.expired;
+        self.left += other.left;
+        self.counted_late += other.counted_late;
+        self.latest = self.latest.max(other.latest);
+        for (late, more) in self.late.iter_mut().zip(other.late) {
+            *late += more;
+        }
+    }
+
+    /// Counts those that come out late from now on.
+    fn begin_late_anew(&mut self) {
+        (self.late, self.latest) = ([0; POWERS], 0);
+        self.counted_late = self.expired;
+    }
+}
+
+impl<T> Shard<T> {
+    /// The tick by which the first entry is filed. No deadline of a live one is before it.
+    fn first_filed(&self) -> Option<u64> {
+        let filed = |core: &Core<T>| core.filed(&core.peek()?.entry());
+        self.cores().filter_map(filed).min()
+    }
+
+    /// About how many bytes it takes, without what its values point to.
+    fn memory(&self) -> usize {
+        let slot = size_of::<(u32, u32, Option<T>)>() + SLOT_BYTES;
+        let (slots, itself) = (self.slots(), size_of::<(Seen, Shard<T>)>());
+        itself + self.cores().count() * CORE_BYTES + slots * slot + (self.words - slots) * WORD_BYTES
     }
 }
 
@@ -159,10 +223,10 @@ impl<T> Shared<T> {
         let waiting = self.common.waiting();
         let mut sum = Counts::default();
         let (mut freed, mut memory) = (0, size_of::<Shared<T>>());
-        for store in self.locked() {
-            sum.add(&store.counts);
-            freed += store.freed();
-            memory += size_of::<Seen>() + size_of::<ShardStore<T>>() + store.memory();
+        for shard in self.locked() {
+            sum.add(&shard.counts);
+            freed += shard.freed();
+            memory += shard.memory();
         }
         let cancels = self.common.seen.iter().map(Seen::cancels).sum::<u64>();
         let now = self.common.time.tick();
@@ -174,7 +238,7 @@ impl<T> Shared<T> {
         Stats {
             inserted: sum.inserted,
             expired: sum.expired,
-            removed: sum.removed(),
+            removed: sum.inserted - sum.expired - sum.left,
             cancels,
             waiting,
             cancelled: cancels.saturating_sub(freed) as usize,
@@ -188,6 +252,6 @@ impl<T> Shared<T> {
 
     /// Counts the lateness of what comes out from now on.
     pub fn reset_lateness(&self) {
-        self.locked().for_each(|mut store| store.counts.begin_late_anew());
+        self.locked().for_each(|mut shard| shard.counts.begin_late_anew());
     }
 }

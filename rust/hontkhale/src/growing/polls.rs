@@ -8,7 +8,7 @@ use crate::index::{nth, nth_mut};
 use crate::ticks::{Key, LAST_TICK};
 
 // The next wake of a core.
-fn wake_of<T, W: Words>(core: &DelayCore<T, W>) -> Option<u64> {
+pub(crate) fn wake_of<T, W: Words>(core: &DelayCore<T, W>) -> Option<u64> {
     core.next_wake()
 }
 

@@ -1,0 +1,25 @@
+-- A store that keeps its own size, and its hint.
+use Rattle.std.specs.Prelude.{◌≡◌, ℕ, Result, Ok}
+use Rattle.dq_core.specs.declared.errors.CoreError.{CoreError}
+use Rattle.dq_core.specs.declared.outcomes.Turn.TheVariants.{Waiting, Idle}
+use Rattle.dq_core.specs.declared.outcomes.Piece.{Piece}
+use Rattle.dq_core.specs.declared.outcomes.Piece.TheVariants.{Answer}
+use Rattle.dq_growing.specs.declared.TheConstants.{NEVER}
+use Rattle.dq_growing.specs.declared.sizing.Sizing.{Sizing}
+use Rattle.dq_growing.specs.Store.{StoreState}
+
+-- a store, what is known of its size, and a tick that is not after the deadline of a live entry
+pub record SizedState (T W : Type 0) : Type 0 where
+  pub store : StoreState T W
+  pub sizing : Sizing
+  pub hint : ℕ
+
+-- the hint after a poll: the tick that it waits for, none where it is idle; else as before
+abbrev pub hint_after : {T : Type 0} → Result (Piece T) CoreError → ℕ → ℕ
+hint_after (Ok (Answer (Waiting next))) hint = next
+hint_after (Ok (Answer Idle)) hint = NEVER
+hint_after r hint = hint
+
+-- what is known of the size stays, and the hint does
+abbrev pub KeepsRest : {T W : Type 0} → SizedState T W → SizedState T W → Type 0
+KeepsRest s t = (t.sizing ≡ s.sizing) × (t.hint ≡ s.hint)

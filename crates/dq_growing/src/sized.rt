@@ -1,0 +1,416 @@
+//! A store that keeps itself at the right size, and knows a tick before which nothing in it is due.
+//!
+//! Whoever shares a store behind a lock tells others this tick, the *hint*, so that they take the lock only if something
+//! may be due. It is never later than the deadline of a live entry: an insert and a reset lower it, and a poll that finds
+//! nothing due raises it.
+
+ghost use Rattle.std.specs.Prelude.{◌≡◌, ◌≤◌, ◌⊎◌, max, min, true, false, length, IfSome, IfNone, IfErr, IfOk, OnOk, OnErr, OnSome};
+ghost use Rattle.std.specs.Fn.{FnOnceReturnsAtMut};
+ghost use Rattle.dq_core.specs.Folds.{IsFoldable};
+ghost use Rattle.dq_growing.specs.Moving.{HasOpenRoom, IfTo};
+ghost use Rattle.dq_growing.specs.Polls.{DoesPoll, DoesPiece, IfPieceOut, NoneLiveIn, TakesDeferredIn};
+ghost use Rattle.dq_growing.specs.Runs.{GivesId, HoldsDeadlines, HoldsOtherDeadlines, KeepsIds, KeepsIdsBeside, LeavesInForce, NotDueBefore};
+ghost use Rattle.dq_growing.specs.Sized.{hint_after, KeepsRest};
+ghost use Rattle.dq_growing.specs.Sizing.{ComesInto, HasClearAt, HasNoRoom, MayNoteWork, OnlyOpens, WasBeside, with_work};
+ghost use Rattle.dq_growing.specs.Stands.{SameStand};
+ghost use Rattle.dq_growing.specs.Store.{ChangesFor, ComesFor, PollsFor, ReapsFor, RelocatesFor, RemovesFor, RemovesIfDueFor, ResetsFor, ResetsThere, StandsFor, TellsFor};
+
+use crate::NEVER;
+use crate::cores::Cores;
+use crate::moving::{Moved, NextDeadline};
+use crate::notes::Notes;
+use crate::polls::wake_of;
+use crate::sizing::Sizing;
+use crate::store::Store;
+use dq_core::{CoreError, DelayCore, Piece, ReapError, Removed, Turn, Words};
+use dq_ticks::{EntryId, Key};
+use std::alloc::{AllocError, Allocator, Global};
+use std::marker::Model;
+
+/// A store, what is known of its size, and its hint.
+#[derive(Drop)]
+pub struct SizedStore<T, W: Words, A: Allocator = Global> {
+    store: Store<T, W, A>,
+    sizing: Sizing,
+    hint: u64,
+}
+
+impl<T, W: Words, A: Allocator> Model for SizedStore<T, W, A> {
+    ghost use Rattle.dq_growing.specs.Polls.{NoneLiveIn};
+    ghost use Rattle.dq_growing.specs.Sized.{SizedState};
+
+    ghost Value = { SizedState T W };
+
+    ghost view = { λ s. record { store = s.store; sizing = s.sizing; hint = s.hint } };
+
+    ghost invariant = { λ s. NoneLiveIn s.store.cores s.hint };
+}
+
+// The hint after a poll: the tick that it waits for, and as before if more may be due.
+#[inline(always)]
+fn hint_after<T>(made: &Result<Piece<T>, CoreError>, hint: u64) -> u64
+    ensures { result ≡ hint_after made.now hint }
+{
+    match made {
+        Ok(Piece::Answer(Turn::Waiting { next })) => *next,
+        Ok(Piece::Answer(Turn::Idle)) => NEVER,
+        _ => hint,
+    }
+}
+
+impl<T, W: Words, A: Allocator> SizedStore<T, W, A> {
+    /// Returns the hint: a tick of one millisecond that is not after the deadline of any live entry.
+    #[inline(always)]
+    pub fn hint(&self) -> u64
+        ensures hint { result ≡ self.now.hint }
+        ensures law { NoneLiveIn self.now.store.cores result }
+    {
+        self.hint
+    }
+
+    /// Returns the store, to be read.
+    #[inline(always)]
+    pub fn store(&self) -> &Store<T, W, A>
+        ensures { result.now ≡ self.now.store }
+    {
+        &self.store
+    }
+
+    /// Returns what is known of its size, to be read.
+    #[inline(always)]
+    pub fn sizing(&self) -> &Sizing
+        ensures { result.now ≡ self.now.sizing }
+    {
+        &self.sizing
+    }
+
+    /// Notes that there may be something to do for its size.
+    pub fn note_work(&mut self)
+        ensures { self.new ≡ record self.old { sizing = with_work self.old.sizing } }
+    {
+        self.sizing.note_work();
+    }
+
+    /// Keeps memory for so many entries for good.
+    pub fn keep(&mut self, entries: usize)
+        ensures { self.new
+            ≡ record self.old { sizing = record self.old.sizing { kept = max self.old.sizing.kept entries } } }
+    {
+        self.sizing.keep(entries);
+    }
+}
+
+impl<T, W: Words + Drop, A: Allocator + Clone> SizedStore<T, W, A> {
+    /// A store of no cores, whose smallest core is to have so many slots. Nothing is due in it ever.
+    ///
+    /// # Errors
+    /// If the allocator isn't cloned.
+    pub fn new(alloc: A, least: usize) -> Result<SizedStore<T, W, A>, AllocError>
+        ensures { IfOk result (λ s. (length s.store.cores.cores ≡ 0) × (s.hint ≡ NEVER)) }
+    {
+        let notes = Notes::new(alloc.clone()?)?;
+        let cores = Cores::new(alloc);
+        Ok(SizedStore {
+            store: Store { cores, notes },
+            sizing: Sizing::new(least),
+            hint: NEVER,
+        })
+    }
+}
+
+// Calls on entries: each is one call of the store, and the hint follows.
+impl<T, W: Words, A: Allocator + Clone> SizedStore<T, W, A> {
+    /// Puts `value` in, as [`Store::insert`] does. The hint is not after `when` then.
+    ///
+    /// # Errors
+    /// As there.
+    #[inline(always)]
+    pub fn insert(&mut self, value: T, when: u64) -> (Result<Key, (CoreError, T)>, Option<T>)
+        ensures comes { IfOk result.0 (λ k. ComesFor self.old.store k value when self.new.store) }
+        ensures gives { IfOk result.0 (λ k. GivesId self.old.store k.entry self.new.store) }
+        ensures keeps { KeepsIds self.old.store self.new.store }
+        ensures holds { HoldsDeadlines self.old.store self.new.store }
+        ensures hint { OnOk result.0 (self.new.hint ≡ min self.old.hint when) }
+        ensures stays { OnErr result.0 (self.new ≡ self.old) }
+        ensures sizing { self.new.sizing ≡ self.old.sizing }
+    {
+        let answer = self.store.insert(value, when);
+        if answer.0.is_ok() {
+            self.hint = self.hint.min(when);
+        }
+        answer
+    }
+
+    /// Takes a live entry out, as [`Store::remove`] does.
+    ///
+    /// # Errors
+    /// As there.
+    #[inline(always)]
+    pub fn remove(&mut self, entry: &EntryId) -> Result<Removed<T>, CoreError>
+        ensures removes { RemovesFor W.shared self.old.store entry.now result self.new.store }
+        ensures keeps { KeepsIds self.old.store self.new.store }
+        ensures holds { HoldsDeadlines self.old.store self.new.store }
+        ensures in_force { IfOk result (λ x. LeavesInForce self.old.store entry.now x.deadline) }
+        ensures rest { KeepsRest self.old self.new }
+    {
+        let answer = self.store.remove(entry);
+        answer
+    }
+
+    /// Takes a live entry out if it is due by `tick`, as [`Store::remove_if_due`] does.
+    ///
+    /// # Errors
+    /// As there.
+    pub fn remove_if_due(
+        &mut self,
+        entry: &EntryId,
+        tick: u64,
+    ) -> Result<Option<Removed<T>>, CoreError>
+        ensures removes { RemovesIfDueFor W.shared self.old.store entry.now tick result self.new.store }
+        ensures keeps { KeepsIds self.old.store self.new.store }
+        ensures holds { HoldsDeadlines self.old.store self.new.store }
+        ensures rest { KeepsRest self.old self.new }
+    {
+        let answer = self.store.remove_if_due(entry, tick);
+        answer
+    }
+
+    /// Returns the current deadline of a live entry, as [`Store::deadline`] does.
+    ///
+    /// # Errors
+    /// As there.
+    pub fn deadline(&mut self, entry: &EntryId) -> Result<u64, CoreError>
+        ensures tells { TellsFor W.shared self.old.store entry.now result self.new.store }
+        ensures keeps { KeepsIds self.old.store self.new.store }
+        ensures holds { HoldsDeadlines self.old.store self.new.store }
+        ensures rest { KeepsRest self.old self.new }
+    {
+        let answer = self.store.deadline(entry);
+        answer
+    }
+
+    /// Gives a live entry the deadline `when` where it is, as [`Store::reset_in_place`] does. The hint is not after `when`
+    /// then.
+    ///
+    /// # Errors
+    /// As there.
+    #[inline(always)]
+    pub fn reset_in_place(&mut self, entry: &EntryId, when: u64) -> Result<Key, CoreError>
+        ensures resets { ResetsThere W.shared self.old.store entry.now when result self.new.store }
+        ensures keeps { KeepsIds self.old.store self.new.store }
+        ensures holds { HoldsOtherDeadlines entry.now self.old.store self.new.store }
+        ensures due { OnOk result (NotDueBefore self.new.store entry.now when) }
+        ensures hint { OnOk result (self.new.hint ≡ min self.old.hint when) }
+        ensures stays { OnErr result (self.new.hint ≡ self.old.hint) }
+        ensures sizing { self.new.sizing ≡ self.old.sizing }
+    {
+        let answer = self.store.reset_in_place(entry, when);
+        if answer.is_ok() {
+            self.hint = self.hint.min(when);
+        }
+        answer
+    }
+
+    /// The same, and where its slot has no stamp left it goes on in the open core, as [`Store::reset`] tells.
+    ///
+    /// # Errors
+    /// As there.
+    pub fn reset(&mut self, entry: &EntryId, when: u64) -> (Result<Key, CoreError>, Option<T>)
+        ensures resets { ResetsFor W.shared self.old.store entry.now when result self.new.store }
+        ensures keeps { KeepsIds self.old.store self.new.store }
+        ensures holds { HoldsOtherDeadlines entry.now self.old.store self.new.store }
+        ensures due { OnOk result.0 (NotDueBefore self.new.store entry.now when) }
+        ensures hint { OnOk result.0 (self.new.hint ≡ min self.old.hint when) }
+        ensures stays { OnErr result.0 (self.new.hint ≡ self.old.hint) }
+        ensures sizing { self.new.sizing ≡ self.old.sizing }
+    {
+        let answer = self.store.reset(entry, when);
+        if answer.0.is_ok() {
+            self.hint = self.hint.min(when);
+        }
+        answer
+    }
+
+    /// Takes an entry on into the open core with the deadline that it has, as [`Store::relocate`] does. The hint stays: it
+    /// is due when it was.
+    ///
+    /// # Errors
+    /// As there.
+    pub fn relocate(&mut self, entry: &EntryId) -> (Result<Moved<T>, CoreError>, Option<T>)
+        ensures relocates { RelocatesFor W.shared self.old.store entry.now NextDeadline.Same result self.new.store }
+        ensures keeps { KeepsIds self.old.store self.new.store }
+        ensures holds { HoldsDeadlines self.old.store self.new.store }
+        ensures rest { KeepsRest self.old self.new }
+    {
+        let answer = self.store.relocate(entry, NextDeadline::Same);
+        answer
+    }
+
+    /// Frees a cancelled entry, as [`Store::reap`] does.
+    ///
+    /// # Errors
+    /// As there.
+    pub fn reap(&mut self, entry: &EntryId) -> Result<(), ReapError>
+        ensures reaps { ReapsFor W.shared self.old.store entry.now result self.new.store }
+        ensures keeps { KeepsIds self.old.store self.new.store }
+        ensures holds { HoldsDeadlines self.old.store self.new.store }
+        ensures rest { KeepsRest self.old self.new }
+    {
+        let answer = self.store.reap(entry);
+        answer
+    }
+
+    /// Calls a closure with the value of an entry, as [`Store::with_value`] does.
+    pub fn with_value<R, F: FnOnce(&mut T) -> R>(&mut self, entry: &EntryId, call: F) -> Option<R>
+        requires { F.IsAlwaysCallable call }
+        ensures changes { ChangesFor (FnOnceReturnsAtMut F.FnOnce call)
+            self.old.store entry.now result self.new.store }
+        ensures rest { KeepsRest self.old self.new }
+    {
+        let answer = self.store.with_value(entry, call);
+        answer
+    }
+
+    /// Takes out a freed value that waits for its drop, as [`Store::take_deferred`] does.
+    pub fn take_deferred(&mut self) -> Option<T>
+        ensures takes { TakesDeferredIn self.old.store.cores result self.new.store.cores }
+        ensures notes { self.new.store.notes ≡ self.old.store.notes }
+        ensures rest { KeepsRest self.old self.new }
+    {
+        let value = self.store.take_deferred();
+        value
+    }
+
+    /// Notes a tick, of one millisecond, and polls one core, as [`Store::poll`] does. If it finds nothing due, the hint is
+    /// the tick at which to come again.
+    ///
+    /// # Errors
+    /// `TickTooLarge` beyond the last tick, which is not noted then.
+    #[inline(always)]
+    pub fn poll(&mut self, tick: u64) -> Result<Piece<T>, CoreError>
+        ensures polls { PollsFor (DoesPoll W.shared) self.old.store tick result self.new.store }
+        ensures keeps { KeepsIds self.old.store self.new.store }
+        ensures holds { HoldsDeadlines self.old.store self.new.store }
+        ensures in_force { IfPieceOut result
+            (λ x. LeavesInForce self.old.store x.key.entry x.deadline) }
+        ensures hint { self.new.hint ≡ hint_after result self.old.hint }
+        ensures sizing { self.new.sizing ≡ self.old.sizing }
+    {
+        let made = self.store.poll(tick);
+        self.hint = hint_after(&made, self.hint);
+        made
+    }
+
+    /// The same by at most `most` steps, as [`Store::poll_some`] does.
+    ///
+    /// # Errors
+    /// `TickTooLarge` beyond the last tick, which is not noted then.
+    #[inline(always)]
+    pub fn poll_some(&mut self, tick: u64, most: u32) -> Result<Piece<T>, CoreError>
+        ensures polls { PollsFor (DoesPiece W.shared most) self.old.store tick result self.new.store }
+        ensures keeps { KeepsIds self.old.store self.new.store }
+        ensures holds { HoldsDeadlines self.old.store self.new.store }
+        ensures in_force { IfPieceOut result
+            (λ x. LeavesInForce self.old.store x.key.entry x.deadline) }
+        ensures hint { self.new.hint ≡ hint_after result self.old.hint }
+        ensures sizing { self.new.sizing ≡ self.old.sizing }
+    {
+        let made = self.store.poll_some(tick, most);
+        self.hint = hint_after(&made, self.hint);
+        made
+    }
+
+    /// Looks when the next entry is due, if there is one core, so that whoever finds nothing due needs no lock to tell. Of
+    /// several cores that takes as long as a poll.
+    #[inline(always)]
+    pub fn note_next(&mut self)
+        ensures store { self.new.store ≡ self.old.store }
+        ensures sizing { self.new.sizing ≡ self.old.sizing }
+    {
+        if self.store.cores().count() != 1 {
+            return;
+        }
+        let Some(core) = self.store.cores().get(0) else {
+            return;
+        };
+        self.hint = wake_of(core).unwrap_or(NEVER);
+    }
+
+    /// Has others come at once, whatever is due: a value waits for its drop.
+    pub fn call_others(&mut self)
+        ensures { self.new ≡ record self.old { hint = 0 } }
+    {
+        self.hint = 0;
+    }
+}
+
+// Its size.
+impl<T, W: Words, A: Allocator + Clone> SizedStore<T, W, A> {
+    /// Whether a slot is free for an insert, as [`Sizing::finds_room`] tells.
+    #[inline(always)]
+    pub fn finds_room(&mut self, any_will_do: bool) -> bool
+        ensures room { result ≡ true → HasOpenRoom self.new.store.cores }
+        ensures clear { result ≡ true
+            → HasClearAt self.new.store.cores self.new.store.cores.opened }
+        ensures none { result ≡ false → HasNoRoom any_will_do self.old.store.cores }
+        ensures opens { OnlyOpens self.old.store self.new.store }
+        ensures notes { MayNoteWork self.old.sizing self.new.sizing }
+        ensures hint { self.new.hint ≡ self.old.hint }
+    {
+        self.sizing.finds_room(&mut self.store, any_will_do)
+    }
+
+    /// Takes memory for `cores` more in the list of cores, and for one note.
+    ///
+    /// # Errors
+    /// If memory is refused.
+    pub fn reserve(&mut self, cores: usize) -> Result<(), AllocError>
+        ensures cores { self.new.store.cores ≡ self.old.store.cores }
+        ensures rest { KeepsRest self.old self.new }
+    {
+        let reserved = self.store.reserve(cores);
+        reserved
+    }
+
+    /// Takes a core in that was made, as [`Sizing::bring`] tells.
+    ///
+    /// # Errors
+    /// The core comes back, and no entry changes.
+    pub fn bring(&mut self, core: DelayCore<T, W, A>) -> Result<(), DelayCore<T, W, A>>
+        ensures comes { OnOk result (ComesInto self.old.store core self.new.store) }
+        ensures stands { SameStand (StandsFor self.old.store) (StandsFor self.new.store) }
+        ensures keeps { KeepsIdsBeside core self.old.store self.new.store }
+        ensures back { IfErr result (λ c. c ≡ core) }
+        ensures hint { self.new.hint ≡ self.old.hint }
+    {
+        self.sizing.bring(&mut self.store, core)
+    }
+
+    /// Takes a core out that has drained and isn't needed soon, as [`Sizing::take_needless`] tells.
+    pub fn take_needless(&mut self) -> Option<DelayCore<T, W, A>>
+        ensures drained { IfSome result (λ c. IsFoldable c × WasBeside self.old.store.cores c) }
+        ensures stands { SameStand (StandsFor self.old.store) (StandsFor self.new.store) }
+        ensures keeps { KeepsIds self.old.store self.new.store }
+        ensures hint { self.new.hint ≡ self.old.hint }
+    {
+        self.sizing.take_needless(&mut self.store)
+    }
+
+    /// Frees cancelled entries at the next slots, as [`Sizing::sweep`] tells.
+    pub fn sweep(&mut self, cancels: u64) -> bool
+        ensures keeps { KeepsIds self.old.store self.new.store }
+        ensures holds { HoldsDeadlines self.old.store self.new.store }
+        ensures hint { self.new.hint ≡ self.old.hint }
+    {
+        self.sizing.sweep(&mut self.store, cancels)
+    }
+
+    /// Notes that an entry left its core, and that so many are left.
+    #[inline(always)]
+    pub fn note_left(&mut self, left: u64)
+        ensures notes { MayNoteWork self.old.sizing self.new.sizing }
+        ensures rest { self.new ≡ record self.old { sizing = self.new.sizing } }
+    {
+        self.sizing.note_left(&self.store, left);
+    }
+}
