@@ -93,8 +93,9 @@ impl<T, W: Words, A: Allocator> SizedStore<T, W, A> {
 
     /// Keeps memory for so many entries for good.
     pub fn keep(&mut self, entries: usize)
-        ensures { self.new
-            ≡ record self.old { sizing = record self.old.sizing { kept = max self.old.sizing.kept entries } } }
+        ensures { self.new ≡ record self.old {
+          sizing = record self.old.sizing { kept = max self.old.sizing.kept entries };
+        } }
     {
         self.sizing.keep(entries);
     }
@@ -166,7 +167,8 @@ impl<T, W: Words, A: Allocator + Clone> SizedStore<T, W, A> {
         entry: &EntryId,
         tick: u64,
     ) -> Result<Option<Removed<T>>, CoreError>
-        ensures removes { RemovesIfDueFor W.shared self.old.store entry.now tick result self.new.store }
+        ensures removes { RemovesIfDueFor W.shared
+            self.old.store entry.now tick result self.new.store }
         ensures keeps { KeepsIds self.old.store self.new.store }
         ensures holds { HoldsDeadlines self.old.store self.new.store }
         ensures rest { KeepsHint self.old self.new }
@@ -237,7 +239,8 @@ impl<T, W: Words, A: Allocator + Clone> SizedStore<T, W, A> {
     /// # Errors
     /// As there.
     pub fn relocate(&mut self, entry: &EntryId) -> (Result<Moved<T>, CoreError>, Option<T>)
-        ensures relocates { RelocatesFor W.shared self.old.store entry.now NextDeadline.Same result self.new.store }
+        ensures relocates { RelocatesFor W.shared
+            self.old.store entry.now NextDeadline.Same result self.new.store }
         ensures keeps { KeepsIds self.old.store self.new.store }
         ensures holds { HoldsDeadlines self.old.store self.new.store }
         ensures rest { KeepsHint self.old self.new }
@@ -308,7 +311,8 @@ impl<T, W: Words, A: Allocator + Clone> SizedStore<T, W, A> {
     /// `TickTooLarge` beyond the last tick, which is not noted then.
     #[inline(always)]
     pub fn poll_some(&mut self, tick: u64, most: u32) -> Result<Piece<T>, CoreError>
-        ensures polls { PollsFor (DoesPiece W.shared most) self.old.store tick result self.new.store }
+        ensures polls { PollsFor (DoesPiece W.shared most)
+            self.old.store tick result self.new.store }
         ensures keeps { KeepsIds self.old.store self.new.store }
         ensures holds { HoldsDeadlines self.old.store self.new.store }
         ensures in_force { IfPieceOut result
