@@ -3,7 +3,7 @@
 use Rattle.std.specs.Prelude.{unwrap_or, OnOk, IfOk, IfErr, ◌+◌}
 use Rattle.std.proofs.lemmas.Bool.{both_ways, lt-ltb, le-ltb}
 use Rattle.dq_wheel.proofs.Links.{nat_le_or_lt}
-use Rattle.std.proofs.Common.{◌≡◌, ◌≢◌, ◌⊎◌, ℕ, ◌<◌, ◌≤◌, ◌++◌, ◌∷◌, [], Bool, true, false, List, length, min, is_ok, Option, Some, None, Result, Ok, Err, refl, sym, ap, ◌∙◌, subst, inl, inr, ⊎_elim, arith}
+use Rattle.std.proofs.Common.{◌≡◌, ◌≢◌, ◌⊎◌, ℕ, ◌≤◌, Bool, true, false, List, length, min, is_ok, Option, Some, None, Result, Ok, Err, refl, sym, ap, ◌∙◌, subst, inl, inr, ⊎_elim, arith}
 use Rattle.dq_ticks.specs.declared.keys.Key.{Key}
 use Rattle.dq_ticks.specs.declared.keys.EntryId.{EntryId}
 use Rattle.dq_core.specs.declared.errors.CoreError.{CoreError}
@@ -16,11 +16,10 @@ use Rattle.dq_core.specs.declared.outcomes.Turn.TheVariants.{Out as CameOut, Wai
 use Rattle.dq_core.specs.declared.outcomes.Piece.{Piece}
 use Rattle.dq_core.specs.declared.outcomes.Piece.TheVariants.{Answer, Working}
 use Rattle.dq_core.specs.Core.{Core, machine, IsLawfulCore}
-use Rattle.dq_core.specs.Machine.{Entry, NoneLinked, NoneLiveBefore}
+use Rattle.dq_core.specs.Machine.{Entry, NoneLiveBefore}
 use Rattle.dq_core.specs.AtTheCall.{linked_in}
 use Rattle.dq_core.specs.Calls.{FindRefused, IsRemoved, Resets, TellsDeadline}
 use Rattle.dq_core.specs.Sweeps.{Reaps}
-use Rattle.dq_core.proofs.RunsMoves.{put_same}
 use Rattle.dq_growing.specs.declared.TheConstants.{NEVER}
 use Rattle.dq_growing.specs.declared.moving.Moved.{Moved}
 use Rattle.dq_growing.specs.declared.moving.Moved.TheVariants.{To, Out}
@@ -32,11 +31,10 @@ use Rattle.dq_growing.specs.Moving.{IfTo, PutsIn, Relocates, GoesTo, IsTakenOut,
 use Rattle.dq_growing.specs.Polls.{NoneLiveIn, PollsRow, PollsCore, RestsIn, DoesPoll, DoesPiece, TakesDeferredAt, TakesDeferredIn, IfPieceRests, WakeBounds, noting_in}
 use Rattle.dq_growing.specs.Sized.{hint_after}
 use Rattle.dq_growing.specs.Sizing.{AllWere, GoesOnBehind, ComesInto, OnlyOpens, SweepsNext}
-use Rattle.dq_growing.specs.Stands.{HasEntry, IsThere, OneChanges}
 use Rattle.dq_growing.specs.Notes.{Book, user_at, meant_place}
 use Rattle.dq_growing.specs.Store.{StoreState, IsStore, StandsFor, AtPlace, RemovesAt, RemovesFor, RemovesIfDueFor, TellsFor, ChangesFor, RelocatesAt, RelocatesFor, HasNoMemory, AfterReset, ResetsFor, ResetsThere, PollsFor, ReapsFor, NotesReaped, reset_as, answer_as, key_told, piece_as}
 use Rattle.dq_growing.proofs.Rows.{at_after, at_snoc, one_at}
-use Rattle.dq_growing.proofs.Leasts.{earlier, none_ever, some_not_none}
+use Rattle.dq_growing.proofs.Leasts.{earlier, some_not_none}
 use Rattle.dq_growing.proofs.Pairing.{one_or_two}
 use Rattle.dq_growing.proofs.Keeping.{one_entry}
 use Rattle.dq_growing.proofs.Stored.{unlinked}

@@ -18,7 +18,6 @@ use Rattle.dq_core.specs.declared.outcomes.Turn.TheVariants.{Out as CameOut, Wai
 use Rattle.dq_core.specs.declared.outcomes.Piece.{Piece}
 use Rattle.dq_core.specs.declared.outcomes.Piece.TheVariants.{Answer, Working}
 use Rattle.dq_wheel.specs.State.{Filing}
-use Rattle.dq_core.specs.AtTheCall.{linked_in}
 use Rattle.dq_core.specs.Calls.{IsLookedAt, Removes, FindRefused, Resets, ResetRefused, TellsDeadline, IsTurn, noting}
 use Rattle.dq_core.specs.Core.{Core, IsLawfulCore, machine}
 use Rattle.dq_core.specs.Machine.{Entry, TableRow, Machine, Event, Note, Pass, Insert, Reset, Extend, Cancel, Remove, Reap, Expire, Has, Step, Run, RunOf, Callers, IsCallers, IsOnTheWay, IsReaping, table_at, put, with_due}

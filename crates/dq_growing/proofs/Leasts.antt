@@ -1,5 +1,5 @@
 -- The core that wakes first, found one core after the other.
-use Rattle.std.proofs.Common.{◌≡◌, ◌≢◌, ℕ, ◌<◌, ◌≤◌, ◌+◌, Bool, true, false, List, length, get_or, min, refl, sym, ◌∙◌, subst, inl, inr, ⊎_elim, arith, MatchOption, IfSome, Option, Some, None, Ok, IsNone, ◌↔◌, ◌^◌, max, T, nat_eq, if◌then◌else◌}
+use Rattle.std.proofs.Common.{◌≡◌, ◌≢◌, ℕ, ◌<◌, ◌≤◌, ◌+◌, Bool, true, false, List, length, get_or, min, refl, sym, ◌∙◌, subst, inl, inr, ⊎_elim, arith, MatchOption, IfSome, Option, Some, None, Ok, IsNone, ◌↔◌, ◌^◌, T, nat_eq, if◌then◌else◌}
 use Rattle.std.proofs.lemmas.Bool.{cases_eq, eq-eqb, ne_eqb, lt-ltb, le-ltb}
 use mathlib.Core.Logic.{dite}
 use native.Mathlib.Decide.{ℕ_discrete}
