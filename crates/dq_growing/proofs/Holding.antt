@@ -18,7 +18,6 @@ use Rattle.dq_core.specs.declared.outcomes.Turn.TheVariants.{Out as CameOut, Wai
 use Rattle.dq_core.specs.declared.outcomes.Piece.{Piece}
 use Rattle.dq_core.specs.declared.outcomes.Piece.TheVariants.{Answer, Working}
 use Rattle.dq_wheel.specs.State.{Filing}
-use Rattle.dq_core.specs.AtTheCall.{linked_in}
 use Rattle.dq_core.specs.Calls.{IsLookedAt, Removes, FindRefused, Resets, ResetRefused, TellsDeadline, IsTurn, noting}
 use Rattle.dq_core.specs.Core.{Core, IsLawfulCore, machine}
 use Rattle.dq_core.specs.Machine.{Entry, TableRow, Machine, Event, Note, Pass, Insert, Reset, Extend, Cancel, Remove, Reap, Expire, Has, Step, Run, RunOf, Callers, IsCallers, IsOnTheWay, IsReaping, table_at, put, with_due}
@@ -565,22 +564,22 @@ module _ {T W : Type 0} where
   holds_takes s cores c (Err e) lawful takes refused = holds_noted s cores (λ q. row_same s.cores cores q (ap (λ k. k.cores) refused.2))
 
   -- a core comes in with nothing linked, and another one may be open
-  pub comes_hold : (s t : StoreState T W) (c : Core T W) → IsLawfulCore c → linked_in c ≡ 0 → ComesInto s c t → HoldsDeadlines s t
-  comes_hold s t c lawful empty comes u given =
+  pub comes_hold : (s t : StoreState T W) (c : Core T W) → IsLawfulCore c → ComesInto s c t → HoldsDeadlines s t
+  comes_hold s t c lawful comes u given =
       holds_users s t (λ q e z.
       let P : List (Core T W) → Type 0 = λ l. IsCoreAt l z.0 z.1 in
       ⊎_elim
       (λ (y : IsCoreAt s.cores.cores z.0 z.1). (e, (z.0, z.1, y, z.3), (λ d h. h)))
       (λ (y : (z.0 ≡ length s.cores.cores) × (c ≡ z.1)). let N : Core T W → Type 0 = λ k. (v : EntryId) (f : Entry T) → IsThere k v f → ⊥ in
-      absurd ((subst N y.1 (unlinked c lawful empty)) q e z.3))
+      absurd ((subst N y.1 (unlinked c lawful comes.2)) q e z.3))
       (at_snoc s.cores.cores c z.1 z.0 (subst P comes.0 z.2)))
       (λ q e z. ap (λ n. user_at n q) comes.1) u
 
   pub opened_comes : (s m t : StoreState T W) (c : Core T W) (o : Bool) (place : ℕ) → TakesIn s.cores c m.cores → m.notes ≡ s.notes
       → (o ≡ true → (place < length m.cores.cores) × (t.cores ≡ record m.cores { opened = place })) → (o ≡ false → (length m.cores.cores ≤ place) × (t.cores ≡ m.cores))
       → t.notes ≡ m.notes → ComesInto s c t
-  opened_comes s m t c true place takes notes opens refused same = (ap (λ k. k.cores) (opens refl).1 ∙ takes.cores, same ∙ notes)
-  opened_comes s m t c false place takes notes opens refused same = (ap (λ k. k.cores) (refused refl).1 ∙ takes.cores, same ∙ notes)
+  opened_comes s m t c true place takes notes opens refused same = (ap (λ k. k.cores) (opens refl).1 ∙ takes.cores, same ∙ notes, takes.may.0)
+  opened_comes s m t c false place takes notes opens refused same = (ap (λ k. k.cores) (refused refl).1 ∙ takes.cores, same ∙ notes, takes.may.0)
 
   -- each core is one that was there
   pub were_hold : (s t : StoreState T W) → AllWere s.cores t.cores → t.notes ≡ s.notes → HoldsDeadlines s t

@@ -1,19 +1,21 @@
 -- The core that wakes first, found one core after the other.
-use Rattle.std.proofs.Common.{◌≡◌, ◌≢◌, ℕ, ◌<◌, ◌≤◌, ◌+◌, Bool, true, false, List, length, get_or, min, refl, sym, ◌∙◌, subst, inl, inr, ⊎_elim, arith, MatchOption, IfSome, Option, Some, None, Ok, IsNone, ◌↔◌, ◌^◌, max, T, nat_eq, if◌then◌else◌}
-use Rattle.std.proofs.lemmas.Bool.{lt-ltb, le-ltb}
+use Rattle.std.proofs.Common.{◌≡◌, ◌≢◌, ℕ, ◌<◌, ◌≤◌, ◌+◌, Bool, true, false, List, length, get_or, min, refl, sym, ◌∙◌, subst, inl, inr, ⊎_elim, arith, MatchOption, IfSome, Option, Some, None, Ok, IsNone, ◌↔◌, ◌^◌, T, nat_eq, if◌then◌else◌}
+use Rattle.std.proofs.lemmas.Bool.{cases_eq, eq-eqb, ne_eqb, lt-ltb, le-ltb}
 use mathlib.Core.Logic.{dite}
 use native.Mathlib.Decide.{ℕ_discrete}
 use Rattle.dq_wheel.proofs.Links.{nat_le_or_lt}
 use Rattle.dq_core.specs.Core.{Core, machine, IsLawfulCore}
 use Rattle.dq_core.specs.Machine.{Machine, NoneLinked, NoneLiveBefore}
-use Rattle.dq_core.specs.Calls.{TellsWake}
+use Rattle.std.specs.Prelude.{unwrap_or}
+use Rattle.dq_core.specs.Calls.{TellsWake, Polls}
 use Rattle.dq_core.specs.Readers.{WakesBoundDeadlines}
 use Rattle.dq_wheel.specs.Lawful.{IsLawfulWheel}
 use Rattle.dq_growing.specs.declared.TheConstants.{NEVER}
 use Rattle.dq_growing.specs.declared.least.Least.{Least}
 use Rattle.dq_core.specs.declared.outcomes.Piece.{Piece}
-use Rattle.dq_core.specs.Pieces.{IfAnswer}
+use Rattle.dq_core.specs.Pieces.{IfAnswer, PollsSome}
 use Rattle.dq_core.specs.AtTheCall.{IfRests}
+use Rattle.dq_core.specs.declared.outcomes.Turn.{Turn}
 use Rattle.dq_core.specs.declared.outcomes.Turn.TheVariants.{Out, Waiting, Idle}
 use Rattle.dq_core.specs.declared.outcomes.Piece.TheVariants.{Answer, Working}
 use Rattle.dq_core.specs.Readers.{TellsLeast}
@@ -162,34 +164,52 @@ module _ {T W : Type 0} where
       (λ (y : (i ≢ place) × IsCoreAt s.cores i d). quiet i d y.0 y.1)
       (at_after s.cores place i c d inside at)
 
+  -- a poll of a core that finds nothing due tells a tick before which none is live there
+  pub poll_waits : (shared : Bool) (tick : ℕ) (b c : Core T W) (turn : Turn T) → WakesBoundDeadlines T W → IsLawfulCore c → IsLawfulWheel c.wheel → Polls shared b tick (Ok turn) c
+      → IfPieceRests (Ok (Answer turn)) (λ next. NoneLiveBefore (machine c) (unwrap_or next NEVER))
+  poll_waits shared tick b c (Out x) bounds lawful wheel did = tt {0}
+  poll_waits shared tick b c (Waiting next) bounds lawful wheel did = bounds c next lawful wheel did.2.run.2.3
+  poll_waits shared tick b c Idle bounds lawful wheel did = none_ever (machine c) NEVER did.2.run.2.3
+
+  -- so does a piece of one
+  pub piece_waits : (shared : Bool) (tick most : ℕ) (b c : Core T W) (made : Piece T) → WakesBoundDeadlines T W → IsLawfulCore c → IsLawfulWheel c.wheel
+      → PollsSome shared b tick most (Ok made) c → IfPieceRests (Ok made) (λ next. NoneLiveBefore (machine c) (unwrap_or next NEVER))
+  piece_waits shared tick most b c Working bounds lawful wheel did = tt {0}
+  piece_waits shared tick most b c (Answer (Out x)) bounds lawful wheel did = tt {0}
+  piece_waits shared tick most b c (Answer (Waiting next)) bounds lawful wheel did = bounds c next lawful wheel did.2.run.2.3
+  piece_waits shared tick most b c (Answer Idle) bounds lawful wheel did = none_ever (machine c) NEVER did.2.run.2.3
+
   -- an answer that none is due says so of every core
-  pub rests_core : (s : CoreRow T W) (until place others : ℕ) (b c : Core T W) (made : Piece T) → place < length s.cores
-      → OthersAreQuiet s place others → c.noted ≡ max b.noted until → until ≡ min s.noted others
-      → IfAnswer (Ok made) (λ turn. IfRests turn (λ next. NoneLiveBefore (machine c) (c.noted + 1)))
-      → IfPieceRests (Ok (told s.noted others made)) (λ next. NoneLiveIn (with_core s place c) (s.noted + 1))
-  rests_core s until place others b c Working inside quiet noted is own = tt {0}
-  rests_core s until place others b c (Answer (Out x)) inside quiet noted is own = tt {0}
-  rests_core s until place others b c (Answer (Waiting next)) inside quiet noted is own =
+  pub rests_core : (s : CoreRow T W) (place others : ℕ) (c : Core T W) (made : Piece T) → place < length s.cores → OthersAreQuiet s place others → others ≤ NEVER
+      → IfPieceRests (Ok made) (λ next. NoneLiveBefore (machine c) (unwrap_or next NEVER))
+      → IfPieceRests (Ok (told s.noted others made)) (λ next. NoneLiveIn (with_core s place c) (unwrap_or next NEVER))
+  rests_core s place others c Working inside quiet le own = tt {0}
+  rests_core s place others c (Answer (Out x)) inside quiet le own = tt {0}
+  rests_core s place others c (Answer (Waiting next)) inside quiet le own =
       elim (nat_le_or_lt others s.noted) [
-        | inl le ↦ rw (le-ltb s.noted others le) (tt {0})
-        | inr lt ↦ rw (lt-ltb s.noted others lt) (all_quiet s place (s.noted + 1) c inside
-            (λ i d ne at. earlier (machine d) others (s.noted + 1) (quiet i d ne at) (omega arith)) (earlier (machine c) (c.noted + 1) (s.noted + 1) own (omega arith)))
+        | inl past ↦ rw (le-ltb s.noted others past) (tt {0})
+        | inr lt ↦ rw (lt-ltb s.noted others lt) (all_quiet s place (min next others) c inside
+            (λ i d ne at. earlier (machine d) others (min next others) (quiet i d ne at) (omega arith)) (earlier (machine c) next (min next others) own (omega arith)))
       ]
-  rests_core s until place others b c (Answer Idle) inside quiet noted is own =
+  rests_core s place others c (Answer Idle) inside quiet le own =
       elim (nat_le_or_lt others s.noted) [
-        | inl le ↦ rw (le-ltb s.noted others le) (tt {0})
-        | inr lt ↦ rw (lt-ltb s.noted others lt) (let all = all_quiet s place (s.noted + 1) c inside
-            (λ i d ne at. earlier (machine d) others (s.noted + 1) (quiet i d ne at) (omega arith)) (earlier (machine c) (c.noted + 1) (s.noted + 1) own (omega arith)) in
-            either_rests (nat_eq others NEVER) (Answer Idle) (Answer (Waiting others)) (λ next. NoneLiveIn (with_core s place c) (s.noted + 1)) all all)
+        | inl past ↦ rw (le-ltb s.noted others past) (tt {0})
+        | inr lt ↦ rw (lt-ltb s.noted others lt) (elim (cases_eq others NEVER) [
+          | inl same ↦ rw (eq-eqb others NEVER same) (all_quiet s place NEVER c inside (λ i d ne at. earlier (machine d) others NEVER (quiet i d ne at) (omega arith)) own)
+          | inr other ↦ rw (ne_eqb others NEVER other) (all_quiet s place others c inside quiet (earlier (machine c) NEVER others own le))
+        ])
       ]
 
-  -- where the least wake is after the noted tick, no live entry is due
-  pub rests_quiet : (s : CoreRow T W) (next : ℕ) → RestsIn s (Answer (Waiting next)) → NoneLiveIn s (s.noted + 1)
+  -- where the least wake is after the noted tick, none is live before it
+  pub rests_quiet : (s : CoreRow T W) (next : ℕ) → RestsIn s (Answer (Waiting next)) → NoneLiveIn s next
   rests_quiet s next rests i c at =
       let l = rests.0 in
       let is = rests.2 in
-      let late = rests.3 in
-      earlier (machine c) l.wake (s.noted + 1) (quiet_in s.cores l rests.1 i c at) (omega arith)
+      earlier (machine c) l.wake next (quiet_in s.cores l rests.1 i c at) (omega arith)
+
+  -- and where nothing is linked, none is live ever
+  pub idle_quiet : (s : CoreRow T W) (t : ℕ) → RestsIn s (Answer Idle) → NoneLiveIn s t
+  idle_quiet s t rests i c at = none_ever (machine c) t (rests i c at.0 at)
 
   -- the core that wakes first has the turn
   pub takes_turn : (s : CoreRow T W) (l : Least) → IsLeastBelow s.cores (length s.cores) l → TellsDue s (In l.place l.others)

@@ -1,4 +1,5 @@
 pub mod Aging
+pub mod Hints
 pub mod Holding
 pub mod Keeping
 pub mod Leasts

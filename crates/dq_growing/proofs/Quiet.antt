@@ -1,6 +1,6 @@
 -- What no call but an insert or a reset does: give an entry an earlier deadline. So where no live entry has a deadline before
 -- a tick, none has after it.
-use Rattle.std.specs.Prelude.{unwrap_or}
+use Rattle.std.specs.Prelude.{unwrap_or, OnOk}
 use Rattle.dq_growing.specs.declared.TheConstants.{NEVER}
 use Rattle.std.proofs.Common.{◌≡◌, ◌≢◌, ℕ, ◌<◌, ◌≤◌, Bool, List, [], ◌∷◌, length, max, min, nat_eq, true, false, IfSome, Option, Some, None, Result, Ok, Err, refl, sym, ap, ◌∙◌, subst, inl, inr, ⊎_elim, arith}
 use Rattle.std.specs.List.{AllByRecursion}
@@ -150,6 +150,11 @@ module _ {T : Type 0} where
   pub reaps_late : (shared : Bool) (last t : ℕ) (m k : Machine T) → RunOf (IsReaping shared) last m k → NoneLiveBefore m t → NoneLiveBefore k t
   reaps_late shared last t m k run before = late_run (IsReaping shared) last t (reaping_late shared t) m k run.0 run.1 run.2 before
 
+-- what holds holds of an accepted call
+pub on_ok : {X E : Type 0} (P : Type 0) (r : Result X E) → P → OnOk r P
+on_ok P (Ok x) p = p
+on_ok P (Err e) p = tt {0}
+
 -- before tick 0 nothing is live
 pub quiet_fresh : {T : Type 0} (m : Machine T) (u : ℕ) → u ≡ 0 → NoneLiveBefore m u
 quiet_fresh m u none i e d linked due = omega arith
@@ -189,25 +194,28 @@ module _ {T W : Type 0} (shared : Bool) (b c : Core T W) (t : ℕ) (before : Non
   dues_late id tick (Ok None) r = tells_late id (Ok r.0) r.2
   dues_late id tick (Err e) r = find_refused_late id e r
 
-  pub inserts_late : (v : T) (when : ℕ) (r : Result Key (CoreError × T)) → t ≤ when → Inserts b v when r c → NoneLiveBefore (machine c) t
+  pub inserts_late : (v : T) (when : ℕ) (r : Result Key (CoreError × T)) → OnOk r (t ≤ when) → Inserts b v when r c → NoneLiveBefore (machine c) t
   unfolding IsLate
   inserts_late v when (Ok k) late r =
       late_step b.slots.last_stamp (machine b) (machine c) (Insert k.entry.index v when) t late r.step before
   inserts_late v when (Err e) late r = unchanged r.2
 
-  pub resets_late : (id : EntryId) (when : ℕ) (r : Result Key CoreError) → t ≤ when → Resets shared b id when r c → NoneLiveBefore (machine c) t
+  pub reset_refused_late : (id : EntryId) (when : ℕ) (e : CoreError) → Resets shared b id when (Err e) c → NoneLiveBefore (machine c) t
+  reset_refused_late id when (TooFar l) r = unchanged r.2
+  reset_refused_late id when Missing r = unchanged r.2
+  reset_refused_late id when WasCancelled r = run_late shared b.slots.last_stamp t (machine b) (machine c) r.1.looked.callers before
+  reset_refused_late id when Worn r = run_late shared b.slots.last_stamp t (machine b) (machine c) r.1.1.looked.callers before
+  reset_refused_late id when (Full l w) r = absurd r
+  reset_refused_late id when (TickTooLarge l) r = absurd r
+  reset_refused_late id when BadConfig r = absurd r
+  reset_refused_late id when NoMemory r = absurd r
+
+  pub resets_late : (id : EntryId) (when : ℕ) (r : Result Key CoreError) → OnOk r (t ≤ when) → Resets shared b id when r c → NoneLiveBefore (machine c) t
   unfolding IsLate
   resets_late id when (Ok k) late r =
       let mid = run_late shared b.slots.last_stamp t (machine b) r.run.0 r.run.1 before in
       late_step b.slots.last_stamp r.run.0 (machine c) (Reset id.index id.born when) t late r.run.2 mid
-  resets_late id when (Err (TooFar l)) late r = unchanged r.2
-  resets_late id when (Err Missing) late r = unchanged r.2
-  resets_late id when (Err WasCancelled) late r = run_late shared b.slots.last_stamp t (machine b) (machine c) r.1.looked.callers before
-  resets_late id when (Err Worn) late r = run_late shared b.slots.last_stamp t (machine b) (machine c) r.1.1.looked.callers before
-  resets_late id when (Err (Full l w)) late r = absurd r
-  resets_late id when (Err (TickTooLarge l)) late r = absurd r
-  resets_late id when (Err BadConfig) late r = absurd r
-  resets_late id when (Err NoMemory) late r = absurd r
+  resets_late id when (Err e) late r = reset_refused_late id when e r
 
   pub reap_late : (id : EntryId) (r : Result (Unit {0}) ReapError) → Reaps shared b id r c → NoneLiveBefore (machine c) t
   reap_late id (Ok done) r = reaps_late shared b.slots.last_stamp t (machine b) (machine c) r.1.reaped.run before

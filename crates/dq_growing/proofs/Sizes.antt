@@ -415,7 +415,7 @@ module _ {T W : Type 0} where
   pub comes_into : (s m t : StoreState T W) (c : Core T W) → TakesIn s.cores c m.cores → m.notes ≡ s.notes → OnlyOpens m t → ComesInto s c t
   comes_into s m t c takes notes opens =
       let C : CoreRow T W → List (Core T W) = λ k. k.cores in
-      (ap C opens.0.1 ∙ takes.cores, opens.1 ∙ notes)
+      (ap C opens.0.1 ∙ takes.cores, opens.1 ∙ notes, takes.may.0)
 
   pub comes_same : (s m t : StoreState T W) (c : Core T W) → IsLawfulCore c → TakesIn s.cores c m.cores → m.notes ≡ s.notes → OnlyOpens m t → SameStand (StandsFor s) (StandsFor t)
   comes_same s m t c lawful takes notes opens = then_stand (StandsFor s) (StandsFor m) (StandsFor t) (takes_same s m c lawful takes notes) (opens_same m t opens)

@@ -21,5 +21,5 @@ hint_after (Ok (Answer Idle)) hint = NEVER
 hint_after r hint = hint
 
 -- what is known of the size stays, and the hint does
-abbrev pub KeepsRest : {T W : Type 0} → SizedState T W → SizedState T W → Type 0
-KeepsRest s t = (t.sizing ≡ s.sizing) × (t.hint ≡ s.hint)
+abbrev pub KeepsHint : {T W : Type 0} → SizedState T W → SizedState T W → Type 0
+KeepsHint s t = (t.sizing ≡ s.sizing) × (t.hint ≡ s.hint)

@@ -110,9 +110,10 @@ module _ {T W : Type 0} where
   abbrev pub MayMake : StoreState T W → ℕ → Type 0
   MayMake s n = (length s.cores.cores < CORES) × (n ≤ CAPACITY_LIMIT)
 
-  -- a core is the last one from now on, and the others stay
+  -- a core in which nothing is linked is the last one from now on, and the others stay
   abbrev pub ComesInto : StoreState T W → Core T W → StoreState T W → Type 0
-  ComesInto s c t = (t.cores.cores ≡ s.cores.cores ++ c ∷ []) × (t.notes ≡ s.notes)
+  ComesInto s c t =
+      (t.cores.cores ≡ s.cores.cores ++ c ∷ []) × (t.notes ≡ s.notes) × (linked_in c ≡ 0)
 
   -- the core that was open is open
   abbrev pub StaysOpen : CoreRow T W → CoreRow T W → Type 0

@@ -1,6 +1,6 @@
 //! Polls of a store.
 
-ghost use Rattle.std.specs.Prelude.{◌≡◌, true, ◌↔◌, IsErr, OnOk, ℕ, ◌<◌, ◌≤◌, max, length, MatchOption, IfSome, IfNone, Some, None, Ok, ◌≢◌, ◌+◌};
+ghost use Rattle.std.specs.Prelude.{◌≡◌, true, ◌↔◌, IsErr, OnOk, ℕ, ◌<◌, ◌≤◌, max, length, MatchOption, IfSome, IfNone, Some, None, Ok, ◌≢◌, unwrap_or};
 ghost use Rattle.dq_growing.specs.declared.TheConstants.{NEVER};
 ghost use Rattle.dq_core.specs.Core.{Core, machine};
 ghost use Rattle.dq_core.specs.Deferring.{waiting_in};
@@ -192,9 +192,10 @@ impl<T, W: Words, A: Allocator> Cores<T, W, A> {
         // What comes out is due.
         ensures out { IfPieceOut result (λ x. x.deadline ≤ self.new.noted) }
 
-        // Where the answer is that none is due, no live entry is, and the tick to wait for is after the
-        // noted one.
-        ensures rests { IfPieceRests result (λ next. NoneLiveIn self.new (self.new.noted + 1)) }
+        // Where the answer is that none is due, the tick to wait for is after the noted one, and no live
+        // entry has a deadline before it.
+        ensures rests { IfPieceRests result
+            (λ next. NoneLiveIn self.new (unwrap_or next NEVER)) }
         ensures ahead { IfPieceRests result (λ next. IfSome next (λ t. self.new.noted < t)) }
 
         // No id that an entry has had is given anew.
@@ -230,9 +231,10 @@ impl<T, W: Words, A: Allocator> Cores<T, W, A> {
         // What comes out is due.
         ensures out { IfPieceOut result (λ x. x.deadline ≤ self.new.noted) }
 
-        // Where the answer is that none is due, no live entry is, and the tick to wait for is after the
-        // noted one.
-        ensures rests { IfPieceRests result (λ next. NoneLiveIn self.new (self.new.noted + 1)) }
+        // Where the answer is that none is due, the tick to wait for is after the noted one, and no live
+        // entry has a deadline before it.
+        ensures rests { IfPieceRests result
+            (λ next. NoneLiveIn self.new (unwrap_or next NEVER)) }
         ensures ahead { IfPieceRests result (λ next. IfSome next (λ t. self.new.noted < t)) }
 
         // No id that an entry has had is given anew.
@@ -262,14 +264,16 @@ impl<T, W: Words, A: Allocator> Cores<T, W, A> {
         ensures noted { self.new.noted ≡ self.old.noted }
         ensures out { IfPieceOut (Ok result) (λ x. x.deadline ≤ self.new.noted) }
         ensures rests { IfPieceRests (Ok result)
-            (λ next. NoneLiveIn self.new (self.new.noted + 1)) }
+            (λ next. NoneLiveIn self.new (unwrap_or next NEVER)) }
         ensures ahead { IfPieceRests (Ok result) (λ next. IfSome next (λ t. self.new.noted < t)) }
         ensures ages { Ages self.old self.new }
         ensures polls { PollsCore (DoesPoll W.shared) self.old result self.new }
         ensures words { KeepsWords W.origin W.begun self.old self.new }
     {
         let noted = self.noted;
+        wakes_bound_deadlines::<T, W>();
         let answer = self.cores[place].poll_deferring(noted.min(others));
+        self.cores[place].law();
         match answer {
             Ok(turn) => as_told(Piece::Answer(turn), noted, others),
             Err(_) => unreachable!(),
@@ -285,14 +289,16 @@ impl<T, W: Words, A: Allocator> Cores<T, W, A> {
         ensures noted { self.new.noted ≡ self.old.noted }
         ensures out { IfPieceOut (Ok result) (λ x. x.deadline ≤ self.new.noted) }
         ensures rests { IfPieceRests (Ok result)
-            (λ next. NoneLiveIn self.new (self.new.noted + 1)) }
+            (λ next. NoneLiveIn self.new (unwrap_or next NEVER)) }
         ensures ahead { IfPieceRests (Ok result) (λ next. IfSome next (λ t. self.new.noted < t)) }
         ensures ages { Ages self.old self.new }
         ensures polls { PollsCore (DoesPiece W.shared most) self.old result self.new }
         ensures words { KeepsWords W.origin W.begun self.old self.new }
     {
         let noted = self.noted;
+        wakes_bound_deadlines::<T, W>();
         let answer = self.cores[place].poll_some_deferring(noted.min(others), most);
+        self.cores[place].law();
         match answer {
             Ok(piece) => as_told(piece, noted, others),
             Err(_) => unreachable!(),

@@ -10,7 +10,7 @@ ghost use Rattle.dq_core.specs.Folds.{IsFoldable};
 ghost use Rattle.dq_growing.specs.Moving.{HasOpenRoom, IfTo};
 ghost use Rattle.dq_growing.specs.Polls.{DoesPoll, DoesPiece, IfPieceOut, NoneLiveIn, TakesDeferredIn};
 ghost use Rattle.dq_growing.specs.Runs.{GivesId, HoldsDeadlines, HoldsOtherDeadlines, KeepsIds, KeepsIdsBeside, LeavesInForce, NotDueBefore};
-ghost use Rattle.dq_growing.specs.Sized.{hint_after, KeepsRest};
+ghost use Rattle.dq_growing.specs.Sized.{hint_after, KeepsHint};
 ghost use Rattle.dq_growing.specs.Sizing.{ComesInto, HasClearAt, HasNoRoom, MayNoteWork, OnlyOpens, WasBeside, with_work};
 ghost use Rattle.dq_growing.specs.Stands.{SameStand};
 ghost use Rattle.dq_growing.specs.Store.{ChangesFor, ComesFor, PollsFor, ReapsFor, RelocatesFor, RemovesFor, RemovesIfDueFor, ResetsFor, ResetsThere, StandsFor, TellsFor};
@@ -93,8 +93,9 @@ impl<T, W: Words, A: Allocator> SizedStore<T, W, A> {
 
     /// Keeps memory for so many entries for good.
     pub fn keep(&mut self, entries: usize)
-        ensures { self.new
-            ≡ record self.old { sizing = record self.old.sizing { kept = max self.old.sizing.kept entries } } }
+        ensures { self.new ≡ record self.old {
+          sizing = record self.old.sizing { kept = max self.old.sizing.kept entries };
+        } }
     {
         self.sizing.keep(entries);
     }
@@ -151,7 +152,7 @@ impl<T, W: Words, A: Allocator + Clone> SizedStore<T, W, A> {
         ensures keeps { KeepsIds self.old.store self.new.store }
         ensures holds { HoldsDeadlines self.old.store self.new.store }
         ensures in_force { IfOk result (λ x. LeavesInForce self.old.store entry.now x.deadline) }
-        ensures rest { KeepsRest self.old self.new }
+        ensures rest { KeepsHint self.old self.new }
     {
         let answer = self.store.remove(entry);
         answer
@@ -166,10 +167,11 @@ impl<T, W: Words, A: Allocator + Clone> SizedStore<T, W, A> {
         entry: &EntryId,
         tick: u64,
     ) -> Result<Option<Removed<T>>, CoreError>
-        ensures removes { RemovesIfDueFor W.shared self.old.store entry.now tick result self.new.store }
+        ensures removes { RemovesIfDueFor W.shared
+            self.old.store entry.now tick result self.new.store }
         ensures keeps { KeepsIds self.old.store self.new.store }
         ensures holds { HoldsDeadlines self.old.store self.new.store }
-        ensures rest { KeepsRest self.old self.new }
+        ensures rest { KeepsHint self.old self.new }
     {
         let answer = self.store.remove_if_due(entry, tick);
         answer
@@ -183,7 +185,7 @@ impl<T, W: Words, A: Allocator + Clone> SizedStore<T, W, A> {
         ensures tells { TellsFor W.shared self.old.store entry.now result self.new.store }
         ensures keeps { KeepsIds self.old.store self.new.store }
         ensures holds { HoldsDeadlines self.old.store self.new.store }
-        ensures rest { KeepsRest self.old self.new }
+        ensures rest { KeepsHint self.old self.new }
     {
         let answer = self.store.deadline(entry);
         answer
@@ -237,10 +239,11 @@ impl<T, W: Words, A: Allocator + Clone> SizedStore<T, W, A> {
     /// # Errors
     /// As there.
     pub fn relocate(&mut self, entry: &EntryId) -> (Result<Moved<T>, CoreError>, Option<T>)
-        ensures relocates { RelocatesFor W.shared self.old.store entry.now NextDeadline.Same result self.new.store }
+        ensures relocates { RelocatesFor W.shared
+            self.old.store entry.now NextDeadline.Same result self.new.store }
         ensures keeps { KeepsIds self.old.store self.new.store }
         ensures holds { HoldsDeadlines self.old.store self.new.store }
-        ensures rest { KeepsRest self.old self.new }
+        ensures rest { KeepsHint self.old self.new }
     {
         let answer = self.store.relocate(entry, NextDeadline::Same);
         answer
@@ -254,7 +257,7 @@ impl<T, W: Words, A: Allocator + Clone> SizedStore<T, W, A> {
         ensures reaps { ReapsFor W.shared self.old.store entry.now result self.new.store }
         ensures keeps { KeepsIds self.old.store self.new.store }
         ensures holds { HoldsDeadlines self.old.store self.new.store }
-        ensures rest { KeepsRest self.old self.new }
+        ensures rest { KeepsHint self.old self.new }
     {
         let answer = self.store.reap(entry);
         answer
@@ -265,9 +268,10 @@ impl<T, W: Words, A: Allocator + Clone> SizedStore<T, W, A> {
         requires { F.IsAlwaysCallable call }
         ensures changes { ChangesFor (FnOnceReturnsAtMut F.FnOnce call)
             self.old.store entry.now result self.new.store }
-        ensures rest { KeepsRest self.old self.new }
+        ensures rest { KeepsHint self.old self.new }
     {
         let answer = self.store.with_value(entry, call);
+        self.store.law();
         answer
     }
 
@@ -275,7 +279,7 @@ impl<T, W: Words, A: Allocator + Clone> SizedStore<T, W, A> {
     pub fn take_deferred(&mut self) -> Option<T>
         ensures takes { TakesDeferredIn self.old.store.cores result self.new.store.cores }
         ensures notes { self.new.store.notes ≡ self.old.store.notes }
-        ensures rest { KeepsRest self.old self.new }
+        ensures rest { KeepsHint self.old self.new }
     {
         let value = self.store.take_deferred();
         value
@@ -307,7 +311,8 @@ impl<T, W: Words, A: Allocator + Clone> SizedStore<T, W, A> {
     /// `TickTooLarge` beyond the last tick, which is not noted then.
     #[inline(always)]
     pub fn poll_some(&mut self, tick: u64, most: u32) -> Result<Piece<T>, CoreError>
-        ensures polls { PollsFor (DoesPiece W.shared most) self.old.store tick result self.new.store }
+        ensures polls { PollsFor (DoesPiece W.shared most)
+            self.old.store tick result self.new.store }
         ensures keeps { KeepsIds self.old.store self.new.store }
         ensures holds { HoldsDeadlines self.old.store self.new.store }
         ensures in_force { IfPieceOut result
@@ -366,7 +371,7 @@ impl<T, W: Words, A: Allocator + Clone> SizedStore<T, W, A> {
     /// If memory is refused.
     pub fn reserve(&mut self, cores: usize) -> Result<(), AllocError>
         ensures cores { self.new.store.cores ≡ self.old.store.cores }
-        ensures rest { KeepsRest self.old self.new }
+        ensures rest { KeepsHint self.old self.new }
     {
         let reserved = self.store.reserve(cores);
         reserved
@@ -383,6 +388,7 @@ impl<T, W: Words, A: Allocator + Clone> SizedStore<T, W, A> {
         ensures back { IfErr result (λ c. c ≡ core) }
         ensures hint { self.new.hint ≡ self.old.hint }
     {
+        core.law();
         self.sizing.bring(&mut self.store, core)
     }
 

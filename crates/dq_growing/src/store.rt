@@ -1,14 +1,15 @@
 //! A store as its users see it: they know an entry by the id that it came in with, wherever it is.
 
 ghost use Rattle.dq_core.specs.declared.errors.CoreError.TheVariants.{Worn};
-ghost use Rattle.std.specs.Prelude.{◌≡◌, ◌≤◌, ◌↔◌, IsTrue, IfSome, IfNone, IfErr, IfOk, OnOk, OnErr, Ok, Err, None, Some};
-ghost use Rattle.dq_growing.specs.Cores.{InsertsIn, TakesIn, GivesDrained, NoneDrained};
+ghost use Rattle.dq_growing.specs.declared.TheConstants.{NEVER};
+ghost use Rattle.std.specs.Prelude.{◌≡◌, ◌≤◌, ◌↔◌, IsTrue, IfSome, IfNone, IfErr, IfOk, OnOk, OnErr, Ok, Err, None, Some, unwrap_or};
+ghost use Rattle.dq_growing.specs.Cores.{AreCores, InsertsIn, TakesIn, GivesDrained, NoneDrained};
 ghost use Rattle.dq_growing.specs.Runs.{GivesId, HoldsDeadlines, HoldsOtherDeadlines, KeepsIds, KeepsIdsBeside, KeepsItsDeadline, LeavesInForce, NotDueBefore};
 ghost use Rattle.dq_ticks.specs.Keys.{EntryName};
 ghost use Rattle.dq_growing.specs.Stands.{OneLeaves, SameStand, KeepsWords};
 ghost use Rattle.dq_growing.specs.Store.{key_as, key_told, removed_as, expired_as, moved_as, answer_as, NotesMoved, NotesAnswered, IsStore, KeysAreApart, StandsFor, ComesFor, GoesOnFor, RemovesFor, RemovesIfDueFor, TellsFor, RelocatesFor, PollsFor, PeeksFor, piece_as, NotesAfter, ReapsFor, ResetsFor, TakeRefusedFor, TellsPlaceFor, ResetsThere, HasBegunFor, HasOneValue, GoesOut};
 ghost use Rattle.dq_growing.specs.Moving.{IfTo, IfCameOut, UnlessTo, HasBegunIn};
-ghost use Rattle.dq_growing.specs.Polls.{DoesPoll, DoesPiece, IfPieceOut};
+ghost use Rattle.dq_growing.specs.Polls.{DoesPoll, DoesPiece, IfPieceOut, IfPieceRests, NoneLiveIn};
 ghost use Rattle.dq_growing.specs.Notes.{HasNoteRoom, AllArePast, user_at, with_id};
 
 use crate::cores::{Cores, TakeError, missing_at};
@@ -186,6 +187,7 @@ impl<T, W: Words, A: Allocator + Clone> Store<T, W, A> {
     /// two entries have one user's id.
     pub fn law(&self)
         ensures law { IsStore self.now }
+        ensures cores { AreCores self.now.cores }
         ensures apart { KeysAreApart self.now }
         ensures one { (id : EntryName) → HasOneValue self.now id }
     {
@@ -401,6 +403,11 @@ impl<T, W: Words, A: Allocator + Clone> Store<T, W, A> {
     pub fn poll(&mut self, tick: u64) -> Result<Piece<T>, CoreError>
         // Exactly: a poll of the cores. What comes out has its user's key, and leaves no note.
         ensures polls { PollsFor (DoesPoll W.shared) self.old tick result self.new }
+
+        // Where the answer is that none is due, no live entry has a deadline before the tick to wait for.
+        ensures rests { IfPieceRests result
+            (λ next. NoneLiveIn self.new.cores (unwrap_or next NEVER)) }
+
         ensures goes_out { IfPieceOut result
             (λ x. GoesOut self.old x.key.entry x.value self.new) }
         ensures words { KeepsWords W.origin W.begun self.old.cores self.new.cores }
@@ -427,6 +434,11 @@ impl<T, W: Words, A: Allocator + Clone> Store<T, W, A> {
     pub fn poll_some(&mut self, tick: u64, most: u32) -> Result<Piece<T>, CoreError>
         // Exactly: a piece of a poll of the cores. What comes out has its user's key, and leaves no note.
         ensures polls { PollsFor (DoesPiece W.shared most) self.old tick result self.new }
+
+        // Where the answer is that none is due, no live entry has a deadline before the tick to wait for.
+        ensures rests { IfPieceRests result
+            (λ next. NoneLiveIn self.new.cores (unwrap_or next NEVER)) }
+
         ensures goes_out { IfPieceOut result
             (λ x. GoesOut self.old x.key.entry x.value self.new) }
         ensures words { KeepsWords W.origin W.begun self.old.cores self.new.cores }

@@ -34,31 +34,9 @@ impl<T> Shard<T> {
         let (sizing, store) = (self.entries.sizing(), self.entries.store());
         sizing.capacity_ahead(store).filter(|_| is_for_live)
     }
-
-    /// The capacity of a core that is to be made for an insert, none where it has room by now.
-    fn wanted_for_insert(&mut self) -> Result<Option<usize>, InsertErrorKind> {
-        if self.entries.finds_room(false) {
-            return Ok(None);
-        }
-        let capacity = self.entries.sizing().capacity_for_insert(self.entries.store());
-        capacity.map(Some).ok_or(InsertErrorKind::Full)
-    }
 }
 
 impl<T> Shared<T> {
-    /// A core that nothing was ever put into, with its words, under a number that isn't given yet.
-    fn fresh(&self, number: u32, capacity: usize) -> Result<(Core<T>, OpenWords), AllocError> {
-        let mut keeper = Keeper::new(capacity).map_err(|_| AllocError)?;
-        let words = keeper.open().map_err(|_| AllocError)?;
-        let config = CoreConfig {
-            shard: number,
-            capacity,
-            last_stamp: self.last_stamp,
-        };
-        let core = DelayCore::new(config, keeper).map_err(|_| AllocError)?;
-        Ok((core, words))
-    }
-
     /// An empty core for a shard, in which entries are filed from the present tick on. Where it is a new one it has the number,
     /// of which the next is one more. No lock of a shard is held.
     fn make(&self, number: &mut u32, at: usize, capacity: usize, now: u64) -> Result<Made<T>, AllocError> {
@@ -70,9 +48,15 @@ impl<T> Shared<T> {
                 return Err(AllocError);
             }
             None => {
-                let (core, words) = self.fresh(*number, capacity)?;
+                let mut keeper = Keeper::new(capacity).map_err(|_| AllocError)?;
+                let words = keeper.open().map_err(|_| AllocError)?;
+                let config = CoreConfig {
+                    shard: *number,
+                    capacity,
+                    last_stamp: self.last_stamp,
+                };
                 *number = number.checked_add(1).ok_or(AllocError)?;
-                (core, Some(words))
+                (DelayCore::new(config, keeper).map_err(|_| AllocError)?, Some(words))
             }
         };
         let _idle = core.poll_deferring(now);
@@ -120,7 +104,14 @@ impl<T> Shared<T> {
 
     /// Makes room in a shard for an insert, unless another thread has. `Full` where it has as many cores as it may have.
     pub fn grow(&self, at: usize) -> Result<(), InsertErrorKind> {
-        self.make_wanted(at, Shard::wanted_for_insert).map(drop)
+        let wanted = |shard: &mut Shard<T>| match shard.entries.finds_room(false) {
+            true => Ok(None),
+            false => {
+                let capacity = shard.entries.sizing().capacity_for_insert(shard.entries.store());
+                capacity.map(Some).ok_or(InsertErrorKind::Full)
+            }
+        };
+        self.make_wanted(at, wanted).map(drop)
     }
 
     /// A bounded part of what keeps a shard of the right size. Where memory is refused it is done later. It tells whether more
@@ -203,12 +194,8 @@ impl<T> Shared<T> {
             return Err(InsertErrorKind::Full);
         }
         let (share, now) = (entries.div_ceil(shards), self.common.time.tick());
-        let mut clerk = self.makes.lock();
-        let (mut number, mut made) = (clerk.given(), Vec::new());
-        let reserved = (0..shards)
-            .try_for_each(|at| self.make_up_to(share, at, now, &mut number, &mut made))
-            // The places of their words.
-            .and_then(|()| (clerk.given()..number).try_for_each(|number| self.common.words.make_row(number)));
+        let (mut clerk, mut made) = (self.makes.lock(), Vec::new());
+        let reserved = self.make_up_to(share, now, clerk.given(), &mut made);
         for made in made {
             match reserved {
                 Ok(()) => _ = self.bring(&mut clerk, made),
@@ -222,25 +209,22 @@ impl<T> Shared<T> {
         Ok(())
     }
 
-    /// Makes cores until a shard has slots for so many entries once they are brought there.
-    fn make_up_to(
-        &self,
-        share: usize,
-        at: usize,
-        now: u64,
-        number: &mut u32,
-        made: &mut Vec<Made<T>>,
-    ) -> Result<(), AllocError> {
-        let mut shard = self.lock(at);
-        let mut lacks = share.saturating_sub(shard.slots());
-        shard.entries.reserve(lacks.div_ceil(CAPACITY_LIMIT))?;
-        drop(shard);
-        while lacks > 0 {
-            made.try_reserve(1)?;
-            let capacity = lacks.next_power_of_two().clamp(least::<T>(), CAPACITY_LIMIT);
-            made.push(self.make(number, at, capacity, now)?);
-            lacks = lacks.saturating_sub(capacity);
+    /// Makes cores until each shard has slots for so many entries once they are brought there, and places for their words. The
+    /// new ones have the numbers from `first` on.
+    fn make_up_to(&self, share: usize, now: u64, first: u32, made: &mut Vec<Made<T>>) -> Result<(), AllocError> {
+        let mut number = first;
+        for at in 0..self.shards.len() {
+            let mut shard = self.lock(at);
+            let mut lacks = share.saturating_sub(shard.slots());
+            shard.entries.reserve(lacks.div_ceil(CAPACITY_LIMIT))?;
+            drop(shard);
+            while lacks > 0 {
+                made.try_reserve(1)?;
+                let capacity = lacks.next_power_of_two().clamp(least::<T>(), CAPACITY_LIMIT);
+                made.push(self.make(&mut number, at, capacity, now)?);
+                lacks = lacks.saturating_sub(capacity);
+            }
         }
-        Ok(())
+        (first..number).try_for_each(|number| self.common.words.make_row(number))
     }
 }

@@ -117,10 +117,9 @@ impl<T> Locked<'_, T> {
             shard.hint.set(hint)
         };
         self.seen.left.store(shard.counts.left, Relaxed);
-        let quiet_since = shard.entries.sizing().quiet_since();
-        if self.seen.quiet_since.load(Relaxed) != quiet_since {
-            self.seen.quiet_since.store(quiet_since, Relaxed);
-        }
+        self.seen
+            .quiet_since
+            .store(shard.entries.sizing().quiet_since(), Relaxed);
         drop(shard);
         self.shared.common.ring(rung)
     }

@@ -222,18 +222,12 @@ impl<T> Shared<T> {
         // A waker that panics takes the key along, but not the entry.
         self.leave(shard, 0);
         if self.common.ends.ends_when_empty() {
-            if let Some(value) = self.take_back(key) {
+            // It may have come out meanwhile.
+            if let Ok(value) = self.remove(&key) {
                 return Err(value);
             }
         }
         Ok(key)
-    }
-
-    /// None where it came out meanwhile.
-    #[cold]
-    #[inline(never)]
-    fn take_back(&self, key: Key) -> Option<T> {
-        self.remove(&key).ok()
     }
 }
 

@@ -32,6 +32,6 @@ returns-clause-keeps g c = then_keep_beside c.args.core c.args.store.now c.take_
 
 pub returns-clause-holds : goal.returns-clause-holds
 returns-clause-holds g c =
-    comes_hold c.args.store.now c.open.new.self c.args.core c.law.ensures.shard c.in_default.ensures.takes.may.0
+    comes_hold c.args.store.now c.open.new.self c.args.core c.law.ensures.shard
     (opened_comes c.args.store.now c.take_in.new.self c.open.new.self c.args.core c.open.result _ c.in_default.ensures.takes c.in_default.ensures.notes
     c.open.ensures.opens c.open.ensures.refused c.open.ensures.notes)

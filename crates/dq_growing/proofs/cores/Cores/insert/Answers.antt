@@ -1,7 +1,7 @@
 use Rattle.std.proofs.Common.{sym, arith, length, ◌<◌, rules, inl}
 use Rattle.dq_growing.proofs.Rows.{keeps_law, on_place}
 use Rattle.dq_growing.specs.Cores.{CoreRow, IsCoreAt}
-use Rattle.dq_growing.proofs.Quiet.{turns_later, inserts_late, inserts_noted}
+use Rattle.dq_growing.proofs.Quiet.{on_ok, turns_later, inserts_late, inserts_noted}
 use Rattle.dq_growing.proofs.Moves.{inserted_begun}
 use Rattle.dq_growing.proofs.Standing.{words_in}
 use Rattle.dq_growing.proofs.cores.Cores.insert.Goals as goal
@@ -23,7 +23,7 @@ invariant_of-self g c =
     let at : IsCoreAt s.cores i.opened b = (inside, sym c.index_mut.ensures.value) in
     let noted = inserts_noted g.W.Words.shared b a c.args.value c.args.when _ c.insert_deferring-answer.ensures.inserts in (
       keeps_law s i.opened b a c.self.invariant.0 at c.insert_deferring-answer.ensures.same.0 (omega arith),
-      turns_later s i.turns c.lower.new.self c.args.when i.opened b a c.self.invariant.1 at (λ t late before. inserts_late g.W.Words.shared b a t before c.args.value c.args.when _ late c.insert_deferring-answer.ensures.inserts) c.lower.ensures.place c.lower.ensures.others c.lower.ensures.rest c.lower.ensures.low,
+      turns_later s i.turns c.lower.new.self c.args.when i.opened b a c.self.invariant.1 at (λ t late before. inserts_late g.W.Words.shared b a t before c.args.value c.args.when _ (on_ok _ _ late) c.insert_deferring-answer.ensures.inserts) c.lower.ensures.place c.lower.ensures.others c.lower.ensures.rest c.lower.ensures.low,
     )
 
 pub returns-clause-words : goal.returns-clause-words

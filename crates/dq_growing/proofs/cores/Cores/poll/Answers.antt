@@ -1,4 +1,5 @@
-use Rattle.dq_growing.proofs.Leasts.{rests_quiet}
+use Rattle.dq_growing.proofs.Leasts.{idle_quiet, rests_quiet}
+use Rattle.dq_growing.specs.declared.TheConstants.{NEVER}
 use Rattle.dq_growing.proofs.Aging.{all_age}
 use Rattle.dq_growing.proofs.Standing.{all_words}
 use Rattle.dq_growing.proofs.cores.Cores.poll.Goals as goal
@@ -9,6 +10,13 @@ returns-in-Rests-Some-clause-rests g c =
     rw c.due.ensures.same
     (rests_quiet (record { cores = i.cores.items; opened = i.opened; next = i.next; noted = c.max-self-inside.result }) c.in-Rests-Some.next
     (rw c.in-Rests-Some.field-0-is at c.in-Rests-Some.ensures.due))
+
+pub returns-in-Rests-None-clause-rests : goal.returns-in-Rests-None-clause-rests
+returns-in-Rests-None-clause-rests g c =
+    let i = c.self.inside in
+    rw c.due.ensures.same
+    (idle_quiet (record { cores = i.cores.items; opened = i.opened; next = i.next; noted = c.max-self-inside.result }) NEVER
+    (rw c.in-Rests-None.field-0-is at c.in-Rests-None.ensures.due))
 
 pub returns-in-In-clause-ages : goal.returns-in-In-clause-ages
 returns-in-In-clause-ages g c = rw (← c.self.view_is) (rw c.due.ensures.same at c.poll_core.ensures.ages)

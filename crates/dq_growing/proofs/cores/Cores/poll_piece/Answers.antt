@@ -1,9 +1,12 @@
-use Rattle.std.proofs.Common.{sym, arith}
+use Rattle.std.proofs.Common.{◌∙◌, subst, sym, arith}
+use Rattle.std.proofs.lemmas.List.{get_or-set_same}
+use Rattle.dq_core.specs.Core.{Core, IsLawfulCore}
+use Rattle.dq_wheel.specs.Lawful.{IsLawfulWheel}
 use Rattle.dq_growing.specs.Cores.{CoreRow, IsCoreAt}
 use Rattle.dq_growing.proofs.Rows.{keeps_law}
 use Rattle.dq_growing.proofs.Quiet.{turns_after, pieces_late}
 use Rattle.dq_growing.proofs.Aging.{ages_at, piece_run}
-use Rattle.dq_growing.proofs.Leasts.{polls_core, rests_core}
+use Rattle.dq_growing.proofs.Leasts.{polls_core, piece_waits, rests_core}
 use Rattle.dq_growing.proofs.Standing.{words_in}
 use Rattle.dq_growing.proofs.cores.Cores.poll_piece.Goals as goal
 
@@ -18,9 +21,14 @@ pub returns-clause-rests : goal.returns-clause-rests
 returns-clause-rests g c =
     let a = c.poll_some_deferring-answer in
     let i = c.self.inside in
+    let inside = rw (← c.self.view_is) at c.requires.place in
+    let same = c.index.ensures ∙ get_or-set_same i.cores.items c.args.place a.new.self c.index.result.now inside in
+    let L : Core g.row.T.Denot g.row.W.Denot → Type 0 = λ k. IsLawfulCore k in
+    let V : Core g.row.T.Denot g.row.W.Denot → Type 0 = λ k. IsLawfulWheel k.wheel in
     rw c.as_told.ensures
-    (rests_core (record { cores = i.cores.items; opened = i.opened; next = i.next; noted = i.noted }) c.min.result c.args.place c.args.others c.index_mut.result.now a.new.self c.in-Ok.piece
-    (rw (← c.self.view_is) at c.requires.place) (rw (← c.self.view_is) at c.requires.quiet) c.in-Ok.ensures.noted c.min.ensures c.in-Ok.ensures.waiting)
+    (rests_core (record { cores = i.cores.items; opened = i.opened; next = i.next; noted = i.noted }) c.args.place c.args.others a.new.self c.in-Ok.piece
+    inside (rw (← c.self.view_is) at c.requires.quiet) (omega (arith, c.ranges.others))
+    (piece_waits g.W.Words.shared c.min.result c.args.most c.index_mut.result.now a.new.self c.in-Ok.piece c.wakes_bound_deadlines.ensures (subst L same c.law.ensures.shard) (subst V same c.law.ensures.wheel) c.in-Ok.ensures.polls))
 
 pub invariant_of-self : goal.invariant_of-self
 invariant_of-self g c =

@@ -1,7 +1,7 @@
 use Rattle.std.proofs.Common.{sym, arith}
 use Rattle.dq_growing.proofs.Rows.{keeps_law, on_found}
 use Rattle.dq_growing.specs.Cores.{CoreRow, IsCoreAt}
-use Rattle.dq_growing.proofs.Quiet.{turns_later, resets_late, resets_noted}
+use Rattle.dq_growing.proofs.Quiet.{on_ok, turns_later, resets_late, resets_noted}
 use Rattle.dq_growing.proofs.Standing.{found_at, words_in}
 use Rattle.dq_growing.proofs.cores.Cores.reset.Goals as goal
 
@@ -21,7 +21,7 @@ invariant_of-self g c =
     let at : IsCoreAt s.cores c.in-Some.at b = (inside, sym c.index_mut.ensures.value) in
     let noted = resets_noted g.W.Words.shared b a c.args.entry.now c.args.when _ c.reset-answer.ensures.resets in (
       keeps_law s c.in-Some.at b a c.self.invariant.0 at c.reset-answer.ensures.same.0 (omega arith),
-      turns_later s i.turns c.lower.new.self c.args.when c.in-Some.at b a c.self.invariant.1 at (λ t late before. resets_late g.W.Words.shared b a t before c.args.entry.now c.args.when _ late c.reset-answer.ensures.resets) c.lower.ensures.place c.lower.ensures.others c.lower.ensures.rest c.lower.ensures.low,
+      turns_later s i.turns c.lower.new.self c.args.when c.in-Some.at b a c.self.invariant.1 at (λ t late before. resets_late g.W.Words.shared b a t before c.args.entry.now c.args.when _ (on_ok _ _ late) c.reset-answer.ensures.resets) c.lower.ensures.place c.lower.ensures.others c.lower.ensures.rest c.lower.ensures.low,
     )
 
 pub returns-clause-words : goal.returns-clause-words

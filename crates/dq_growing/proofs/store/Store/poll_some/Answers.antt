@@ -2,6 +2,10 @@ use Rattle.dq_growing.proofs.Stored.{stored, law_after}
 use Rattle.dq_growing.specs.Polls.{DoesPiece}
 use Rattle.dq_growing.proofs.Keeping.{goes_after, keeps_after, polled_none, piece_gone}
 use Rattle.dq_growing.proofs.Holding.{pieces_raise, piece_at, polled_at, polled_raises, holds_after, piece_in_force}
+use Rattle.dq_growing.proofs.Hints.{rests_for}
+use Rattle.std.specs.Prelude.{unwrap_or}
+use Rattle.dq_growing.specs.declared.TheConstants.{NEVER}
+use Rattle.dq_growing.specs.Polls.{NoneLiveIn}
 use Rattle.dq_growing.proofs.store.Store.poll_some.Goals as goal
 
 pub invariant_of-self : goal.invariant_of-self
@@ -9,6 +13,12 @@ invariant_of-self g c =
     let i = c.self.inside in
     let p = c.poll_some-made in
     law_after (stored i.cores i.notes) (stored p.new.self c.note_out-answer.new.notes) p.result c.self.invariant p.ensures.ages c.law-2.ensures c.note_out-answer.ensures.notes
+
+pub returns-clause-rests : goal.returns-clause-rests
+returns-clause-rests g c =
+    let p = c.poll_some-made in
+    rw c.note_out-answer.ensures.answer
+    (rests_for c.self.inside.notes p.result (λ next. NoneLiveIn p.new.self (unwrap_or next NEVER)) p.ensures.rests)
 
 pub returns-clause-words : goal.returns-clause-words
 returns-clause-words g c = rw (← c.self.view_is) c.poll_some-made.ensures.words

@@ -1,0 +1,14 @@
+use Rattle.dq_growing.proofs.Hints.{brings_late}
+use Rattle.dq_growing.proofs.sized.SizedStore.bring.Goals as goal
+
+pub invariant_of-self : goal.invariant_of-self
+invariant_of-self g c =
+    let i = c.self.inside in
+    let r = c.bring in
+    brings_late i.store r.new.store c.args.core i.hint r.result c.law.ensures.shard r.ensures.comes r.ensures.back c.self.invariant
+
+pub returns-clause-keeps : goal.returns-clause-keeps
+returns-clause-keeps g c = rw (← c.self.view_is) c.bring.ensures.keeps
+
+pub returns-clause-stands : goal.returns-clause-stands
+returns-clause-stands g c = rw (← c.self.view_is) c.bring.ensures.stands

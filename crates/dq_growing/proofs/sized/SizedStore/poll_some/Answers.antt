@@ -1,0 +1,21 @@
+use Rattle.dq_growing.proofs.Hints.{pieces_for}
+use Rattle.dq_growing.proofs.sized.SizedStore.poll_some.Goals as goal
+
+pub invariant_of-self : goal.invariant_of-self
+invariant_of-self g c =
+    let i = c.self.inside in
+    let r = c.poll_some-made in
+    rw c.hint_after-self-inside.ensures
+    (pieces_for g.W.Words.shared c.args.most i.store r.new.self i.hint c.args.tick r.result r.ensures.polls r.ensures.rests c.self.invariant)
+
+pub returns-clause-keeps : goal.returns-clause-keeps
+returns-clause-keeps g c = rw (← c.self.view_is) c.poll_some-made.ensures.keeps
+
+pub returns-clause-holds : goal.returns-clause-holds
+returns-clause-holds g c = rw (← c.self.view_is) c.poll_some-made.ensures.holds
+
+pub returns-clause-in_force : goal.returns-clause-in_force
+returns-clause-in_force g c = rw (← c.self.view_is) c.poll_some-made.ensures.in_force
+
+pub returns-clause-polls : goal.returns-clause-polls
+returns-clause-polls g c = rw (← c.self.view_is) c.poll_some-made.ensures.polls

@@ -1,0 +1,8 @@
+use Rattle.dq_growing.proofs.Hints.{same_late}
+use Rattle.dq_growing.proofs.sized.SizedStore.reserve.Goals as goal
+
+pub invariant_of-self : goal.invariant_of-self
+invariant_of-self g c =
+    let i = c.self.inside in
+    let r = c.reserve-reserved in
+    same_late i.store.cores r.new.self.cores i.hint r.ensures.cores c.self.invariant

@@ -1,0 +1,8 @@
+use Rattle.dq_growing.proofs.Hints.{takes_late}
+use Rattle.dq_growing.proofs.sized.SizedStore.take_deferred.Goals as goal
+
+pub invariant_of-self : goal.invariant_of-self
+invariant_of-self g c =
+    let i = c.self.inside in
+    let r = c.take_deferred-value in
+    takes_late i.store.cores r.new.self.cores i.hint r.result r.ensures.takes c.self.invariant
