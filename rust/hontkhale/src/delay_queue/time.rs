@@ -268,7 +268,7 @@ impl Time {
     fn until(&self, when: Instant) -> Duration {
         match self.parts {
             Some(start) => Parts::of(when).since(start),
-            None => when.saturating_duration_since(self.start),
+            None => passed_by_std(self.start, when),
         }
     }
 
@@ -308,6 +308,14 @@ impl Time {
             clock => Some(when.saturating_duration_since(clock.now())),
         }
     }
+}
+
+/// How long after another one a moment is. They go by value: std's call, made in place, would have them in memory before anybody knows
+/// that it is wanted.
+#[cold]
+#[inline(never)]
+fn passed_by_std(start: Instant, when: Instant) -> Duration {
+    when.saturating_duration_since(start)
 }
 
 #[inline]
