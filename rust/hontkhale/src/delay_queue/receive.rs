@@ -404,7 +404,8 @@ mod tests {
     fn a_receiver_goes_to_the_first_of_the_shards_that_are_due_first() {
         let queue = DelayQueue::<String>::builder().shards(4).build();
         for (at, tick) in [(0, 7), (2, 5), (1, 6), (3, 5)] {
-            queue.shared.lock(at).hint = tick;
+            queue.shared.grow(at).expect("room");
+            queue.shared.lock(at).insert("waits".to_string(), tick);
         }
         let found = [4, 5, 9].map(|now| queue.shared.common.most_due(now));
         assert_eq!(found, [None, Some(2), Some(2)]);
