@@ -33,9 +33,11 @@ SHARES = ["half", "99%", "99.9%", "99.99%", "all"]
 OWN = "own-"
 # 64 full shards have 4.2 million entries. A round is long, so it is timed once.
 FULL_SHARDS, FULL_ENTRIES = 64, 65_536
+# A run over more entries takes seconds, longer than a processor keeps its pace.
+MANY = 2**18
 COUNTS = ["inserts", "extends", "resets", "removes", "cancels", "outs", "values", "deadlines"]
 # By the cargo crate, without the bounds checks whose bounds are proved.
-UNCHECKED = ("rust", "rust-shards")
+UNCHECKED = ("rust", "rust-shards", "queue-at-proved", "adapter-proved")
 
 
 class Case:
@@ -45,9 +47,12 @@ class Case:
         self.row, self.entries, self.threads = row, entries, threads
         self.call, _, shards = row.partition("/")
         self.shards = int(shards or 0)
-        self.is_life = self.shards > 0 and self.call.removeprefix(OWN) in WHOLE_ROWS
-        self.is_full = self.shards == FULL_SHARDS and entries == FULL_ENTRIES
+        self.is_life = self.shards > 0 and self.call.removeprefix(OWN) not in SHARD_ROWS
+        self.is_large = max(1, self.shards) * entries > MANY
         self.is_longest = row in LONGEST_ROWS
+        self.is_once = self.is_longest or (self.shards, entries) == (FULL_SHARDS, FULL_ENTRIES)
+        # Our load has no whole lives over shards, nothing beyond what a core has, and no row of what a program links.
+        self.is_of_load = not self.is_life and entries <= FULL_ENTRIES and row not in PLAN["rows"]["linked"]
         self.samples = {}
         # Of a row of the longest call: by peer and kind of call how many calls there were, and what they took.
         self.spreads = {}

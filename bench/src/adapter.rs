@@ -21,46 +21,56 @@ pub enum Touching {
     Handle,
 }
 
-/// The task that polls: a poll makes so many steps at most and wakes its task for the rest, so it comes again once woken.
+/// Whether a task was woken.
 #[derive(Default)]
-struct Task {
-    is_woken: AtomicBool,
-}
+struct Woken(AtomicBool);
 
-impl Wake for Task {
-    fn wake(self: Arc<Task>) {
+impl Wake for Woken {
+    fn wake(self: Arc<Woken>) {
         self.wake_by_ref();
     }
 
-    fn wake_by_ref(self: &Arc<Task>) {
-        self.is_woken.store(true, Ordering::SeqCst);
+    fn wake_by_ref(self: &Arc<Woken>) {
+        self.0.store(true, Ordering::SeqCst);
+    }
+}
+
+/// The task that polls: a poll makes so many steps at most and wakes its task for the rest, so it comes again once woken.
+pub struct Task {
+    woken: Arc<Woken>,
+    waker: Waker,
+}
+
+impl Task {
+    pub fn new() -> Task {
+        let woken = Arc::new(Woken::default());
+        let waker = Waker::from(Arc::clone(&woken));
+        Task { woken, waker }
+    }
+
+    /// What is due, as a runtime would poll for it. The clock says the tick.
+    #[inline(always)]
+    pub fn run<O>(&self, mut poll: impl FnMut(&mut Context<'_>) -> Poll<Option<O>>) -> Option<O> {
+        loop {
+            match poll(&mut Context::from_waker(&self.waker)) {
+                Poll::Ready(out) => return out,
+                Poll::Pending if self.woken.0.swap(false, Ordering::SeqCst) => {}
+                Poll::Pending => return None,
+            }
+        }
     }
 }
 
 /// The queue under its task.
 struct Polled {
     queue: DelayQueue<u64>,
-    task: Arc<Task>,
-    waker: Waker,
+    task: Task,
 }
 
 impl Polled {
-    fn of(queue: DelayQueue<u64>) -> Polled {
-        let task = Arc::new(Task::default());
-        let waker = Waker::from(Arc::clone(&task));
-        Polled { queue, task, waker }
-    }
-
-    /// What is due, as a runtime would poll for it. The clock says the tick.
     #[inline(always)]
     fn poll(&mut self) -> Option<Expired<u64>> {
-        loop {
-            match self.queue.poll_expired(&mut Context::from_waker(&self.waker)) {
-                Poll::Ready(out) => return out,
-                Poll::Pending if self.task.is_woken.swap(false, Ordering::SeqCst) => {}
-                Poll::Pending => return None,
-            }
-        }
+        self.task.run(|context| self.queue.poll_expired(context))
     }
 }
 
@@ -77,7 +87,7 @@ impl Adapter {
         clock.enter(|| {
             let mut queue = DelayQueue::with_capacity(capacity);
             let handle = (touching == Touching::Handle).then(|| queue.handle());
-            Adapter { polled: Polled::of(queue), handle, start: clock.start() }
+            Adapter { polled: Polled { queue, task: Task::new() }, handle, start: clock.start() }
         })
     }
 }

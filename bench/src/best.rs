@@ -8,9 +8,10 @@ use std::collections::BinaryHeap;
 use crate::free::Free;
 use crate::queue::Queue;
 
-/// What lies below the deadline: 16 bits of index, then 8 of the turn. Deadlines are below 2^40, 34 years.
+/// What lies below the deadline: 20 bits of index, then 8 of the turn. Deadlines are below 2^36, two years.
 const INDEX: u32 = 8;
-const DEADLINE: u32 = 24;
+const DEADLINE: u32 = 28;
+const INDEXES: u32 = (1 << (DEADLINE - INDEX)) - 1;
 
 /// What is filed of an entry that has ended. No deadline is 0, so no number in the heap is.
 const NOTHING: u64 = 0;
@@ -121,16 +122,16 @@ impl Queue for BestHeap {
             if first >> DEADLINE > tick {
                 return None;
             }
-            let index = (first >> INDEX) as u16;
-            let entry = &mut self.entries[usize::from(index)];
+            let index = (first >> INDEX) as u32 & INDEXES;
+            let entry = &mut self.entries[index as usize];
             if entry.filed != first {
                 PeekMut::pop(top);
             } else if entry.deadline > first >> DEADLINE {
-                entry.filed = filed(entry.deadline, u32::from(index), entry.stamp);
+                entry.filed = filed(entry.deadline, index, entry.stamp);
                 top.0 = entry.filed;
             } else {
                 PeekMut::pop(top);
-                let key = BestKey { index: u32::from(index), stamp: entry.stamp };
+                let key = BestKey { index, stamp: entry.stamp };
                 return Some((entry.deadline, self.end(key)));
             }
         }

@@ -1,4 +1,5 @@
-//! The least that an extend without a lock can cost: one `fetch_max` on the entry's word, which is no queue.
+//! The least that an extend without a lock can cost, which is no queue: one `fetch_max` on the entry's word, or one store to the
+//! word of its connection, as a server has it that looks at all connections each second.
 
 use std::sync::atomic::{AtomicU64, Ordering};
 
@@ -8,39 +9,72 @@ use crate::queue::{Extends, Parts, Polls, Queue, Shared};
 const LIVE: u64 = 1 << 44;
 const FIELD: u64 = (1 << 42) - 1;
 
+/// What an entry has, and what an extend does to it.
+pub trait Word: Default + Send + Sync {
+    fn word(&self) -> &AtomicU64;
+    /// Gives what is in force.
+    fn touch(&self, word: u64) -> u64;
+}
+
+impl Word for AtomicU64 {
+    fn word(&self) -> &AtomicU64 {
+        self
+    }
+
+    #[inline(always)]
+    fn touch(&self, word: u64) -> u64 {
+        self.fetch_max(word, Ordering::SeqCst).max(word)
+    }
+}
+
+/// When a connection was last heard of, among what else is kept of it. It alone says so, so a store does.
+#[derive(Default)]
+#[repr(align(64))]
+pub struct LastHeard(AtomicU64);
+
+impl Word for LastHeard {
+    fn word(&self) -> &AtomicU64 {
+        &self.0
+    }
+
+    #[inline(always)]
+    fn touch(&self, word: u64) -> u64 {
+        self.0.store(word, Ordering::Relaxed);
+        word
+    }
+}
+
 /// One word an entry. A poll gives the entries in the order of their words, each once it is due.
-pub struct Floor {
-    words: Vec<AtomicU64>,
+pub struct Floor<W> {
+    words: Vec<W>,
     linked: usize,
     next: usize,
 }
 
-impl Floor {
-    pub fn new(capacity: usize) -> Floor {
-        let words = (0..capacity).map(|_| AtomicU64::new(0)).collect();
-        Floor { words, linked: 0, next: 0 }
+impl<W: Word> Floor<W> {
+    pub fn new(capacity: usize) -> Floor<W> {
+        Floor { words: (0..capacity).map(|_| W::default()).collect(), linked: 0, next: 0 }
     }
 
+    #[inline(always)]
     fn raise(&self, key: u32, deadline: u64) -> u64 {
-        let word = LIVE | deadline;
-        let found = self.words[key as usize].fetch_max(word, Ordering::SeqCst);
-        found.max(word) & FIELD
+        self.words[key as usize].touch(LIVE | deadline) & FIELD
     }
 
     /// The next entry, where it is due.
     fn due(&self, tick: u64) -> Option<(u64, u64)> {
-        let deadline = self.words[self.next].load(Ordering::SeqCst) & FIELD;
+        let deadline = self.words[self.next].word().load(Ordering::SeqCst) & FIELD;
         (deadline <= tick).then_some((deadline, self.next as u64))
     }
 }
 
-impl Queue for Floor {
+impl<W: Word> Queue for Floor<W> {
     type Key = u32;
     type Out = (u64, u64);
 
     fn insert(&mut self, _value: u64, deadline: u64) -> u32 {
         let index = self.linked;
-        self.words[index].store(LIVE | deadline, Ordering::SeqCst);
+        self.words[index].word().store(LIVE | deadline, Ordering::SeqCst);
         self.linked += 1;
         index as u32
     }
@@ -80,7 +114,7 @@ impl Queue for Floor {
     }
 }
 
-impl Shared for Floor {
+impl<W: Word> Shared for Floor<W> {
     fn share(&mut self, threads: usize) -> Parts<impl Extends<u32>, impl Polls<(u64, u64)>> {
         let floor = &*self;
         let extend = move |key, deadline| floor.raise(key, deadline);

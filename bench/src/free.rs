@@ -4,25 +4,25 @@ const RECENT: usize = 64;
 
 /// Which indexes are free.
 pub struct Free {
-    recent: [u16; RECENT],
+    recent: [u32; RECENT],
     count: usize,
     /// A bit for each index that is free and not in the stack or in hand.
     bits: Vec<u64>,
     /// A bit for each word of `bits` that isn't 0.
-    summary: [u64; 16],
+    summary: Vec<u64>,
     /// A word taken from `bits`, and the index of its lowest bit.
     hand: u64,
     base: usize,
 }
 
 impl Free {
-    /// All indexes below `capacity`, which is at most 65,536, are free.
+    /// All indexes below `capacity` are free.
     pub fn new(capacity: usize) -> Free {
         let mut free = Free {
             recent: [0; RECENT],
             count: 0,
             bits: vec![0; capacity.div_ceil(64)],
-            summary: [0; 16],
+            summary: vec![0; capacity.div_ceil(4096)],
             hand: 0,
             base: 0,
         };
@@ -40,7 +40,7 @@ impl Free {
     #[inline(always)]
     pub fn give(&mut self, index: u32) {
         if self.count < RECENT {
-            self.recent[self.count] = index as u16;
+            self.recent[self.count] = index;
             self.count += 1;
         } else {
             self.set(index as usize);
@@ -51,7 +51,7 @@ impl Free {
     pub fn take(&mut self) -> Option<u32> {
         if self.count > 0 {
             self.count -= 1;
-            return Some(u32::from(self.recent[self.count]));
+            return Some(self.recent[self.count]);
         }
         if self.hand == 0 && !self.refill() {
             return None;
@@ -68,8 +68,9 @@ impl Free {
         if ahead != 0 {
             return self.hold(word / 64, ahead);
         }
-        for step in 1..=16 {
-            let group = (word / 64 + step) % 16;
+        let groups = self.summary.len();
+        for step in 1..=groups {
+            let group = (word / 64 + step) % groups;
             if self.summary[group] != 0 {
                 return self.hold(group, self.summary[group]);
             }
@@ -93,7 +94,7 @@ mod tests {
 
     #[test]
     fn gives_every_index_once() {
-        for capacity in [1, 64, 100, 65_536] {
+        for capacity in [1, 64, 100, 65_536, 300_000] {
             let mut free = Free::new(capacity);
             for _ in 0..3 {
                 let mut taken: Vec<u32> = std::iter::from_fn(|| free.take()).collect();

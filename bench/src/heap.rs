@@ -73,6 +73,13 @@ impl HeapQueue {
         entry
     }
 
+    /// Another entry than those that there was room for.
+    #[cold]
+    fn grow(&mut self) -> u32 {
+        self.entries.push(Entry { deadline: 0, stamp: 0, value: None });
+        self.entries.len() as u32 - 1
+    }
+
     fn end(&mut self, key: HeapKey) -> u64 {
         let value = self.entry(key).value.take();
         self.free.push(key.index);
@@ -86,7 +93,7 @@ impl Queue for HeapQueue {
 
     #[inline(always)]
     fn insert(&mut self, value: u64, deadline: u64) -> HeapKey {
-        let index = self.free.pop().expect("an entry is free");
+        let index = self.free.pop().unwrap_or_else(|| self.grow());
         let entry = &mut self.entries[index as usize];
         entry.stamp += 1;
         entry.deadline = deadline;

@@ -6,8 +6,8 @@ use crate::queue::Queue;
 
 const CHILDREN: usize = 4;
 
-/// What lies below the deadline: 16 bits of index. Deadlines are below 2^48.
-const DEADLINE: u32 = 16;
+/// What lies below the deadline: 20 bits of index. Deadlines are below 2^44.
+const DEADLINE: u32 = 20;
 
 #[derive(Clone, Copy)]
 pub struct IndexedKey {
@@ -35,7 +35,7 @@ pub struct IndexedHeap {
 
 #[inline(always)]
 fn index_of(filed: u64) -> usize {
-    usize::from(filed as u16)
+    filed as usize & ((1 << DEADLINE) - 1)
 }
 
 impl IndexedHeap {

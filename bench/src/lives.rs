@@ -7,7 +7,7 @@ use std::sync::atomic::{AtomicBool, AtomicUsize, Ordering};
 use std::thread;
 use std::time::Instant;
 
-use crate::plan::{part, shard_passes, steps, SplitMix64, BEAT, BEATS, HEARTBEATS, IDLE, KEPT, UNANSWERED};
+use crate::plan::{part, shard_passes, steps, SplitMix64, BEAT, BEATS, HEARTBEATS, IDLE, KEPT, MANY, UNANSWERED};
 use crate::queue::Sharded;
 use crate::rows::{Clock, Sample};
 use crate::shards::{Begun, Gone, ShardLoad};
@@ -44,23 +44,20 @@ impl Life {
 
     /// Whether the sessions begin in one beat and are called once in each of the beats after it. A round is then one pass.
     fn is_of_beats(self) -> bool {
-        self.beats() > 0
+        !matches!(self, Life::InsertPoll | Life::ResetPoll | Life::RemovePoll)
     }
 
-    fn beats(self) -> u64 {
-        match self {
-            Life::InsertPoll | Life::ResetPoll | Life::RemovePoll => 0,
-            Life::Mixed => BEATS,
-            _ => HEARTBEATS,
-        }
+    fn beats(self, sessions: usize) -> u64 {
+        let beats = if self == Life::Mixed { BEATS } else { HEARTBEATS };
+        beats / if sessions > MANY { 10 } else { 1 }
     }
 
-    /// The ticks from the start of a pass to its last poll, at which all that is left expires.
-    fn end(self) -> u64 {
+    /// The ticks from the start of a pass of so many beats to its last poll, at which all that is left expires.
+    fn end(self, beats: u64) -> u64 {
         match self {
             Life::InsertPoll | Life::ResetPoll | Life::RemovePoll => IDLE,
-            Life::Mixed => (BEATS + 1) * BEAT + IDLE,
-            _ => HEARTBEATS * BEAT + 2 * IDLE,
+            Life::Mixed => (beats + 1) * BEAT + IDLE,
+            _ => beats * BEAT + 2 * IDLE,
         }
     }
 }
@@ -72,6 +69,7 @@ const SPINS: usize = 1_000;
 struct Together<'a> {
     clock: &'a dyn Clock,
     threads: usize,
+    beats: u64,
     arrived: AtomicUsize,
     /// Whether a thread panicked, so that no other waits for it.
     is_broken: AtomicBool,
@@ -130,7 +128,7 @@ impl<S: Sharded> Member<'_, S> {
             Life::RemovePoll => self.remove(),
             _ => self.beats(life),
         }
-        let end = self.now + life.end();
+        let end = self.now + life.end(self.together.beats);
         self.timed(end, 0, |member| member.poll(end));
         let counts = &mut self.sample.counts;
         counts.outs += self.gone.outs;
@@ -192,14 +190,14 @@ impl<S: Sharded> Member<'_, S> {
     fn beats(&mut self, life: Life) {
         self.timed(self.now, self.begun.len(), Self::begin);
         let steps = steps(self.begun.len());
-        for beat in 1..=life.beats() {
+        for beat in 1..=self.together.beats {
             match life {
                 Life::Requests => self.answer(&steps, beat),
                 _ => self.beat(life, &steps, self.now + beat * BEAT),
             }
         }
         if life == Life::Mixed {
-            self.cancel(self.now + (BEATS + 1) * BEAT);
+            self.cancel(self.now + (self.together.beats + 1) * BEAT);
         }
     }
 
@@ -309,7 +307,8 @@ impl<S: Sharded> ShardLoad<'_, S> {
         let mut begun = self.drawn(1);
         let clock = self.clock;
         let (arrived, is_broken) = (AtomicUsize::new(0), AtomicBool::new(false));
-        let together = Together { clock, threads: self.threads, arrived, is_broken };
+        let (threads, beats) = (self.threads, life.beats(self.total()));
+        let together = Together { clock, threads, beats, arrived, is_broken };
         let members = self.members(&mut begun, &together, life);
         let samples = each_in_its_thread(clock, members, &|member| member.live(life));
         samples.iter().for_each(|sample| self.sample.add(sample));

@@ -35,12 +35,15 @@ mod rows;
 mod shards;
 mod sleep;
 #[cfg(feature = "rust")]
+mod stream;
+#[cfg(feature = "rust")]
 mod table;
 #[cfg(feature = "rust")]
 mod through;
 mod tokio_queue;
 
 use std::process::ExitCode;
+use std::sync::atomic::AtomicU64;
 
 #[cfg(feature = "rust")]
 use adapter::{Adapter, Touching};
@@ -51,29 +54,32 @@ use by_hand::ByHand;
 use erased::Erased;
 #[cfg(feature = "rust")]
 use erased_shards::ErasedShards;
-use floor::Floor;
+use floor::{Floor, LastHeard};
 use hashed::HashedWheel;
 use heap::{Extending, HeapQueue};
 use indexed::IndexedHeap;
 use lives::Life;
 use longest::Touched;
-use plan::shard_room;
+use plan::{passes, shard_room, LARGEST, LARGEST_CORE};
 #[cfg(feature = "rust")]
 use product::{By, Product, Standing};
 use queue::{Locked, Queue, Sharded, Shared};
 use rows::{Clock, Counts, Load, NoClock, Row, Sample};
 use shards::{Call, Route, ShardLoad, Shards};
 use sleep::SleepQueue;
+#[cfg(feature = "rust")]
+use stream::Stream;
 use tokio_queue::{PausedClock, TokioQueue, TurnedWithin};
 
 const USAGE: &str = "usage: peers time ROW ENTRIES THREADS ROUNDS [PEER..]
-rows: insert extend reset remove cancel poll insert+poll reset+poll remove+poll mixed churn heartbeat callers,
+rows: insert extend touch reset remove cancel poll rest insert-new insert-room
+insert+poll reset+poll remove+poll mixed churn heartbeat callers,
 longest-extend longest-reset longest-cancel,
 and over 1 to 64 shards insert/SHARDS extend/SHARDS reset/SHARDS remove/SHARDS poll/SHARDS insert-burst/SHARDS poll-burst/SHARDS
 and whole lives insert+poll/SHARDS reset+poll/SHARDS remove+poll/SHARDS mixed/SHARDS churn/SHARDS heartbeat/SHARDS
 and of servers fixed/SHARDS zipf/SHARDS requests/SHARDS;
 with own- before all of these but the bursts, each of as many threads has a shard of its own
-entries: 1 to 65536, of each shard; threads: 1, and 1 to 64 for callers and over shards
+entries: 1 to 1048576, of each shard; threads: 1, and 1 to 64 for callers and over shards; rounds: with 0 it tells the row's peers
        peers beside ENTRIES ROUNDS, where it was built with our crates: a poll in pieces beside another thread's inserts
        peers fair ENTRIES ROUNDS, likewise: what these inserts wait, for some ways to be fair
        peers queue ENTRIES THREADS ROUNDS, likewise: a table of `DelayQueue` beside what it is made of and beside its peers
@@ -140,10 +146,10 @@ impl Asked {
             return None;
         };
         let timed = Timed::read(row_name)?;
-        let entries = entries.parse().ok().filter(|entries| (1..=65_536).contains(entries))?;
+        let entries = entries.parse().ok().filter(|entries| (1..=LARGEST).contains(entries))?;
         let threads = threads.parse().ok().filter(|threads| timed.takes(*threads))?;
         let rounds = rounds.parse().ok()?;
-        let known = peers_of(timed);
+        let known = peers_of(timed, entries);
         let all_known = peers.iter().all(|peer| known.contains(&peer.as_str()));
         if time != "time" || !all_known {
             return None;
@@ -158,13 +164,26 @@ impl Asked {
 
 /// The peers of a row. What differs in an extend alone is timed where there are extends, and only what is locked can be
 /// shared. Our own queue is one of them by both of its crates, where the program is built with them.
-fn peers_of(timed: Timed) -> Vec<&'static str> {
-    let mut peers = plain_peers_of(timed).to_vec();
+fn peers_of(timed: Timed, entries: usize) -> Vec<&'static str> {
+    let mut peers = plain_peers_of(timed);
     if cfg!(feature = "rust") {
         peers.extend(mine_of(timed));
     }
+    peers.retain(|peer| entries <= LARGEST_CORE || !OF_ONE_CORE.contains(peer));
     peers
 }
+
+/// Those of ours that have so many entries, or so many a shard, as one core has.
+const OF_ONE_CORE: [&str; 8] = [
+    "rust",
+    "rust-open",
+    "rust-alone",
+    "rust-checked",
+    "rust-shards",
+    "rust-checked-shards",
+    "shards-at",
+    "shards-now",
+];
 
 /// Our own queue as plain Rust has it, with the bounds checks or without. Only a handle is shared by callers. The adapter is timed
 /// with the checks, as a program has it that asks for nothing. So is `DelayQueue` but over shards, where it stands in one table
@@ -178,7 +197,12 @@ fn mine_of(timed: Timed) -> &'static [&'static str] {
         Timed::Shards(..) | Timed::Lives(..) => {
             &["queue", "queue-at", "queue-reserved", "shards-at", "shards-now", "rust-checked-shards"]
         }
+        Timed::One(Row::InsertNew | Row::InsertRoom) if is_unchecked => &["adapter-proved", "queue-at-proved"],
+        Timed::One(Row::InsertNew | Row::InsertRoom) => &["adapter", "queue-at"],
+        Timed::One(Row::Rest | Row::Touch) if is_unchecked => &[],
+        Timed::One(Row::Rest) => &["adapter", "stream", "queue"],
         Timed::One(Row::Extend) if is_unchecked => &["rust", "rust-open"],
+        Timed::One(Row::Touch) => &["adapter", "adapter-handle", "queue-at"],
         Timed::One(Row::Insert | Row::Poll) if is_unchecked => &["rust", "rust-open", "rust-alone"],
         _ if is_unchecked => &["rust"],
         Timed::One(Row::Callers) => &["rust-checked", "adapter-handle", "queue"],
@@ -193,6 +217,10 @@ const OWNED: [&str; 7] =
 fn plain_peers_of(timed: Timed) -> Vec<&'static str> {
     let beside: &[&str] = match timed {
         Timed::One(Row::Extend) => &["heap-push", "heap-push-locked", "fetch-max"],
+        Timed::One(Row::Touch) => &["last-heard", "sleep"],
+        Timed::One(Row::InsertNew) => {
+            return vec!["delay-queue", "delay-queue-locked", "heap-note", "heap-note-locked"]
+        }
         Timed::One(Row::Mixed) => &["heap-push", "heap-push-locked"],
         Timed::One(Row::Insert | Row::Reset | Row::Remove | Row::Poll) => &["sleep"],
         Timed::One(Row::Callers) => {
@@ -206,6 +234,7 @@ fn plain_peers_of(timed: Timed) -> Vec<&'static str> {
             return vec![
                 "heap-note-locked",
                 "heap-best-locked",
+                "heap-best-paused",
                 "heap-indexed-locked",
                 "hashed-wheel-locked",
                 "delay-queue-locked",
@@ -219,10 +248,20 @@ fn plain_peers_of(timed: Timed) -> Vec<&'static str> {
 /// A peer's rounds, one call for each.
 type Rounds<'a> = Box<dyn FnMut() -> Sample + 'a>;
 
-/// The rounds of one owner. One pass warms up, but where each call is timed by itself: there the least counts.
-fn owned<'a, Q: Queue + 'a>(asked: &'a Asked, queue: Q, clock: &'a dyn Clock) -> Rounds<'a> {
-    let mut load = Load::new(queue, clock, asked.entries);
+/// The rounds of one owner, of a queue that is made of room for so many entries. One pass warms up, but where each call is timed by
+/// itself: there the least counts.
+fn owned<'a, Q: Queue + 'a>(asked: &'a Asked, make: impl Fn(usize) -> Q + 'a, clock: &'a dyn Clock) -> Rounds<'a> {
+    let mut load = Load::new(make(asked.entries), clock, asked.entries);
     let row = match asked.timed {
+        Timed::One(row @ (Row::InsertNew | Row::InsertRoom)) => {
+            let room = if row == Row::InsertRoom { asked.entries } else { 0 };
+            clock.within(&mut || _ = load.insert_anew(1, room, &make));
+            return Box::new(move || {
+                let mut sample = Sample::default();
+                clock.within(&mut || sample = load.insert_anew(passes(asked.entries), room, &make));
+                sample
+            });
+        }
         Timed::One(row) => row,
         Timed::Longest(touched) => {
             return Box::new(move || {
@@ -242,11 +281,11 @@ fn owned<'a, Q: Queue + 'a>(asked: &'a Asked, queue: Q, clock: &'a dyn Clock) ->
 }
 
 /// The rounds of a queue behind a lock, or of one that needs none.
-fn shared<'a, Q: Shared + 'a>(asked: &'a Asked, queue: Q, clock: &'a dyn Clock) -> Rounds<'a> {
+fn shared<'a, Q: Shared + 'a>(asked: &'a Asked, make: impl Fn(usize) -> Q + 'a, clock: &'a dyn Clock) -> Rounds<'a> {
     if asked.timed != Timed::One(Row::Callers) {
-        return owned(asked, queue, clock);
+        return owned(asked, make, clock);
     }
-    let mut load = Load::new(queue, clock, asked.entries);
+    let mut load = Load::new(make(asked.entries), clock, asked.entries);
     clock.within(&mut || load.pass(Row::Insert));
     Box::new(move || {
         let mut sample = Sample::default();
@@ -257,7 +296,7 @@ fn shared<'a, Q: Shared + 'a>(asked: &'a Asked, queue: Q, clock: &'a dyn Clock) 
 
 /// The rounds of queues each of which is a shard.
 fn locked_shards<'a, Q: Queue + Send + 'a>(asked: &'a Asked, one: impl Fn() -> Q, clock: &'a dyn Clock) -> Rounds<'a> {
-    sharded(asked, |shards| Shards::new((0..shards).map(|_| one())), clock)
+    sharded(asked, |shards| Shards::<Q>::new((0..shards).map(|_| one())), clock)
 }
 
 /// The rounds of a queue of so many shards.
@@ -290,6 +329,10 @@ fn shard_rounds<'a, S: Sharded + 'a>(
     })
 }
 
+/// The shards of `DelayQueue` where one thread alone calls it: as many as it makes by itself on a machine of four cores.
+#[cfg(feature = "rust")]
+const PRODUCT_SHARDS: usize = 4;
+
 /// A peer's clocks: one that is moved outside of what is timed, and one that its queue moves by itself.
 struct Clocks<'a> {
     paused: &'a PausedClock,
@@ -307,33 +350,48 @@ fn rounds_of<'a>(asked: &'a Asked, peer: &str, clocks: &'a Clocks<'a>) -> Rounds
 }
 
 fn rounds_of_one<'a>(asked: &'a Asked, peer: &str, clocks: &'a Clocks<'a>) -> Rounds<'a> {
-    let (entries, clock) = (asked.entries, clocks.paused);
-    let locked = |extending| shared(asked, Locked::new(HeapQueue::new(extending, entries)), &NoClock);
+    let clock = clocks.paused;
+    let heap = |extending| owned(asked, move |room| HeapQueue::new(extending, room), &NoClock);
+    let locked = |extending| shared(asked, move |room| Locked::new(HeapQueue::new(extending, room)), &NoClock);
+    #[cfg(feature = "rust")]
+    let adapter = |touching| shared(asked, move |room| Adapter::new(clock, room, touching), clock);
+    #[cfg(feature = "rust")]
+    let product = |by| {
+        // Where room isn't asked for by the row it grows as its entries come.
+        let reserved = if asked.timed == Timed::One(Row::InsertRoom) { PRODUCT_SHARDS } else { 0 };
+        let make = move |room| Product::new(clocks.standing, PRODUCT_SHARDS, by, reserved * room);
+        shared(asked, make, clocks.standing)
+    };
     match peer {
-        "delay-queue" => owned(asked, TokioQueue::new(clock, entries), clock),
-        "delay-queue-locked" => shared(asked, Locked::new(TokioQueue::new(clock, entries)), clock),
-        "sleep" => owned(asked, SleepQueue::new(clock, entries), &clocks.within),
-        "heap-push" => owned(asked, HeapQueue::new(Extending::Push, entries), &NoClock),
+        "delay-queue" => owned(asked, |room| TokioQueue::new(clock, room), clock),
+        "delay-queue-locked" => shared(asked, |room| Locked::<_>::new(TokioQueue::new(clock, room)), clock),
+        "sleep" => owned(asked, |room| SleepQueue::new(clock, room), &clocks.within),
+        "heap-push" => heap(Extending::Push),
         "heap-push-locked" => locked(Extending::Push),
-        "heap-note" => owned(asked, HeapQueue::new(Extending::Note, entries), &NoClock),
+        "heap-note" => heap(Extending::Note),
         "heap-note-locked" => locked(Extending::Note),
-        "heap-best" => owned(asked, BestHeap::new(entries), &NoClock),
-        "heap-best-locked" => shared(asked, Locked::new(BestHeap::new(entries)), &NoClock),
-        "heap-indexed" => owned(asked, IndexedHeap::new(entries), &NoClock),
-        "hashed-wheel" => owned(asked, HashedWheel::new(entries), &NoClock),
+        "heap-best" => owned(asked, BestHeap::new, &NoClock),
+        "heap-best-locked" => shared(asked, |room| Locked::new(BestHeap::new(room)), &NoClock),
+        "heap-indexed" => owned(asked, IndexedHeap::new, &NoClock),
+        "hashed-wheel" => owned(asked, HashedWheel::new, &NoClock),
+        "last-heard" => owned(asked, Floor::<LastHeard>::new, &NoClock),
         #[cfg(feature = "rust")]
-        "rust" | "rust-checked" => shared(asked, Erased::new(entries), &NoClock),
+        "rust" | "rust-checked" => shared(asked, Erased::new, &NoClock),
         #[cfg(feature = "rust")]
-        "rust-open" => owned(asked, Erased::open(entries), &NoClock),
+        "rust-open" => owned(asked, Erased::open, &NoClock),
         #[cfg(feature = "rust")]
-        "rust-alone" => owned(asked, Erased::alone(entries), &NoClock),
+        "rust-alone" => owned(asked, Erased::alone, &NoClock),
         #[cfg(feature = "rust")]
-        "adapter" => owned(asked, Adapter::new(clock, entries, Touching::Owner), clock),
+        "adapter" | "adapter-proved" => adapter(Touching::Owner),
         #[cfg(feature = "rust")]
-        "adapter-handle" => shared(asked, Adapter::new(clock, entries, Touching::Handle), clock),
+        "adapter-handle" => adapter(Touching::Handle),
         #[cfg(feature = "rust")]
-        "queue" => shared(asked, Product::new(clocks.standing, 4, 1, By::Duration, 0), clocks.standing),
-        _ => shared(asked, Floor::new(entries), &NoClock),
+        "stream" => owned(asked, |_| Stream::new(clock), clock),
+        #[cfg(feature = "rust")]
+        "queue" => product(By::Duration),
+        #[cfg(feature = "rust")]
+        "queue-at" | "queue-at-proved" => product(By::Moment),
+        _ => shared(asked, Floor::<AtomicU64>::new, &NoClock),
     }
 }
 
@@ -341,7 +399,7 @@ fn rounds_of_shards<'a>(asked: &'a Asked, peer: &str, clocks: &'a Clocks<'a>) ->
     let (room, clock) = (shard_room(asked.entries), clocks.paused);
     #[cfg(feature = "rust")]
     let product = |by, of_reserved: usize| {
-        let queue = move |shards| Product::new(clocks.standing, shards, asked.threads, by, of_reserved * shards);
+        let queue = move |shards| Product::new(clocks.standing, shards, by, of_reserved * shards);
         sharded(asked, queue, clocks.standing)
     };
     #[cfg(feature = "rust")]
@@ -352,6 +410,10 @@ fn rounds_of_shards<'a>(asked: &'a Asked, peer: &str, clocks: &'a Clocks<'a>) ->
     match peer {
         "delay-queue-locked" => locked_shards(asked, || TokioQueue::new(clock, room), clock),
         "heap-best-locked" => locked_shards(asked, || BestHeap::new(room), &NoClock),
+        "heap-best-paused" => {
+            let queue = |shards| Shards::<_, true>::new((0..shards).map(|_| BestHeap::new(room)));
+            sharded(asked, queue, &NoClock)
+        }
         "heap-indexed-locked" => locked_shards(asked, || IndexedHeap::new(room), &NoClock),
         "hashed-wheel-locked" => locked_shards(asked, || HashedWheel::new(room), &NoClock),
         #[cfg(feature = "rust")]
@@ -390,7 +452,10 @@ fn print_sample(asked: &Asked, peer: &str, round: usize, sample: &Sample) {
 }
 
 fn time(asked: &Asked) {
-    let names: Vec<&str> = peers_of(asked.timed).into_iter().filter(|peer| asked.wants(peer)).collect();
+    let names: Vec<&str> = peers_of(asked.timed, asked.entries).into_iter().filter(|peer| asked.wants(peer)).collect();
+    if asked.rounds == 0 {
+        return names.iter().for_each(|name| println!("{name}"));
+    }
     let paused: Vec<PausedClock> = names.iter().map(|_| PausedClock::new()).collect();
     #[cfg(feature = "rust")]
     let standing: Vec<Standing> = names.iter().map(|_| Standing::new()).collect();
@@ -490,6 +555,14 @@ mod tests {
         }
     }
 
+    /// The same of more entries than a core of ours has. tokio_util's goes over a whole slot for each of its assertions.
+    #[test]
+    fn peers_agree_beyond_a_core() {
+        let asked = asked(Timed::Lives(Life::InsertPoll, Route::Drawn, 1), 70_000, 1);
+        let peers = peers_of(asked.timed, asked.entries).into_iter().filter(|peer| !peer.starts_with("delay-queue"));
+        time(&Asked { peers: peers.map(str::to_string).collect(), ..asked });
+    }
+
     /// The same over shards, by one thread and by several.
     #[test]
     fn peers_agree_over_shards() {
@@ -565,13 +638,15 @@ mod tests {
         {
             keeps_deadlines(Erased::new(4), &NoClock);
             keeps_deadlines(Erased::open(4), &NoClock);
+            let clock = PausedClock::new();
+            keeps_deadlines(Stream::new(&clock), &clock);
             for touching in [Touching::Owner, Touching::Handle] {
                 let clock = PausedClock::new();
                 keeps_deadlines(Adapter::new(&clock, 4, touching), &clock);
             }
             for by in [By::Duration, By::Moment] {
                 let clock = Standing::new();
-                keeps_deadlines(Product::new(&clock, 2, 1, by, 0), &clock);
+                keeps_deadlines(Product::new(&clock, 2, by, 0), &clock);
             }
         }
     }

@@ -17,6 +17,13 @@ pub const HEARTBEATS: u64 = 30;
 /// The ticks from one touch of a session to its next.
 pub const BEAT: u64 = 1_000;
 
+/// A life of more sessions has a tenth of the beats.
+pub const MANY: usize = 1 << 18;
+
+/// The most entries of one core of ours, and the most entries of a row.
+pub const LARGEST_CORE: usize = 65_536;
+pub const LARGEST: usize = 1 << 20;
+
 /// Of so many sessions one is left to expire, the others are cancelled.
 pub const KEPT: usize = 10;
 
@@ -40,6 +47,9 @@ pub const TURNS: u64 = 4;
 /// How far a poller goes beside the callers in one poll, in ticks, and what it rests after it, in milliseconds.
 pub const STRIDE: u64 = 600;
 pub const REST: u64 = 1;
+
+/// The polls of a pass with nothing due.
+pub const RESTS: usize = 65_536;
 
 /// The calls that a thread makes in a burst under one lock.
 pub const BURST: usize = 64;
@@ -67,7 +77,7 @@ pub fn shard_pass(total: usize) -> u64 {
 
 /// The room of a shard for its entries: where they come in bursts, a shard may get one more than its share.
 pub fn shard_room(entries: usize) -> usize {
-    (entries + BURST).min(65_536)
+    (entries + BURST).min(LARGEST_CORE.max(entries))
 }
 
 /// The places of a list that are dealt out to one of so many threads.

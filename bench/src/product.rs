@@ -2,7 +2,6 @@
 
 use std::hint::black_box;
 use std::sync::atomic::{AtomicU64, Ordering};
-use std::sync::Mutex;
 use std::time::{Duration, Instant};
 
 use hontkhale::{DelayQueue, Expired, Key, KeyError, ManualClock};
@@ -84,32 +83,14 @@ pub struct Product<'c> {
     clock: &'c Standing,
     by: By,
     shards: usize,
-    /// Whether one thread alone calls it.
-    is_of_one: bool,
-    /// Of the poll in bursts at a tick: how many entries no thread has said that it takes.
-    unclaimed: Mutex<(u64, usize)>,
 }
 
 impl<'c> Product<'c> {
     /// A queue that keeps room for so many entries from the start, or grows.
-    pub fn new(clock: &'c Standing, shards: usize, threads: usize, by: By, room: usize) -> Product<'c> {
+    pub fn new(clock: &'c Standing, shards: usize, by: By, room: usize) -> Product<'c> {
         let queue = DelayQueue::builder().clock(&clock.clock).shards(shards).build();
         queue.reserve(room).expect("memory");
-        Product { queue, clock, by, shards, is_of_one: threads == 1, unclaimed: Mutex::default() }
-    }
-
-    /// How many entries this thread takes next: no more than are left by the others, for which it would wait.
-    fn claim(&self, tick: u64) -> usize {
-        if self.is_of_one {
-            return self.queue.len().min(BURST);
-        }
-        let mut unclaimed = self.unclaimed.lock().expect("no call panics under the lock");
-        if unclaimed.0 != tick {
-            *unclaimed = (tick, self.queue.len());
-        }
-        let claimed = unclaimed.1.min(BURST);
-        unclaimed.1 -= claimed;
-        claimed
+        Product { queue, clock, by, shards }
     }
 
     #[inline(always)]
@@ -157,6 +138,13 @@ impl<'c> Product<'c> {
     fn take(&self) -> Option<Expired<u64>> {
         black_box(Instant::now());
         self.queue.try_recv().ok()
+    }
+
+    /// A burst of what is due, where something is.
+    #[inline(always)]
+    fn take_many(&self, row: &mut Vec<Expired<u64>>) -> bool {
+        black_box(Instant::now());
+        self.queue.try_recv_many(row, BURST).is_ok()
     }
 
     fn tick_of(&self, moment: Instant) -> u64 {
@@ -254,19 +242,10 @@ impl Sharded for Product<'_> {
         }
     }
 
-    /// All that is left is due. Whoever receives waits where nothing is.
-    fn poll_bursts(&self, _shard: usize, tick: u64, gone: &mut Gone) {
+    fn poll_bursts(&self, _shard: usize, _tick: u64, gone: &mut Gone) {
         let mut row = Vec::with_capacity(BURST);
-        loop {
-            let mut claimed = self.claim(tick);
-            if claimed == 0 {
-                return;
-            }
-            black_box(Instant::now());
-            while claimed > 0 {
-                claimed -= self.queue.recv_many(&mut row, claimed);
-                row.drain(..).for_each(|out| gone.count(out.value));
-            }
+        while self.take_many(&mut row) {
+            row.drain(..).for_each(|out| gone.count(out.value));
         }
     }
 

@@ -1,6 +1,7 @@
 //! What the rows ask of a peer.
 
-use std::sync::Mutex;
+use std::hint;
+use std::sync::{Mutex, MutexGuard};
 
 use crate::shards::{Begun, Gone};
 
@@ -75,13 +76,19 @@ pub trait Polls<O>: FnMut(u64) -> Option<O> {}
 
 impl<O, P: FnMut(u64) -> Option<O>> Polls<O> for P {}
 
-/// A queue behind the standard lock, which each call takes once. It begins at a pair of lines of its own, so that no lock
-/// shares a line with another, nor with the one that a processor fetches beside it.
-#[repr(align(128))]
-pub struct Locked<Q>(Mutex<Q>);
+/// How long who finds a lock held pauses before its first try, at most before one, and how often it tries: as the shards of ours
+/// that are called by name.
+const FIRST_PAUSE: u32 = 4;
+const LONGEST_PAUSE: u32 = 256;
+const TRIES: u32 = 32;
 
-impl<Q> Locked<Q> {
-    pub fn new(queue: Q) -> Locked<Q> {
+/// A queue behind the standard lock, which each call takes once, with pauses before it sleeps or without them. It begins at a pair
+/// of lines of its own, so that no lock shares a line with another, nor with the one that a processor fetches beside it.
+#[repr(align(128))]
+pub struct Locked<Q, const PAUSES: bool = false>(Mutex<Q>);
+
+impl<Q, const PAUSES: bool> Locked<Q, PAUSES> {
+    pub fn new(queue: Q) -> Locked<Q, PAUSES> {
         Locked(Mutex::new(queue))
     }
 
@@ -92,7 +99,19 @@ impl<Q> Locked<Q> {
 
     /// Makes a call, or a burst of them, under the lock.
     pub fn with<R>(&self, call: impl FnOnce(&mut Q) -> R) -> R {
-        call(&mut self.0.lock().expect("no call panics under the lock"))
+        call(&mut self.lock())
+    }
+
+    fn lock(&self) -> MutexGuard<'_, Q> {
+        let mut pause = FIRST_PAUSE;
+        for _ in 0..if PAUSES { TRIES } else { 0 } {
+            if let Ok(queue) = self.0.try_lock() {
+                return queue;
+            }
+            (0..pause).for_each(|_| hint::spin_loop());
+            pause = LONGEST_PAUSE.min(2 * pause);
+        }
+        self.0.lock().expect("no call panics under the lock")
     }
 }
 

@@ -1,12 +1,13 @@
 //! The rows: what is timed, and what is counted. README.md describes each in words.
 
+use std::mem;
 use std::sync::atomic::{AtomicBool, Ordering};
 use std::thread;
 use std::time::{Duration, Instant};
 
 use crate::longest::Spread;
 use crate::plan::{
-    passes, steps, SplitMix64, BEAT, BEATS, HEARTBEATS, IDLE, KEPT, PASS, REST, SEED, STRIDE, TOUCHES, TURNS,
+    passes, steps, SplitMix64, BEAT, BEATS, HEARTBEATS, IDLE, KEPT, PASS, REST, RESTS, SEED, STRIDE, TOUCHES, TURNS,
 };
 use crate::queue::{Extends, Parts, Queue, Shared};
 
@@ -33,10 +34,18 @@ impl Clock for NoClock {
 pub enum Row {
     Insert,
     Extend,
+    /// Extends beside what servers have that keep no queue, or a timer each.
+    Touch,
     Reset,
     Remove,
     Cancel,
     Poll,
+    /// A poll with nothing due.
+    Rest,
+    /// Inserts into a queue that has just been made, whose room grows within the time.
+    InsertNew,
+    /// The same with room for all made before.
+    InsertRoom,
     InsertPoll,
     ResetPoll,
     RemovePoll,
@@ -47,13 +56,17 @@ pub enum Row {
 }
 
 impl Row {
-    pub const ALL: [(&'static str, Row); 13] = [
+    pub const ALL: [(&'static str, Row); 17] = [
         ("insert", Row::Insert),
         ("extend", Row::Extend),
+        ("touch", Row::Touch),
         ("reset", Row::Reset),
         ("remove", Row::Remove),
         ("cancel", Row::Cancel),
         ("poll", Row::Poll),
+        ("rest", Row::Rest),
+        ("insert-new", Row::InsertNew),
+        ("insert-room", Row::InsertRoom),
         ("insert+poll", Row::InsertPoll),
         ("reset+poll", Row::ResetPoll),
         ("remove+poll", Row::RemovePoll),
@@ -65,7 +78,7 @@ impl Row {
 
     /// Whether a round is one pass, which is long.
     fn is_long(self) -> bool {
-        matches!(self, Row::Mixed | Row::Churn | Row::Heartbeat)
+        matches!(self, Row::Mixed | Row::Churn | Row::Heartbeat | Row::Rest)
     }
 
     /// Whether what the calls leave behind is polled for within the time.
@@ -159,17 +172,36 @@ impl<'a, Q: Queue> Load<'a, Q> {
     pub fn pass(&mut self, row: Row) {
         match row {
             Row::Insert | Row::InsertPoll => self.insert(row),
-            Row::Extend => self.extend(),
+            Row::Extend | Row::Touch => self.extend(),
             Row::Reset | Row::ResetPoll => self.reset(row),
             Row::Remove | Row::RemovePoll => self.remove(row),
             Row::Cancel => self.cancel(),
             Row::Poll => self.poll(),
+            Row::Rest => self.rest(),
             Row::Mixed => self.mixed(),
             Row::Churn => self.churn(),
             Row::Heartbeat => self.heartbeat(),
+            Row::InsertNew | Row::InsertRoom => panic!("these rows make their queues"),
             Row::Callers => panic!("the row of the callers wants a queue that is shared"),
         }
         self.end_pass();
+    }
+
+    /// One round of inserts, each pass into a queue of its own, which is made of room for so many entries: within the time where
+    /// there is none. Who was there before it is dropped outside the time.
+    pub fn insert_anew(&mut self, passes: usize, room: usize, make: &impl Fn(usize) -> Q) -> Sample {
+        self.sample = Sample::default();
+        for _ in 0..passes {
+            let deadlines = self.draws.deadlines(self.now, self.entries);
+            let mut made = (room > 0).then(|| make(room));
+            let since = reading();
+            let before = mem::replace(&mut self.queue, made.take().unwrap_or_else(|| make(0)));
+            let keys = self.insert_all(&deadlines);
+            self.spend(since, keys.len());
+            drop(before);
+            self.end_pass();
+        }
+        self.sample
     }
 
     fn spend(&mut self, since: Instant, operations: usize) {
@@ -309,6 +341,16 @@ impl<'a, Q: Queue> Load<'a, Q> {
         let since = reading();
         self.poll_all(tick);
         self.spend(since, keys.len());
+    }
+
+    /// Polls with nothing due, of a task or a loop that has something else to do.
+    fn rest(&mut self) {
+        self.fill();
+        let now = self.now;
+        let since = reading();
+        let outs = (0..RESTS).filter(|_| self.queue.poll(now).is_some()).count();
+        self.spend(since, RESTS);
+        assert_eq!(outs, 0, "every deadline lies ahead");
     }
 
     /// Idle timeouts: the sessions begin in one beat, each is touched once in each of the beats after it, and then most

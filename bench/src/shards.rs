@@ -85,10 +85,10 @@ impl<Q: Queue> Clone for Placed<Q> {
 impl<Q: Queue> Copy for Placed<Q> {}
 
 /// A queue behind the standard lock for each shard.
-pub struct Shards<Q>(Vec<Locked<Q>>);
+pub struct Shards<Q, const PAUSES: bool = false>(Vec<Locked<Q, PAUSES>>);
 
-impl<Q> Shards<Q> {
-    pub fn new(shards: impl Iterator<Item = Q>) -> Shards<Q> {
+impl<Q, const PAUSES: bool> Shards<Q, PAUSES> {
+    pub fn new(shards: impl Iterator<Item = Q>) -> Shards<Q, PAUSES> {
         Shards(shards.map(Locked::new).collect())
     }
 
@@ -98,7 +98,7 @@ impl<Q> Shards<Q> {
     }
 }
 
-impl<Q: Queue + Send> Sharded for Shards<Q> {
+impl<Q: Queue + Send, const PAUSES: bool> Sharded for Shards<Q, PAUSES> {
     type Key = Placed<Q>;
     /// An extend takes the lock as every call does.
     type Toucher = ();

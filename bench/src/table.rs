@@ -48,7 +48,7 @@ pub fn print(entries: usize, threads: usize, rounds: usize) {
         let row_name = format!("{row}/{shards}");
         let asked =
             Asked { row_name, timed: timed(row), entries: entries / shards, threads, rounds, peers: Vec::new() };
-        let known = peers_of(asked.timed);
+        let known = peers_of(asked.timed, asked.entries);
         let cells = peers.iter().map(|peer| match known.contains(peer) {
             true => format!("{:.1}", time_of(&asked, peer)),
             false => String::new(),
@@ -81,7 +81,7 @@ fn heaps(shards: usize, entries: usize) -> Shards<BestHeap> {
 }
 
 fn hand_over(clock: &Standing, entries: usize, threads: usize, rounds: usize) -> f64 {
-    let queue = Product::new(clock, threads.max(2), threads + 1, By::Duration, 0);
+    let queue = Product::new(clock, threads.max(2), By::Duration, 0);
     median((0..rounds).map(|_| handed(&queue, clock, entries, threads)).collect())
 }
 

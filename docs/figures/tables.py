@@ -112,6 +112,23 @@ def headline():
     return grid(["", "Row", "ours", "the fastest other", "tokio-util's"], (row for _, row in worst), 2)
 
 
+def front():
+    """The rows that the front page has beside the others: a column for each peer."""
+    peers, its = PLAN["front_peers"], stored.PLAN["cases"]["front"].items()
+    found = [(row, str(entries), str(threads)) for row, many in its for entries, threads in many if (row, entries, threads) in cases()]
+    rows = ([f"{PLAN['front_rows'][it[0].partition('/')[0]]}; {shape(*it)}", *(ns_text(run()[peer, *it]) if (peer, *it) in run() else "" for peer in peers)]
+            for it in found)
+    return grid(["", *peers.values()], rows)
+
+
+def receivers():
+    """An entry of what one thread put in, by the number of threads that receive: nanoseconds, and how many times those of one."""
+    many = ("1", "2", "4")
+    taken = {words: [ns("poll-burst/4", peer, threads=it) for it in many] for peer, words in PLAN["receiver_peers"].items()}
+    rows = ([words, *(f"{it:,.0f}, {it / its[0]:.1f} times" for it in its)] for words, its in taken.items())
+    return grid(["", *(f"{it} thread{'s' if it != '1' else ''}" for it in many)], rows)
+
+
 def beside_delay_queue():
     """How many times as fast as tokio-util's queue each product is: of three sizes the least and the most, rounded away."""
     calls = PLAN["product_calls"]
@@ -140,7 +157,7 @@ def ahead(ours, which):
     kinds = {"calls": stored.SHARD_ROWS, "lives": LIVES}[which]
     kind_of = lambda cell: cell[1].removeprefix("own-").partition("/")[0]
     counted = lambda cells: [len(cells), *([*map(kind_of, cells)].count(kind) for kind in kinds)]
-    its = {peer: [it for it in run() if it[0] == peer and "/" in it[1] and kind_of(it) in kinds] for peer in PLAN["locked"]}
+    its = {peer: [it for it in run() if it[0] == peer and (ours, *it[1:]) in run() and kind_of(it) in kinds] for peer in PLAN["locked"]}
     its = {PLAN["locked"][peer]: cells for peer, cells in its.items() if cells}
     counts = {tuple(counted(cells)) for cells in its.values()}
     if len(counts) != 1:
