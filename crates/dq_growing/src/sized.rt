@@ -46,15 +46,15 @@ impl<T, W: Words, A: Allocator> Model for SizedStore<T, W, A> {
     ghost invariant = { λ s. NoneLiveIn s.store.cores s.hint };
 }
 
-// The hint after a poll: the tick that it waits for, and as before if more may be due.
+// Notes the tick that a poll waits for as the hint, which stays if more may be due.
 #[inline(always)]
-fn hint_after<T>(made: &Result<Piece<T>, CoreError>, hint: u64) -> u64
-    ensures { result ≡ hint_after made.now hint }
+fn note_hint<T>(hint: &mut u64, made: &Result<Piece<T>, CoreError>)
+    ensures { hint.new ≡ hint_after made.now hint.old }
 {
     match made {
-        Ok(Piece::Answer(Turn::Waiting { next })) => *next,
-        Ok(Piece::Answer(Turn::Idle)) => NEVER,
-        _ => hint,
+        Ok(Piece::Answer(Turn::Waiting { next })) => *hint = *next,
+        Ok(Piece::Answer(Turn::Idle)) => *hint = NEVER,
+        _ => {}
     }
 }
 
@@ -301,7 +301,7 @@ impl<T, W: Words, A: Allocator + Clone> SizedStore<T, W, A> {
         ensures sizing { self.new.sizing ≡ self.old.sizing }
     {
         let made = self.store.poll(tick);
-        self.hint = hint_after(&made, self.hint);
+        note_hint(&mut self.hint, &made);
         made
     }
 
@@ -321,7 +321,7 @@ impl<T, W: Words, A: Allocator + Clone> SizedStore<T, W, A> {
         ensures sizing { self.new.sizing ≡ self.old.sizing }
     {
         let made = self.store.poll_some(tick, most);
-        self.hint = hint_after(&made, self.hint);
+        note_hint(&mut self.hint, &made);
         made
     }
 

@@ -22,13 +22,13 @@ pub struct SizedStore<T, W: Words> {
     hint: u64,
 }
 
-// The hint after a poll: the tick that it waits for, and as before if more may be due.
+// Notes the tick that a poll waits for as the hint, which stays if more may be due.
 #[inline(always)]
-fn hint_after<T>(made: &Result<Piece<T>, CoreError>, hint: u64) -> u64 {
+fn note_hint<T>(hint: &mut u64, made: &Result<Piece<T>, CoreError>) {
     match made {
-        Ok(Piece::Answer(Turn::Waiting { next })) => *next,
-        Ok(Piece::Answer(Turn::Idle)) => NEVER,
-        _ => hint,
+        Ok(Piece::Answer(Turn::Waiting { next })) => *hint = *next,
+        Ok(Piece::Answer(Turn::Idle)) => *hint = NEVER,
+        _ => {}
     }
 }
 
@@ -180,7 +180,7 @@ impl<T, W: Words> SizedStore<T, W> {
     #[inline(always)]
     pub fn poll(&mut self, tick: u64) -> Result<Piece<T>, CoreError> {
         let made = self.store.poll(tick);
-        self.hint = hint_after(&made, self.hint);
+        note_hint(&mut self.hint, &made);
         made
     }
 
@@ -191,7 +191,7 @@ impl<T, W: Words> SizedStore<T, W> {
     #[inline(always)]
     pub fn poll_some(&mut self, tick: u64, most: u32) -> Result<Piece<T>, CoreError> {
         let made = self.store.poll_some(tick, most);
-        self.hint = hint_after(&made, self.hint);
+        note_hint(&mut self.hint, &made);
         made
     }
 

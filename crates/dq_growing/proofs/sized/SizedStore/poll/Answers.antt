@@ -5,7 +5,7 @@ pub invariant_of-self : goal.invariant_of-self
 invariant_of-self g c =
     let i = c.self.inside in
     let r = c.poll-made in
-    rw c.hint_after-self-inside.ensures
+    rw c.note_hint.ensures
     (polls_for g.W.Words.shared i.store r.new.self i.hint c.args.tick r.result r.ensures.polls r.ensures.rests c.self.invariant)
 
 pub returns-clause-keeps : goal.returns-clause-keeps
