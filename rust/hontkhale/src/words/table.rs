@@ -35,6 +35,7 @@ impl Table {
 
     /// Loads the words from one on, each so far behind the one before, and gives the index of the first of the least, where that is
     /// below a number. Behind an atomic load the compiler looks up the row anew, unless one loop goes through it.
+    #[cfg(feature = "std")]
     #[inline(always)]
     pub(crate) fn first_below(&self, from: usize, apart: usize, bound: u64) -> Option<usize> {
         let (row, mut index) = (&self.words[..], from);
