@@ -70,67 +70,8 @@ mod stream_checks {
 mod owned {
     //! Tests of the same parts over what the modules beside this one have.
 
-    mod apps_checks {
-        //! The cache and the idle sessions, beside their worked rows.
-
-        use crate::tests::kit::same;
-
-        mod calls;
-        mod many;
-        mod memo;
-        mod readers;
-        mod refresh;
-        mod sessions;
-        mod wakes;
-    }
-
-    mod checks {
-        //! One owner's queue, beside its worked cases: its entries, peeks, open slots, renewals, and threads that race.
-
-        use crate::tests::checks::queues;
-        use crate::tests::kit::same;
-
-        mod entries;
-        mod front;
-        mod open_slots;
-        mod peeks;
-        mod race;
-        mod renewals;
-        mod deferred;
-    }
-
-    mod shard_checks {
-        //! The shards and their handles, beside their worked cases: many entries, many shards, sweeps, and threads.
-
-        use crate::tests::kit::same;
-        use crate::tests::shard_checks::{calls, play};
-
-        mod draining;
-        mod each_shard;
-        mod many;
-        mod pieces;
-        mod shards;
-        mod sweeping;
-        mod threads;
-    }
-
-    mod stream_checks {
-        //! The stream of a shard's expired entries, beside its worked rows: who is woken and how often, what it leaves as it
-        //! was, and streams under an executor and between threads.
-
-        use crate::tests::kit::same;
-        use crate::tests::stream_checks::{steps, streams};
-
-        mod beside;
-        mod executors;
-        mod giving_way;
-        mod handles;
-        mod paced;
-        mod parked;
-        mod parkers;
-        mod refusals;
-        mod tasks;
-        mod threads;
-        mod wakes;
-    }
+    mod apps_checks;
+    mod checks;
+    mod shard_checks;
+    mod stream_checks;
 }
