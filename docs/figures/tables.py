@@ -89,7 +89,7 @@ def shape(name, entries, threads):
     """A row's entries, shards and threads, in words."""
     shards, many = name.partition("/")[2] or "1", f"{int(entries):,} entries"
     parts = [f"{shards} shards of {many}" if shards != "1" else many, f"{threads} threads" if threads != "1" else ""]
-    return ", ".join([*filter(None, parts), *(["each thread its own"] if name.startswith("own-") else [])])
+    return ", ".join([*filter(None, parts), *(["one each"] if name.startswith("own-") else [])])
 
 
 def headline():
