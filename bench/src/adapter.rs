@@ -52,11 +52,18 @@ impl Task {
     #[inline(always)]
     pub fn run<O>(&self, mut poll: impl FnMut(&mut Context<'_>) -> Poll<Option<O>>) -> Option<O> {
         loop {
-            match poll(&mut Context::from_waker(&self.waker)) {
-                Poll::Ready(out) => return out,
-                Poll::Pending if self.woken.0.swap(false, Ordering::SeqCst) => {}
-                Poll::Pending => return None,
+            if let Poll::Ready(out) = self.run_once(&mut poll) {
+                return out;
             }
+        }
+    }
+
+    /// One poll: it is pending where the task was woken meanwhile.
+    #[inline(always)]
+    pub fn run_once<O>(&self, mut poll: impl FnMut(&mut Context<'_>) -> Poll<Option<O>>) -> Poll<Option<O>> {
+        match poll(&mut Context::from_waker(&self.waker)) {
+            Poll::Pending if !self.woken.0.swap(false, Ordering::SeqCst) => Poll::Ready(None),
+            answer => answer,
         }
     }
 }
@@ -143,6 +150,15 @@ impl Queue for Adapter {
 
     fn poll(&mut self, _tick: u64) -> Option<Expired<u64>> {
         self.polled.poll()
+    }
+
+    fn poll_once(&mut self, tick: u64) -> Poll<Option<Expired<u64>>> {
+        if self.handle.is_some() {
+            // The number of its calls isn't that of another run.
+            return Poll::Ready(self.poll(tick));
+        }
+        let Polled { queue, task } = &mut self.polled;
+        task.run_once(|context| queue.poll_expired(context))
     }
 
     fn value(out: &Expired<u64>) -> u64 {

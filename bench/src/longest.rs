@@ -2,6 +2,7 @@
 //! so that what the machine does beside it is left out. README.md says the runs in words.
 
 use std::fmt;
+use std::task::Poll;
 use std::time::{Duration, Instant};
 
 use crate::plan::{steps, BEAT, IDLE, LONG_BEATS, LONG_PASS, RUNS};
@@ -162,7 +163,12 @@ impl<Q: Queue> Load<'_, Q> {
     /// Polls at a tick until nothing is given.
     fn poll_timed(&mut self, tick: u64, times: &mut Times) {
         self.clock.moment(tick);
-        while let Some(out) = times.poll.time(|| self.queue.poll(tick)) {
+        loop {
+            let out = match times.poll.time(|| self.queue.poll_once(tick)) {
+                Poll::Ready(Some(out)) => out,
+                Poll::Ready(None) => return,
+                Poll::Pending => continue,
+            };
             let counts = &mut self.sample.counts;
             counts.outs += 1;
             counts.values = counts.values.wrapping_add(Q::value(&out));

@@ -2,6 +2,7 @@
 
 use std::hint;
 use std::sync::{Mutex, MutexGuard};
+use std::task::Poll;
 
 use crate::shards::{Begun, Gone};
 
@@ -22,6 +23,11 @@ pub trait Queue {
     fn cancel(&mut self, key: Self::Key);
     /// An entry whose deadline is at most `tick`.
     fn poll(&mut self, tick: u64) -> Option<Self::Out>;
+    /// The same by one call of the queue. It is pending where the call ended before its work, so that other tasks run before its task
+    /// is polled again.
+    fn poll_once(&mut self, tick: u64) -> Poll<Option<Self::Out>> {
+        Poll::Ready(self.poll(tick))
+    }
 
     fn value(out: &Self::Out) -> u64;
     fn deadline(&self, out: &Self::Out) -> u64;

@@ -89,7 +89,7 @@ def shape(name, entries, threads):
     """A row's entries, shards and threads, in words."""
     shards, many = name.partition("/")[2] or "1", f"{int(entries):,} entries"
     parts = [f"{shards} shards of {many}" if shards != "1" else many, f"{threads} threads" if threads != "1" else ""]
-    return ", ".join([*filter(None, parts), *(["each thread its own"] if name.startswith("own-") else [])])
+    return ", ".join([*filter(None, parts), *(["one each"] if name.startswith("own-") else [])])
 
 
 def headline():
@@ -100,14 +100,17 @@ def headline():
             kind = name.removeprefix("own-").partition("/")[0]
             is_longest = name.startswith("longest-")
             taken = (lambda it: longest_of(name, it, entries)) if is_longest else lambda it: run()[it, name, entries, threads]
-            others = [it for it in PLAN[peers] if (it, name, entries, threads) in run()]
+            # A row of the longest call has one thread, and peers without a lock.
+            its = PLAN["single" if is_longest else peers]
+            others = [it for it in its if (it, name, entries, threads) in run()]
             if peer != product or kind not in PLAN["front_rows"] or not others:
                 continue
             best = min(others, key=taken)
             text = (lambda it: f"{us_text(it)} µs") if is_longest else ns_text
             row = [words, f"{PLAN['front_rows'][kind]}; {shape(name, entries, threads)}", text(taken(product)),
-                   f"{text(taken(best))}, {PLAN[peers][best]}", text(taken(others[-1]))]
-            found[words, kind] = max(found.get((words, kind), (0,)), (taken(product) / taken(best), row))
+                   f"{text(taken(best))}, {its[best]}", text(taken(others[-1]))]
+            key = words, "longest" if is_longest else kind
+            found[key] = max(found.get(key, (0,)), (taken(product) / taken(best), row))
     worst = sorted(found.values(), reverse=True)[:8]
     return grid(["", "Row", "ours", "the fastest other", "tokio-util's"], (row for _, row in worst), 2)
 
