@@ -1,11 +1,15 @@
-//! Our queue by tokio_util's own calls: the crate `hontkhale-tokio`, under a clock that stands until it is moved.
+//! The crate `hontkhale-tokio`, under a clock that stands until it is moved: our queue by tokio_util's own calls, and the stream of
+//! the queue that tasks share.
 
+use std::future::Future;
+use std::pin::pin;
 use std::sync::atomic::{AtomicBool, Ordering};
 use std::sync::Arc;
 use std::task::{Context, Poll, Wake, Waker};
 use std::time::Duration;
 
 use hontkhale_tokio::delay_queue::{Expired, Key};
+use hontkhale_tokio::shared_queue::{self, QueueStream, SharedQueue};
 use hontkhale_tokio::{DelayQueue, Handle};
 use tokio::time::Instant;
 
@@ -135,6 +139,10 @@ impl Queue for Adapter {
         self.polled.poll()
     }
 
+    fn begin_anew(&mut self) {
+        self.polled = Polled::of(DelayQueue::new());
+    }
+
     fn value(out: &Expired<u64>) -> u64 {
         *out.get_ref()
     }
@@ -154,5 +162,73 @@ impl Shared for Adapter {
             })
             .collect();
         Parts { extends, poll: move |_| polled.poll() }
+    }
+}
+
+/// The shards of the queue that tasks share. A poll looks at each.
+const SHARDS: usize = 4;
+
+/// The queue that tasks share, and the task of its stream.
+pub struct Streamed {
+    queue: SharedQueue<u64>,
+    stream: QueueStream<u64>,
+    task: Arc<Task>,
+    waker: Waker,
+    start: Instant,
+}
+
+impl Streamed {
+    /// A queue within the runtime of that clock.
+    pub fn new(clock: &PausedClock) -> Streamed {
+        clock.enter(|| {
+            let queue = SharedQueue::from(SharedQueue::builder().shards(SHARDS).build());
+            let task = Arc::new(Task::default());
+            let waker = Waker::from(Arc::clone(&task));
+            Streamed { stream: queue.stream(), queue, task, waker, start: clock.start() }
+        })
+    }
+}
+
+impl Queue for Streamed {
+    type Key = shared_queue::Key;
+    type Out = shared_queue::Expired<u64>;
+
+    fn insert(&mut self, value: u64, deadline: u64) -> Self::Key {
+        self.queue.insert_at(value, moment(self.start, deadline)).expect("memory")
+    }
+
+    fn extend(&mut self, key: Self::Key, deadline: u64) -> u64 {
+        let in_force = self.queue.extend_at(&key, moment(self.start, deadline)).expect("the entry is live");
+        in_force.duration_since(self.start).as_millis() as u64
+    }
+
+    fn reset(&mut self, key: Self::Key, deadline: u64) -> Self::Key {
+        self.queue.reset_at(&key, moment(self.start, deadline)).expect("the entry is live")
+    }
+
+    fn remove(&mut self, key: Self::Key) -> u64 {
+        self.queue.remove(&key).expect("the entry is live")
+    }
+
+    fn cancel(&mut self, key: Self::Key) {
+        self.queue.cancel(&key).expect("the entry is live");
+    }
+
+    fn poll(&mut self, _tick: u64) -> Option<Self::Out> {
+        loop {
+            match pin!(self.stream.next()).poll(&mut Context::from_waker(&self.waker)) {
+                Poll::Ready(out) => return out,
+                Poll::Pending if self.task.is_woken.swap(false, Ordering::SeqCst) => {}
+                Poll::Pending => return None,
+            }
+        }
+    }
+
+    fn value(out: &Self::Out) -> u64 {
+        out.value
+    }
+
+    fn deadline(&self, out: &Self::Out) -> u64 {
+        out.deadline.duration_since(self.start).as_millis() as u64
     }
 }

@@ -41,7 +41,7 @@ mod tokio_queue;
 use std::process::ExitCode;
 
 #[cfg(feature = "rust")]
-use adapter::{Adapter, Touching};
+use adapter::{Adapter, Streamed, Touching};
 use best::BestHeap;
 #[cfg(feature = "rust")]
 use by_hand::ByHand;
@@ -65,13 +65,13 @@ use sleep::SleepQueue;
 use tokio_queue::{PausedClock, TokioQueue, TurnedWithin};
 
 const USAGE: &str = "usage: peers time ROW ENTRIES THREADS ROUNDS [PEER..]
-rows: insert extend reset remove cancel poll insert+poll reset+poll remove+poll mixed churn heartbeat callers,
+rows: insert extend reset remove cancel poll insert+poll reset+poll remove+poll mixed churn heartbeat callers grow rest,
 longest-extend longest-reset longest-cancel,
 and over 1 to 64 shards insert/SHARDS extend/SHARDS reset/SHARDS remove/SHARDS poll/SHARDS insert-burst/SHARDS poll-burst/SHARDS
 and whole lives insert+poll/SHARDS reset+poll/SHARDS remove+poll/SHARDS mixed/SHARDS churn/SHARDS heartbeat/SHARDS
 and of servers fixed/SHARDS zipf/SHARDS requests/SHARDS;
 with own- before all of these but the bursts, each of as many threads has a shard of its own
-entries: 1 to 65536, of each shard; threads: 1, and 1 to 64 for callers and over shards
+entries: 1 to 65536, of each shard, and 1000000 of queues that grow, in the rows grow and rest; threads: 1, and 1 to 64 for callers and over shards
        peers beside ENTRIES ROUNDS, where it was built with our crates: a poll in pieces beside another thread's inserts
        peers fair ENTRIES ROUNDS, likewise: what these inserts wait, for some ways to be fair
        peers queue ENTRIES THREADS ROUNDS, likewise: a table of `DelayQueue` beside what it is made of and beside its peers
@@ -115,6 +115,14 @@ impl Timed {
         }
     }
 
+    /// How many entries there may be: the queues of the last rows grow.
+    fn most_entries(self) -> usize {
+        match self {
+            Timed::One(Row::Grow | Row::Rest) => 1_000_000,
+            _ => 65_536,
+        }
+    }
+
     /// Whether it is a row of one queue, which our own queue can be.
     fn is_of_one(self) -> bool {
         !matches!(self, Timed::Shards(..) | Timed::Lives(..))
@@ -137,7 +145,7 @@ impl Asked {
             return None;
         };
         let timed = Timed::read(row_name)?;
-        let entries = entries.parse().ok().filter(|entries| (1..=65_536).contains(entries))?;
+        let entries = entries.parse().ok().filter(|entries| (1..=timed.most_entries()).contains(entries))?;
         let threads = threads.parse().ok().filter(|threads| timed.takes(*threads))?;
         let rounds = rounds.parse().ok()?;
         let known = peers_of(timed);
@@ -177,8 +185,11 @@ fn mine_of(timed: Timed) -> &'static [&'static str] {
         }
         Timed::One(Row::Extend) if is_unchecked => &["rust", "rust-open"],
         Timed::One(Row::Insert | Row::Poll) if is_unchecked => &["rust", "rust-open", "rust-alone"],
+        Timed::One(Row::Grow | Row::Rest) if is_unchecked => &[],
         _ if is_unchecked => &["rust"],
         Timed::One(Row::Callers) => &["rust-checked", "adapter-handle", "queue"],
+        Timed::One(Row::Grow) => &["adapter"],
+        Timed::One(Row::Rest) => &["adapter", "stream", "queue"],
         _ => &["rust-checked", "adapter", "adapter-handle", "queue"],
     }
 }
@@ -195,6 +206,7 @@ fn plain_peers_of(timed: Timed) -> Vec<&'static str> {
         Timed::One(Row::Callers) => {
             return vec!["fetch-max", "heap-push-locked", "heap-note-locked", "heap-best-locked", "delay-queue-locked"]
         }
+        Timed::One(Row::Grow | Row::Rest) => return vec!["delay-queue"],
         Timed::Longest(_) => return vec!["delay-queue", "heap-note", "heap-best", "heap-indexed", "hashed-wheel"],
         Timed::Shards(..) => {
             return vec!["heap-note-locked", "heap-best-locked", "hashed-wheel-locked", "delay-queue-locked"]
@@ -328,6 +340,8 @@ fn rounds_of_one<'a>(asked: &'a Asked, peer: &str, clocks: &'a Clocks<'a>) -> Ro
         "adapter" => owned(asked, Adapter::new(clock, entries, Touching::Owner), clock),
         #[cfg(feature = "rust")]
         "adapter-handle" => shared(asked, Adapter::new(clock, entries, Touching::Handle), clock),
+        #[cfg(feature = "rust")]
+        "stream" => owned(asked, Streamed::new(clock), clock),
         #[cfg(feature = "rust")]
         "queue" => shared(asked, Product::new(clocks.standing, 4, 1, By::Duration, 0), clocks.standing),
         _ => shared(asked, Floor::new(entries), &NoClock),

@@ -24,6 +24,11 @@ pub trait Queue {
 
     fn value(out: &Self::Out) -> u64;
     fn deadline(&self, out: &Self::Out) -> u64;
+
+    /// Takes the place of this one, which is empty, as a queue that was made without room.
+    fn begin_anew(&mut self) {
+        panic!("a row of queues that grow");
+    }
 }
 
 /// A queue that several threads extend while its owner polls.

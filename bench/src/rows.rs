@@ -44,10 +44,12 @@ pub enum Row {
     Churn,
     Heartbeat,
     Callers,
+    Grow,
+    Rest,
 }
 
 impl Row {
-    pub const ALL: [(&'static str, Row); 13] = [
+    pub const ALL: [(&'static str, Row); 15] = [
         ("insert", Row::Insert),
         ("extend", Row::Extend),
         ("reset", Row::Reset),
@@ -61,6 +63,8 @@ impl Row {
         ("churn", Row::Churn),
         ("heartbeat", Row::Heartbeat),
         ("callers", Row::Callers),
+        ("grow", Row::Grow),
+        ("rest", Row::Rest),
     ];
 
     /// Whether a round is one pass, which is long.
@@ -168,6 +172,8 @@ impl<'a, Q: Queue> Load<'a, Q> {
             Row::Churn => self.churn(),
             Row::Heartbeat => self.heartbeat(),
             Row::Callers => panic!("the row of the callers wants a queue that is shared"),
+            Row::Grow => self.grow(),
+            Row::Rest => self.rest(),
         }
         self.end_pass();
     }
@@ -309,6 +315,25 @@ impl<'a, Q: Queue> Load<'a, Q> {
         let since = reading();
         self.poll_all(tick);
         self.spend(since, keys.len());
+    }
+
+    /// Inserts into a queue that begins without room.
+    fn grow(&mut self) {
+        self.queue.begin_anew();
+        self.insert(Row::Grow);
+    }
+
+    /// Polls where nothing is due and nothing has changed, as each turn of a `select!` does.
+    fn rest(&mut self) {
+        self.fill();
+        // It comes to wait.
+        let mut outs = u64::from(self.queue.poll(self.now).is_some());
+        let since = reading();
+        for _ in 0..self.entries {
+            outs += u64::from(self.queue.poll(self.now).is_some());
+        }
+        self.spend(since, self.entries);
+        assert_eq!(outs, 0, "nothing is due");
     }
 
     /// Idle timeouts: the sessions begin in one beat, each is touched once in each of the beats after it, and then most

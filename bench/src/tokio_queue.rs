@@ -120,6 +120,10 @@ impl Queue for TokioQueue {
         }
     }
 
+    fn begin_anew(&mut self) {
+        self.queue = DelayQueue::new();
+    }
+
     fn value(out: &Expired<u64>) -> u64 {
         *out.get_ref()
     }
