@@ -172,6 +172,7 @@ const SHARDS: usize = 4;
 pub struct Streamed {
     queue: SharedQueue<u64>,
     stream: QueueStream<u64>,
+    waiting: Vec<QueueStream<u64>>,
     task: Arc<Task>,
     waker: Waker,
     start: Instant,
@@ -184,7 +185,7 @@ impl Streamed {
             let queue = SharedQueue::from(SharedQueue::builder().shards(SHARDS).build());
             let task = Arc::new(Task::default());
             let waker = Waker::from(Arc::clone(&task));
-            Streamed { stream: queue.stream(), queue, task, waker, start: clock.start() }
+            Streamed { stream: queue.stream(), waiting: Vec::new(), queue, task, waker, start: clock.start() }
         })
     }
 }
@@ -222,6 +223,16 @@ impl Queue for Streamed {
                 Poll::Pending => return None,
             }
         }
+    }
+
+    fn wait(&mut self, tasks: usize) {
+        let mut cx = Context::from_waker(&self.waker);
+        self.waiting.extend((0..tasks).map(|_| self.queue.stream()));
+        self.waiting.iter_mut().for_each(|stream| assert!(pin!(stream.next()).poll(&mut cx).is_pending()));
+    }
+
+    fn leave(&mut self) {
+        self.waiting.clear();
     }
 
     fn value(out: &Self::Out) -> u64 {

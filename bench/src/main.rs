@@ -65,13 +65,13 @@ use sleep::SleepQueue;
 use tokio_queue::{PausedClock, TokioQueue, TurnedWithin};
 
 const USAGE: &str = "usage: peers time ROW ENTRIES THREADS ROUNDS [PEER..]
-rows: insert extend reset remove cancel poll insert+poll reset+poll remove+poll mixed churn heartbeat callers grow rest,
+rows: insert extend reset remove cancel poll insert+poll reset+poll remove+poll mixed churn heartbeat callers grow rest leave,
 longest-extend longest-reset longest-cancel,
 and over 1 to 64 shards insert/SHARDS extend/SHARDS reset/SHARDS remove/SHARDS poll/SHARDS insert-burst/SHARDS poll-burst/SHARDS
 and whole lives insert+poll/SHARDS reset+poll/SHARDS remove+poll/SHARDS mixed/SHARDS churn/SHARDS heartbeat/SHARDS
 and of servers fixed/SHARDS zipf/SHARDS requests/SHARDS;
 with own- before all of these but the bursts, each of as many threads has a shard of its own
-entries: 1 to 65536, of each shard, and 1000000 of queues that grow, in the rows grow and rest; threads: 1, and 1 to 64 for callers and over shards
+entries: 1 to 65536, of each shard, and 1000000 of queues that grow, in the rows grow, rest and leave; threads: 1, and 1 to 64 for callers and over shards
        peers beside ENTRIES ROUNDS, where it was built with our crates: a poll in pieces beside another thread's inserts
        peers fair ENTRIES ROUNDS, likewise: what these inserts wait, for some ways to be fair
        peers queue ENTRIES THREADS ROUNDS, likewise: a table of `DelayQueue` beside what it is made of and beside its peers
@@ -118,7 +118,7 @@ impl Timed {
     /// How many entries there may be: the queues of the last rows grow.
     fn most_entries(self) -> usize {
         match self {
-            Timed::One(Row::Grow | Row::Rest) => 1_000_000,
+            Timed::One(Row::Grow | Row::Rest | Row::Leave) => 1_000_000,
             _ => 65_536,
         }
     }
@@ -185,11 +185,12 @@ fn mine_of(timed: Timed) -> &'static [&'static str] {
         }
         Timed::One(Row::Extend) if is_unchecked => &["rust", "rust-open"],
         Timed::One(Row::Insert | Row::Poll) if is_unchecked => &["rust", "rust-open", "rust-alone"],
-        Timed::One(Row::Grow | Row::Rest) if is_unchecked => &[],
+        Timed::One(Row::Grow | Row::Rest | Row::Leave) if is_unchecked => &[],
         _ if is_unchecked => &["rust"],
         Timed::One(Row::Callers) => &["rust-checked", "adapter-handle", "queue"],
         Timed::One(Row::Grow) => &["adapter"],
         Timed::One(Row::Rest) => &["adapter", "stream", "queue"],
+        Timed::One(Row::Leave) => &["stream"],
         _ => &["rust-checked", "adapter", "adapter-handle", "queue"],
     }
 }
@@ -207,6 +208,7 @@ fn plain_peers_of(timed: Timed) -> Vec<&'static str> {
             return vec!["fetch-max", "heap-push-locked", "heap-note-locked", "heap-best-locked", "delay-queue-locked"]
         }
         Timed::One(Row::Grow | Row::Rest) => return vec!["delay-queue"],
+        Timed::One(Row::Leave) => return Vec::new(),
         Timed::Longest(_) => return vec!["delay-queue", "heap-note", "heap-best", "heap-indexed", "hashed-wheel"],
         Timed::Shards(..) => {
             return vec!["heap-note-locked", "heap-best-locked", "hashed-wheel-locked", "delay-queue-locked"]

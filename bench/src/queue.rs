@@ -29,6 +29,16 @@ pub trait Queue {
     fn begin_anew(&mut self) {
         panic!("a row of queues that grow");
     }
+
+    /// So many tasks wait for what is due.
+    fn wait(&mut self, _tasks: usize) {
+        panic!("a row of tasks that wait");
+    }
+
+    /// All of them go.
+    fn leave(&mut self) {
+        panic!("a row of tasks that wait");
+    }
 }
 
 /// A queue that several threads extend while its owner polls.

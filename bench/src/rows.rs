@@ -46,10 +46,11 @@ pub enum Row {
     Callers,
     Grow,
     Rest,
+    Leave,
 }
 
 impl Row {
-    pub const ALL: [(&'static str, Row); 15] = [
+    pub const ALL: [(&'static str, Row); 16] = [
         ("insert", Row::Insert),
         ("extend", Row::Extend),
         ("reset", Row::Reset),
@@ -65,6 +66,7 @@ impl Row {
         ("callers", Row::Callers),
         ("grow", Row::Grow),
         ("rest", Row::Rest),
+        ("leave", Row::Leave),
     ];
 
     /// Whether a round is one pass, which is long.
@@ -174,6 +176,7 @@ impl<'a, Q: Queue> Load<'a, Q> {
             Row::Callers => panic!("the row of the callers wants a queue that is shared"),
             Row::Grow => self.grow(),
             Row::Rest => self.rest(),
+            Row::Leave => self.leave(),
         }
         self.end_pass();
     }
@@ -334,6 +337,14 @@ impl<'a, Q: Queue> Load<'a, Q> {
         }
         self.spend(since, self.entries);
         assert_eq!(outs, 0, "nothing is due");
+    }
+
+    /// As many tasks as there are entries in other rows wait, and go.
+    fn leave(&mut self) {
+        self.queue.wait(self.entries);
+        let since = reading();
+        self.queue.leave();
+        self.spend(since, self.entries);
     }
 
     /// Idle timeouts: the sessions begin in one beat, each is touched once in each of the beats after it, and then most
