@@ -502,7 +502,7 @@ fn a_task_that_waits_asks_the_store_no_more() {
     paused().block_on(async {
         let mut queue = DelayQueue::new();
         let waker = Waker::from(Arc::new(Nobody));
-        let mut poll = |queue: &mut DelayQueue<String>| {
+        let poll = |queue: &mut DelayQueue<String>| {
             let before = ASKED.with(Cell::get);
             assert!(queue.poll_expired(&mut Context::from_waker(&waker)).is_pending());
             ASKED.with(Cell::get) - before
