@@ -286,7 +286,8 @@ def calls():
     """The instructions of the calls that the gate compares: a row for each, and a column for each queue."""
     found = {(row.partition("/")[0], peer): count for peer, row, count in rows_of("calls")[1:] if peer in stored.PLAN["calls"]}
     names, peers = (dict.fromkeys(it[at] for it in found) for at in (0, 1))
-    return grid(["Call", *(f"`{it}`" for it in peers)], ([name, *(found.get((name, it), "") for it in peers)] for name in names))
+    said = lambda name: re.sub(r"@(\d+)", lambda it: f", {int(it[1]):,} entries", name)
+    return grid(["Call", *(f"`{it}`" for it in peers)], ([said(name), *(found.get((name, it), "") for it in peers)] for name in names))
 
 
 def way():

@@ -16,9 +16,9 @@ use std::sync::{Arc, Mutex};
 mod polls;
 mod room;
 
-#[cfg(test)]
-pub(crate) use polls::AFTER_LOOK;
 pub(crate) use polls::NEVER;
+#[cfg(test)]
+pub(crate) use polls::{AFTER_LOOK, ASKED};
 
 type Core<T> = DelayCore<T, Keeper>;
 

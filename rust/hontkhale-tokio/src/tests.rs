@@ -1,7 +1,7 @@
 //! The entries beside a plain model, with slots that wear out after a few stamps, so that entries move all the time.
 
 use crate::budget::Budget;
-use crate::entries::{Entries, AFTER_LOOK};
+use crate::entries::{Entries, AFTER_LOOK, ASKED};
 use crate::handle::{EntryError, Handle};
 use crate::key::{Expired, Key};
 use crate::queue::DelayQueue;
@@ -494,6 +494,26 @@ fn ms(millis: u64) -> Duration {
 
 fn paused() -> tokio::runtime::Runtime {
     tokio::runtime::Builder::new_current_thread().enable_time().start_paused(true).build().expect("a runtime")
+}
+
+/// As in each turn of a `select!`, also after an insert that comes later.
+#[test]
+fn a_task_that_waits_asks_the_store_no_more() {
+    paused().block_on(async {
+        let mut queue = DelayQueue::new();
+        let waker = Waker::from(Arc::new(Nobody));
+        let poll = |queue: &mut DelayQueue<String>| {
+            let before = ASKED.with(Cell::get);
+            assert!(queue.poll_expired(&mut Context::from_waker(&waker)).is_pending());
+            ASKED.with(Cell::get) - before
+        };
+        (0..1_000).for_each(|at| _ = queue.insert("waits".to_string(), ms(100 + at)));
+        assert!(poll(&mut queue) > 0);
+        for _ in 0..100 {
+            queue.insert("later".to_string(), ms(5_000));
+            assert_eq!(poll(&mut queue), 0);
+        }
+    });
 }
 
 /// A queue whose handle extends entries between a look at them and what rests on the look.

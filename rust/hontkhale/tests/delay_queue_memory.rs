@@ -4,9 +4,9 @@
 use hontkhale::{DelayQueue, InsertErrorKind, Key, KeyError, ManualClock};
 use std::alloc::{GlobalAlloc, Layout, System};
 use std::cell::Cell;
-use std::sync::atomic::{AtomicIsize, Ordering::SeqCst};
+use std::sync::atomic::{AtomicIsize, AtomicUsize, Ordering::SeqCst};
 use std::sync::mpsc::channel;
-use std::sync::{Barrier, Mutex, MutexGuard, PoisonError};
+use std::sync::{Barrier, Mutex, MutexGuard, OnceLock, PoisonError};
 use std::thread;
 use std::time::Duration;
 
@@ -24,6 +24,21 @@ thread_local! {
     static GRANTS: Cell<Option<u64>> = const { Cell::new(None) };
     /// How many more allocations of this thread are refused, while this is so many.
     static REFUSALS: Cell<u64> = const { Cell::new(0) };
+    /// What this thread does before it takes, or gives back, as much memory as a core has.
+    static BEFORE: Cell<Option<fn()>> = const { Cell::new(None) };
+}
+
+/// What a core takes at least that has some hundred slots.
+const OF_A_CORE: usize = 8_192;
+
+/// The call is made with the memory that it takes itself left out.
+fn before(size: usize) {
+    if size >= OF_A_CORE {
+        if let Some(call) = BEFORE.take() {
+            call();
+            BEFORE.set(Some(call));
+        }
+    }
 }
 
 struct Counting;
@@ -52,12 +67,14 @@ unsafe impl GlobalAlloc for Counting {
         if !is_granted(layout.size()) {
             return std::ptr::null_mut();
         }
+        before(layout.size());
         USED.fetch_add(layout.size() as isize, SeqCst);
         // SAFETY: as the caller says.
         unsafe { System.alloc(layout) }
     }
 
     unsafe fn dealloc(&self, ptr: *mut u8, layout: Layout) {
+        before(layout.size());
         USED.fetch_sub(layout.size() as isize, SeqCst);
         // SAFETY: as the caller says.
         unsafe { System.dealloc(ptr, layout) }
@@ -73,6 +90,12 @@ fn used() -> isize {
     USED.load(SeqCst)
 }
 
+/// Whether a queue tells about as many bytes as it takes.
+fn is_about(told: usize, taken: isize) -> bool {
+    println!("{told} bytes are told of {taken}");
+    10 * (told as isize - taken).abs() <= taken
+}
+
 /// How many bytes there are more than before, once a queue has a million entries, and once `ends` ended them.
 fn taken_and_left(ends: impl FnOnce(&DelayQueue<u64>, &ManualClock, &[Key])) -> (isize, isize) {
     let clock = ManualClock::new();
@@ -85,9 +108,11 @@ fn taken_and_left(ends: impl FnOnce(&DelayQueue<u64>, &ManualClock, &[Key])) -> 
         .step_by(1_000)
         .for_each(|key| assert!(queue.extend(key, FAR).is_ok()));
     let taken = used() - before;
+    assert!(is_about(queue.stats().memory, taken));
     ends(&queue, &clock, &keys);
     assert!(queue.is_empty() && queue.try_recv().is_err());
     let left = used() - before;
+    assert!(is_about(queue.stats().memory, left));
     assert!((0..2 * MILLION as u64)
         .step_by(1_000)
         .all(|number| queue.insert(number, FAR).is_ok()));
@@ -140,17 +165,24 @@ fn after_a_million_entries_were_cancelled_the_words_stay() {
     });
 }
 
-/// Wherever it stands, it is moved to a smaller place once a receiver has time.
+/// Wherever it stands, it is moved to a smaller place once a receiver has time. Of the fewer ones, half were in one place.
 #[test]
-fn of_one_entry_that_is_left_of_a_million_the_words_stay() {
+fn of_one_entry_that_is_left_of_many_the_words_stay() {
     let _alone = alone();
-    for left in [0, MILLION / 2, MILLION - 1] {
-        let mut keys: Vec<Key> = Vec::with_capacity(MILLION);
+    let few = 100_000;
+    for (entries, left) in [
+        (MILLION, 0),
+        (MILLION, MILLION / 2),
+        (MILLION, MILLION - 1),
+        (few, few / 2),
+        (few, few - 1),
+    ] {
+        let mut keys: Vec<Key> = Vec::with_capacity(entries);
         let before = used();
         let queue = DelayQueue::builder().shards(4).build();
-        keys.extend((0..MILLION as u64).map(|number| queue.insert(number, FAR).expect("room")));
+        keys.extend((0..entries as u64).map(|number| queue.insert(number, FAR).expect("room")));
         let taken = used() - before;
-        let ends = (0..MILLION).filter(|number| *number != left);
+        let ends = (0..entries).filter(|number| *number != left);
         ends.for_each(|number| assert!(queue.remove(&keys[number]).is_ok()));
         (0..100).for_each(|_| assert!(queue.try_recv().is_err()));
         let stays = used() - before;
@@ -273,6 +305,78 @@ fn a_thread_that_extended_and_idles_keeps_nothing() {
     });
 }
 
+/// A queue of which another thread asks while this one takes and gives back memory, how often, and whether an answer came each time.
+static ASKED: OnceLock<DelayQueue<u64>> = OnceLock::new();
+static ASKS: AtomicUsize = AtomicUsize::new(0);
+static ANSWERS: AtomicUsize = AtomicUsize::new(0);
+
+/// Takes the lock of each shard in another thread, unless no answer came before.
+fn asks() {
+    if ANSWERS.load(SeqCst) < ASKS.load(SeqCst) {
+        return;
+    }
+    let (tells, told) = channel();
+    thread::spawn(move || tells.send(ASKED.get().map(DelayQueue::stats).is_some()));
+    ASKS.fetch_add(1, SeqCst);
+    let is_told = told.recv_timeout(Duration::from_secs(20)) == Ok(true);
+    ANSWERS.fetch_add(usize::from(is_told), SeqCst);
+}
+
+#[test]
+fn no_lock_is_held_while_a_core_is_made_or_given_back() {
+    let _alone = alone();
+    let queue = ASKED.get_or_init(|| DelayQueue::builder().shards(2).build());
+    let mut keys: Vec<Key> = Vec::with_capacity(20_000);
+    BEFORE.set(Some(asks));
+    keys.extend((0..20_000).map(|number| queue.insert(number, FAR).expect("room")));
+    keys.iter().for_each(|key| assert!(queue.remove(key).is_ok()));
+    (0..10).for_each(|_| assert!(queue.try_recv().is_err()));
+    assert!(queue.reserve(30_000).is_ok());
+    BEFORE.set(None);
+    let (asks, answers) = (ASKS.load(SeqCst), ANSWERS.load(SeqCst));
+    assert!(asks > 20 && answers == asks, "{answers} answers of {asks}");
+}
+
+/// Neither does what a thread keeps of another queue make it take some again.
+#[test]
+fn calls_without_a_lock_take_no_memory() {
+    let _alone = alone();
+    let queues: Vec<DelayQueue<u64>> = (0..20).map(|_| DelayQueue::new()).collect();
+    let keys: Vec<Key> = queues.iter().map(|queue| queue.insert(7, FAR).expect("room")).collect();
+    for turn in 1..=10 {
+        for (queue, key) in queues.iter().zip(&keys) {
+            GRANTS.set(Some(0));
+            let are_made = queue.extend(key, turn * FAR).is_ok() && queue.deadline(key).is_ok();
+            let is_reset = queue.reset(key, 2 * turn * FAR).is_ok();
+            let is_ended = turn < 10 || queue.cancel(key).is_ok();
+            GRANTS.set(None);
+            assert!(are_made && is_reset && is_ended);
+        }
+    }
+}
+
+/// Each of them has been in use, and has nothing more.
+#[test]
+fn a_shard_that_was_used_once_takes_little() {
+    const SHARDS: isize = 64;
+    let _alone = alone();
+    let before = used();
+    let queue = DelayQueue::builder().shards(SHARDS as usize).build();
+    // These go to the shards by turns.
+    for _ in 0..SHARDS {
+        thread::scope(|scope| {
+            scope.spawn(|| {
+                let key = queue.insert(7_u64, FAR).expect("room");
+                assert_eq!(queue.remove(&key), Ok(7));
+            });
+        });
+    }
+    assert!(queue.try_recv().is_err());
+    let taken = used() - before;
+    println!("{} bytes a shard", taken / SHARDS);
+    assert!(taken < 20_000 * SHARDS, "{taken}");
+}
+
 /// Each allocation of an insert is refused in turn, until none is left to refuse.
 #[test]
 fn a_refused_insert_gives_its_value_back_and_changes_nothing() {
@@ -305,6 +409,32 @@ fn a_refused_insert_gives_its_value_back_and_changes_nothing() {
         }
     }
     assert!(refusals > 5, "{refusals}");
+}
+
+/// The next core of its size goes on with them.
+#[test]
+fn the_words_stay_of_a_core_that_is_refused() {
+    let _alone = alone();
+    let queue = DelayQueue::builder().shards(1).build();
+    let (mut keys, mut refusals) = (Vec::with_capacity(2_000), 0);
+    let mut fills_and_empties = || {
+        while keys.len() < 2_000 {
+            REFUSALS.set(1);
+            let inserted = queue.insert(7_u64, FAR);
+            refusals += usize::from(REFUSALS.replace(0) == 0);
+            keys.push(inserted.or_else(|_| queue.insert(7, FAR)).expect("room"));
+        }
+        keys.drain(..).for_each(|key| assert!(queue.remove(&key).is_ok()));
+        (0..10).for_each(|_| assert!(queue.try_recv().is_err()));
+        used()
+    };
+    (0..10).for_each(|_| _ = fills_and_empties());
+    let before = fills_and_empties();
+    let more = (0..50).map(|_| fills_and_empties() - before).max();
+    assert!(
+        refusals > 100 && more < Some(100_000),
+        "{refusals} refusals, {more:?} bytes more"
+    );
 }
 
 /// Each of the two has 64 slots, and these threads go to both.

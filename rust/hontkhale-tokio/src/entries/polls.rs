@@ -14,6 +14,15 @@ pub(crate) const NEVER: u64 = u64::MAX;
 thread_local! {
     /// What a test does once, in this thread, between a look at the entry that comes first and what rests on the look.
     pub(crate) static AFTER_LOOK: std::cell::Cell<Option<Box<dyn FnOnce()>>> = const { std::cell::Cell::new(None) };
+    /// How often this thread has asked stores for what comes out, or when.
+    pub(crate) static ASKED: std::cell::Cell<usize> = const { std::cell::Cell::new(0) };
+}
+
+/// Counts a question to the store.
+#[inline(always)]
+fn asked() {
+    #[cfg(test)]
+    ASKED.with(|asked| asked.set(asked.get() + 1));
 }
 
 /// Where a handle's call may come between: see `AFTER_LOOK`.
@@ -30,12 +39,14 @@ impl<T> Entries<T> {
     /// `wake`.
     #[inline(always)]
     pub fn poll(&mut self, reached: u64, most: u32) -> Result<Piece<T>, CoreError> {
+        asked();
         self.store.poll_some(reached, most)
     }
 
     /// The same of a whole poll: where no limit is wanted it takes fewer instructions for each entry that moves.
     #[inline(always)]
     pub fn poll_whole(&mut self, reached: u64) -> Result<Piece<T>, CoreError> {
+        asked();
         self.store.poll(reached)
     }
 
@@ -99,6 +110,7 @@ impl<T> Entries<T> {
 
     /// Whether a core has a step to make before a tick.
     pub fn has_step_before(&self, tick: u64) -> bool {
+        asked();
         self.store.cores().next_wake().is_some_and(|next| next < tick)
     }
 

@@ -388,11 +388,21 @@ impl<T> Drop for Shared<T> {
 #[cfg(test)]
 mod tests {
     use crate::delay_queue::{Key, Timeout};
+    use crate::index::looked;
     use crate::locks::taken;
     use crate::DelayQueue;
+    use std::cell::RefCell;
+    use std::sync::Arc;
+    use std::task::{Context, Wake, Waker};
     use std::time::{Duration, Instant};
 
     const FAR: Duration = Duration::from_secs(1_000);
+
+    struct Sleeps;
+
+    impl Wake for Sleeps {
+        fn wake(self: Arc<Self>) {}
+    }
 
     #[test]
     fn an_entry_that_comes_and_is_cancelled_meanwhile_hides_none_that_stays() {
@@ -413,13 +423,23 @@ mod tests {
         let keys: Vec<Key> = (0..2).map(|number| queue.insert(number, FAR).expect("room")).collect();
         assert!(queue.try_recv().is_err());
         let (key, handle) = (&keys[0], queue.handle());
+        let (task, waker) = (RefCell::new(queue.receiver()), Waker::from(Arc::new(Sleeps)));
         type Call<'c> = (&'static str, usize, Box<dyn Fn() -> bool + 'c>);
-        let calls: [Call<'_>; 11] = [
+        let calls: [Call<'_>; 12] = [
             ("extend", 0, Box::new(|| queue.extend(key, FAR * 2).is_ok())),
             ("a handle's extend", 0, Box::new(|| handle.extend(key, FAR * 3).is_ok())),
             ("deadline", 0, Box::new(|| queue.deadline(key).is_ok())),
             ("a later reset", 0, Box::new(|| queue.reset(key, FAR * 4).is_ok())),
             ("nothing due", 0, Box::new(|| queue.try_recv().is_err())),
+            (
+                "a task that waits",
+                0,
+                Box::new(|| {
+                    task.borrow_mut()
+                        .poll_recv(&mut Context::from_waker(&waker))
+                        .is_pending()
+                }),
+            ),
             ("not due", 0, Box::new(|| queue.remove_if_due(key) == Ok(None))),
             ("len", 0, Box::new(|| queue.len() == 2)),
             ("a sooner reset", 1, Box::new(|| queue.reset(key, FAR).is_ok())),
@@ -455,6 +475,54 @@ mod tests {
         queue.cancel(&key).expect("it waits");
         (0..10).for_each(|_| assert!(queue.try_recv().is_err()));
         assert_eq!(taken::by(|| queue.try_recv().is_err()), (true, 0));
+    }
+
+    /// They are the values of another one's value.
+    #[test]
+    fn a_queue_that_rests_takes_no_lock_once_what_a_drop_let_go_is_dropped() {
+        struct Link(#[allow(dead_code)] Vec<Timeout<Link>>);
+        let queue = DelayQueue::builder().shards(2).build();
+        let guard = |behind| queue.guard(Link(behind), FAR).expect("room");
+        drop(guard(vec![guard(Vec::new()), guard(Vec::new())]));
+        assert!(queue.is_empty() && queue.try_recv().is_err());
+        assert_eq!(taken::by(|| queue.try_recv().is_err()), (true, 0));
+    }
+
+    /// What a thread keeps of one queue would be in the way of others.
+    #[test]
+    fn calls_of_many_queues_by_turns_take_no_lock() {
+        let queues: Vec<DelayQueue<String>> = (0..20).map(|_| DelayQueue::builder().shards(1).build()).collect();
+        let insert = |queue: &DelayQueue<String>| queue.insert("waits".to_string(), FAR).expect("room");
+        let keys: Vec<Key> = queues.iter().map(insert).collect();
+        for (queue, key) in queues.iter().zip(&keys).cycle().take(100) {
+            let calls = || queue.extend(key, FAR * 2).is_ok() && queue.handle().deadline(key).is_ok();
+            assert_eq!(taken::by(calls), (true, 0));
+        }
+    }
+
+    /// The steps are those that look at an index, in one shard that has all entries.
+    #[test]
+    fn each_call_makes_few_steps_however_many_entries_there_are() {
+        let queue = DelayQueue::builder().shards(1).build();
+        let insert = |number: u64| queue.insert(number, FAR + Duration::from_millis(number)).expect("room");
+        let keys: Vec<Key> = (0..50_000).map(insert).collect();
+        assert!(queue.try_recv().is_err());
+        type Call<'c> = (&'static str, Box<dyn Fn(&Key) -> bool + 'c>);
+        let calls: [Call<'_>; 7] = [
+            ("insert", Box::new(|_| queue.insert(0, FAR).is_ok())),
+            ("extend", Box::new(|key| queue.extend(key, FAR * 2).is_ok())),
+            ("a sooner reset", Box::new(|key| queue.reset(key, FAR).is_ok())),
+            ("nothing due", Box::new(|_| queue.try_recv().is_err())),
+            ("remove", Box::new(|key| queue.remove(key).is_ok())),
+            ("nothing due after a remove", Box::new(|_| queue.try_recv().is_err())),
+            ("len", Box::new(|_| !queue.is_empty())),
+        ];
+        for key in keys.iter().step_by(100) {
+            for (name, call) in &calls {
+                let steps = looked::by(|| assert!(call(key), "{name}"));
+                assert!(steps <= 1_000, "{name}: {steps}");
+            }
+        }
     }
 
     /// It found the queue open before the close.

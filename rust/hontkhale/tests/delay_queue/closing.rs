@@ -47,6 +47,19 @@ fn a_receiver_of_an_empty_queue_ends_with_the_last_clone() {
     });
 }
 
+#[test]
+fn a_receivers_queue_is_one_clone_more() {
+    let queue = DelayQueue::new();
+    let receiver = queue.receiver();
+    drop(receiver.queue());
+    assert!(queue.insert("first".to_string(), FAR).is_ok());
+    let clone = receiver.queue();
+    drop(queue);
+    assert!(clone.insert("second".to_string(), FAR).is_ok());
+    drop(clone);
+    assert!(receiver.queue().is_closed());
+}
+
 /// The other end is a guard's, or a handle's.
 #[test]
 fn what_inserts_nothing_keeps_no_receiver() {

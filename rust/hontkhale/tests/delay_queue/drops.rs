@@ -1,7 +1,7 @@
 //! Whose call drops a value: no insert that has room does, and a queue's values aren't kept by another queue's drop.
 
 use crate::kit::{ms, within_the_limit, Drops, Value, FAR};
-use hontkhale::{DelayQueue, ManualClock, Timeout};
+use hontkhale::{DelayQueue, InsertErrorKind, ManualClock, Timeout};
 use std::panic::{catch_unwind, AssertUnwindSafe};
 use std::sync::atomic::{AtomicUsize, Ordering::SeqCst};
 use std::sync::mpsc::channel;
@@ -302,6 +302,23 @@ fn what_a_drop_within_other_queues_drops_lets_go_is_dropped_after_it() {
     });
     drop(guard(0, outer));
     assert!(drops.are_once(4));
+}
+
+/// The queue is closed while the value is made, and refuses it.
+#[test]
+fn what_a_drop_made_in_vain_is_dropped_after_it() {
+    let (queue, drops) = (DelayQueue::new(), Drops::default());
+    let (clone, counts) = (queue.clone(), drops.clone());
+    let makes = drops.value(0).then(move || {
+        let make = |_| {
+            clone.close_when_empty();
+            counts.value(1)
+        };
+        assert_eq!(clone.insert_with(make, FAR), Err(InsertErrorKind::Closed));
+        assert_eq!((clone.stats().deferred, counts.count(1)), (1, 0));
+    });
+    drop(queue.guard(makes, FAR).expect("room"));
+    assert!(queue.is_empty() && drops.are_once(2));
 }
 
 #[test]

@@ -1,7 +1,7 @@
 //! A queue grows as entries come, up to its bound, and uses again what has ended.
 
 use crate::kit::{ms, within_the_limit, Drops, Value, FAR};
-use hontkhale::{DelayQueue, InsertErrorKind, ManualClock, Metrics};
+use hontkhale::{DelayQueue, InsertErrorKind, Key, ManualClock, Metrics};
 use std::cell::Cell;
 use std::sync::{Arc, Barrier, OnceLock};
 use std::task::{Context, Poll, Wake, Waker};
@@ -112,6 +112,34 @@ fn an_insert_frees_what_was_cancelled() {
     assert!(stats.cancelled < 5_000 && stats.memory < 1_000_000, "{stats}");
     drop(queue);
     assert!(drops.are_once(50_000));
+}
+
+/// What is there lives for a moment, so that the first few slots serve all of them.
+#[test]
+fn a_queue_grows_for_no_entry_that_was_cancelled() {
+    let queue = DelayQueue::builder().shards(1).build();
+    let inserts_and_cancels = |number: u64| {
+        let key = queue.insert(number, FAR).expect("room");
+        assert!(queue.cancel(&key).is_ok());
+        queue.stats().memory
+    };
+    let memory = inserts_and_cancels(0);
+    let most = (1..20_000).map(inserts_and_cancels).max();
+    assert!(most <= Some(2 * memory), "{most:?} of {memory}");
+}
+
+/// The slots serve one insert each, and what stays in each core is due, and isn't moved.
+#[test]
+fn a_shard_that_may_have_no_core_more_leaves_inserts_to_another_one() {
+    let queue = DelayQueue::builder().shards(2).last_stamp(1).build();
+    let shard_of = |key: Key| format!("{key:?}").contains("shard: 0");
+    let first = queue.insert(0, Duration::ZERO).expect("room");
+    let other = (1..100_000).find(|number| {
+        let key = queue.insert(*number, Duration::ZERO).expect("room in the other shard");
+        assert!(number % 64 == 0 || queue.remove(&key).is_ok());
+        shard_of(key) != shard_of(first)
+    });
+    assert!(other > Some(64 * 64), "{other:?}");
 }
 
 #[test]
@@ -340,6 +368,21 @@ fn the_lateness_is_told_by_powers_of_two_until_it_is_reset() {
         (stats.latest, stats.lateness.iter().sum::<u64>(), stats.expired),
         (ms(0), 0, 12)
     );
+}
+
+/// Each thread's entries are in the shard of that thread.
+#[test]
+fn the_lateness_is_reset_in_all_shards() {
+    let clock = ManualClock::new();
+    let queue = DelayQueue::builder().clock(&clock).shards(2).build();
+    let inserts = || assert!(queue.insert("late".to_string(), Duration::ZERO).is_ok());
+    thread::scope(|scope| (0..16).for_each(|_| drop(scope.spawn(inserts))));
+    clock.advance(ms(5));
+    assert_eq!(queue.try_iter().count(), 16);
+    let told = || (queue.stats().latest, queue.stats().lateness.iter().sum::<u64>());
+    assert_eq!(told(), (ms(5), 16));
+    queue.reset_lateness();
+    assert_eq!(told(), (ms(0), 0));
 }
 
 static ASKED: OnceLock<DelayQueue<u64>> = OnceLock::new();

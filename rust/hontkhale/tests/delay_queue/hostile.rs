@@ -3,8 +3,8 @@
 use crate::kit::{ms, within_the_limit, Drops, FAR};
 use hontkhale::{DelayQueue, InsertErrorKind, Key, KeyError, ManualClock, Receiver, RecvTimeoutError, TryRecvError};
 use std::panic::{catch_unwind, AssertUnwindSafe};
-use std::sync::atomic::{AtomicBool, AtomicUsize, Ordering::SeqCst};
-use std::sync::{mpsc, Arc, Barrier, Mutex};
+use std::sync::atomic::{AtomicBool, AtomicU64, AtomicUsize, Ordering::SeqCst};
+use std::sync::{mpsc, Arc, Barrier, Mutex, OnceLock};
 use std::task::{Context, Poll, Wake, Waker};
 use std::thread;
 use std::time::{Duration, Instant};
@@ -175,6 +175,107 @@ fn receivers_go_within_a_wake() {
     });
 }
 
+/// A waker that drops its own receiver.
+struct LetsItself(Mutex<Option<Receiver<String>>>);
+
+impl Wake for LetsItself {
+    fn wake(self: Arc<Self>) {
+        let receiver = self.0.lock().expect("no panic").take();
+        drop(receiver);
+    }
+}
+
+#[test]
+fn no_waker_stands_on_the_stack_of_another() {
+    let let_each_other_go = || {
+        let queue = DelayQueue::builder().shards(1).build();
+        let waits = |_| {
+            let (mut receiver, lets) = (queue.receiver(), Arc::new(LetsItself(Mutex::default())));
+            let waker = Waker::from(lets.clone());
+            assert!(receiver.poll_recv(&mut Context::from_waker(&waker)).is_pending());
+            *lets.0.lock().expect("no panic") = Some(receiver);
+            lets
+        };
+        let tasks: Vec<_> = (0..5_000).map(waits).collect();
+        queue.insert("due".to_string(), Duration::ZERO).expect("room");
+        assert!(tasks.iter().all(|task| task.0.lock().expect("no panic").is_none()));
+    };
+    // It holds some hundred calls.
+    let thread = thread::Builder::new().stack_size(256 * 1_024);
+    thread
+        .spawn(let_each_other_go)
+        .expect("a thread")
+        .join()
+        .expect("no panic");
+}
+
+/// A waker that polls its receiver, and panics then, the first time.
+struct PollsAndPanics {
+    task: Mutex<Receiver<String>>,
+    wakes: AtomicUsize,
+}
+
+impl PollsAndPanics {
+    fn poll(self: &Arc<Self>) {
+        let waker = Waker::from(Arc::clone(self));
+        let mut task = self.task.lock().expect("no panic");
+        assert!(task.poll_recv(&mut Context::from_waker(&waker)).is_pending());
+    }
+}
+
+impl Wake for PollsAndPanics {
+    fn wake(self: Arc<Self>) {
+        if self.wakes.fetch_add(1, SeqCst) == 0 {
+            self.poll();
+            panic!("a waker that panics");
+        }
+    }
+}
+
+/// It isn't in line any more.
+#[test]
+fn a_task_that_was_polled_by_its_waker_is_woken_once_more_where_that_panics() {
+    let queue = DelayQueue::builder().clock(&ManualClock::new()).build();
+    let polls = Arc::new(PollsAndPanics {
+        task: Mutex::new(queue.receiver()),
+        wakes: AtomicUsize::new(0),
+    });
+    polls.poll();
+    assert!(catch_unwind(AssertUnwindSafe(|| queue.insert("waits".to_string(), FAR))).is_err());
+    assert_eq!(polls.wakes.load(SeqCst), 2);
+}
+
+/// A waker that has another thread put something in, and takes the wake that this one is given for it.
+struct Parks(DelayQueue<String>);
+
+impl Wake for Parks {
+    fn wake(self: Arc<Self>) {
+        let queue = self.0.clone();
+        let inserts = thread::spawn(move || queue.insert("due".to_string(), Duration::ZERO).is_ok());
+        assert!(inserts.join().expect("no panic"));
+        thread::park();
+    }
+}
+
+/// It takes the lead from a task that was to have acted, and wakes that one.
+#[test]
+fn a_receiver_that_wakes_another_one_looks_again() {
+    static PASSED: AtomicU64 = AtomicU64::new(0);
+    fn now() -> Instant {
+        static START: OnceLock<Instant> = OnceLock::new();
+        *START.get_or_init(Instant::now) + ms(PASSED.load(SeqCst))
+    }
+    within_the_limit(|| {
+        let queue = DelayQueue::builder().read_clock(now).build();
+        let key = queue.insert("waits".to_string(), ms(10)).expect("room");
+        let (mut task, waker) = (queue.receiver(), Waker::from(Arc::new(Parks(queue.clone()))));
+        assert!(task.poll_recv(&mut Context::from_waker(&waker)).is_pending());
+        queue.extend(&key, FAR).expect("it waits");
+        PASSED.store(100, SeqCst);
+        assert_eq!(queue.recv().map(|out| out.value).as_deref(), Some("due"));
+    });
+}
+
 #[test]
 fn a_guard_that_is_forgotten_keeps_no_receiver() {
     within_the_limit(|| {
@@ -334,6 +435,53 @@ fn a_clock_that_panics_loses_nothing() {
         assert_eq!(queue.clear(), 1);
         assert!(queue.wait_empty(Duration::MAX));
     });
+}
+
+/// A moment is told, and the clock is read for the receiver alone that is woken.
+#[test]
+fn a_clock_that_panics_keeps_no_task_asleep() {
+    static BREAKS: AtomicBool = AtomicBool::new(false);
+    fn now() -> Instant {
+        assert!(!BREAKS.load(SeqCst), "a clock that panics");
+        Instant::now()
+    }
+    let queue = DelayQueue::builder().read_clock(now).build();
+    // There is room from then on.
+    let key = queue.insert(0, FAR).expect("room");
+    assert_eq!(queue.remove(&key), Ok(0));
+    let held = Arc::new(Mutex::new(Vec::new()));
+    let (mut task, waker) = (queue.receiver(), Waker::from(Arc::new(Lets(held.clone()))));
+    assert!(task.poll_recv(&mut Context::from_waker(&waker)).is_pending());
+    held.lock().expect("no panic").push(queue.receiver());
+    let when = Instant::now();
+    BREAKS.store(true, SeqCst);
+    assert!(catch_unwind(AssertUnwindSafe(|| queue.insert_at(1, when))).is_err());
+    BREAKS.store(false, SeqCst);
+    // It was called.
+    assert!(held.lock().expect("no panic").is_empty());
+    assert_eq!(queue.recv().map(|out| out.value), Some(1));
+}
+
+/// The lock of the entry's shard is held meanwhile.
+#[test]
+fn a_closure_closes_its_queue_and_the_receivers_end() {
+    type Close = fn(&DelayQueue<u64>, &Key);
+    let closes: [Close; 3] = [
+        |queue, key| queue.get(key, |_| queue.close_when_empty()).expect("it waits"),
+        |queue, key| queue.get_mut(key, |_| queue.close_when_empty()).expect("it waits"),
+        |queue, _| {
+            let made = queue.insert_with(|_| (queue.close_when_empty(), 2).1, FAR);
+            assert_eq!(made, Err(InsertErrorKind::Closed));
+        },
+    ];
+    for close in closes {
+        let queue = DelayQueue::builder().shards(1).build();
+        let (receiver, key) = (queue.receiver(), queue.insert(1, FAR).expect("room"));
+        close(&queue, &key);
+        assert_eq!(receiver.try_recv().map(|_| ()), Err(TryRecvError::Empty));
+        queue.cancel(&key).expect("it waits");
+        assert_eq!(receiver.try_recv().map(|_| ()), Err(TryRecvError::Closed));
+    }
 }
 
 /// Its drop leaves the last clone, whose close wakes the receiver that drops it.

@@ -171,6 +171,27 @@ fn a_queue_that_rests_wakes_nobody() {
     });
 }
 
+/// Nobody tells a thread that a program's clock has gone on.
+#[test]
+fn a_receiver_by_a_programs_clock_wakes_by_itself() {
+    within_the_limit(|| {
+        let queue = DelayQueue::builder().read_clock(Instant::now).build();
+        queue.insert("due".to_string(), ms(20)).expect("room");
+        assert_eq!(queue.recv().map(|out| out.value).as_deref(), Some("due"));
+        assert!(queue.recv_timeout(ms(5)).is_err() && !queue.is_closed());
+    });
+}
+
+#[test]
+fn what_has_ended_is_not_late() {
+    let clock = ManualClock::new();
+    let queue = DelayQueue::builder().clock(&clock).build();
+    let key = queue.insert("removed".to_string(), ms(5)).expect("room");
+    assert!(queue.remove(&key).is_ok());
+    clock.advance(ms(12));
+    assert_eq!((queue.stats().late, queue.next_deadline()), (ms(0), None));
+}
+
 #[test]
 fn the_lateness_is_told() {
     let clock = ManualClock::new();

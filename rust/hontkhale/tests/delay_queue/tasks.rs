@@ -476,6 +476,27 @@ fn a_task_that_lost_its_place_joins_the_line_again() {
     assert_eq!(woken(&tasks), []);
 }
 
+/// The one that led took an entry, and calls it.
+#[test]
+fn a_task_that_is_called_to_lead_and_is_not_polled_is_passed_over() {
+    let clock = ManualClock::new();
+    let queue = DelayQueue::builder().clock(&clock).build();
+    let (mut tasks, due) = (waiting(&queue, 3), clock.now() + 10 * SECOND);
+    queue.insert(1, Duration::ZERO).expect("room");
+    assert_eq!(woken(&tasks), [0]);
+    let (receiver, wakes) = &mut tasks[0];
+    assert_eq!(poll(receiver, wakes), Poll::Ready(Some(1)));
+    assert_eq!(woken(&tasks), [2]);
+    queue.insert_at(2, due).expect("room");
+    let (receiver, wakes) = &mut tasks[1];
+    assert!(poll(receiver, wakes).is_pending());
+    let again = receiver.wake_at().expect("it looks again");
+    assert!(again < clock.now() + SECOND);
+    clock.advance(again - clock.now());
+    assert!(poll(receiver, wakes).is_pending());
+    assert_eq!(receiver.wake_at(), Some(due));
+}
+
 #[test]
 fn a_task_that_nobody_polls_keeps_no_thread_from_an_entry() {
     within_the_limit(|| {
