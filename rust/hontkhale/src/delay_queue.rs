@@ -675,7 +675,8 @@ impl<T> DelayQueue<T> {
     }
 
     /// Closes the queue: from now on it takes no values, and its receivers get what is due and then none. What waits stays
-    /// there, for [`drain`](DelayQueue::drain).
+    /// there, for [`drain`](DelayQueue::drain). An insert that another thread makes meanwhile is refused, or its entry is there,
+    /// too.
     ///
     /// # Panics
     /// If a task's waker panics. All receivers are woken before.

@@ -221,8 +221,8 @@ impl<T> Shared<T> {
     fn is_in(&self, shard: Locked<'_, T>, key: Key) -> Result<Key, T> {
         // A waker that panics takes the key along, but not the entry.
         self.leave(shard, 0);
-        if self.common.ends.ends_when_empty() {
-            // It may have come out meanwhile.
+        if self.common.ends.refuses() {
+            // It may have come out meanwhile. Else none takes it out: a drain behind the close may have been there before.
             if let Ok(value) = self.remove(&key) {
                 return Err(value);
             }
@@ -527,15 +527,18 @@ mod tests {
 
     /// It found the queue open before the close.
     #[test]
-    fn an_insert_that_is_under_way_as_the_receivers_end_takes_its_entry_back() {
-        let queue = DelayQueue::builder().shards(1).build();
-        let first = queue.insert("first", FAR).expect("room");
-        assert_eq!(queue.remove(&first), Ok("first"));
-        queue.close_when_empty();
-        let mut store = queue.shared.lock(0);
-        let late = store.insert("late", 5);
-        assert_eq!(queue.shared.is_in(store, late), Err("late"));
-        assert!(queue.is_empty() && queue.recv().is_none());
+    fn an_insert_that_is_under_way_as_the_queue_closes_takes_its_entry_back() {
+        for close in [DelayQueue::close_when_empty, DelayQueue::close] {
+            let queue = DelayQueue::builder().shards(1).build();
+            let first = queue.insert("first".to_string(), FAR).expect("room");
+            assert_eq!(queue.remove(&first).as_deref(), Ok("first"));
+            close(&queue);
+            assert_eq!(queue.drain().count(), 0);
+            let mut store = queue.shared.lock(0);
+            let late = store.insert("late".to_string(), 5);
+            assert_eq!(queue.shared.is_in(store, late), Err("late".to_string()));
+            assert!(queue.is_empty() && queue.recv().is_none());
+        }
     }
 
     /// What a refused one made isn't there when the queue grows by itself.
