@@ -194,12 +194,15 @@ impl<T> Receiver<T> {
 
     /// Sleeps in line, at most until the tick that it tells; none where something came meanwhile.
     fn sleep(&mut self, waker: &Waker) -> Option<u64> {
-        let shared = &self.shared;
-        shared.maintain_all();
-        if shared.common.least_hint() <= shared.common.time.tick() {
+        let common = &self.shared.common;
+        self.shared.maintain_all();
+        // Whoever leads looks at the hints once more as it sleeps.
+        let (until, now) = (common.least_hint(), common.time.tick());
+        if until <= now {
             return None;
         }
-        shared.common.sleep(&mut self.seat, Wakes::Task(waker.clone()))
+        let wakes = Wakes::Task(waker.clone());
+        common.receivers.sleep(&mut self.seat, wakes, until, now)
     }
 
     /// When the task is to poll again, unless it is woken before; none where only an insert or a close is waited for, or the
