@@ -2,7 +2,7 @@
 //!
 //! Whoever shares a store behind a lock tells others this tick, the *hint*, so that they take the lock only if something
 //! may be due. It is never later than the deadline of a live entry: an insert and a reset lower it, and a poll that finds
-//! nothing due raises it.
+//! nothing due sets it anew.
 
 ghost use Rattle.std.specs.Prelude.{◌≡◌, ◌≤◌, ◌⊎◌, max, min, true, false, length, IfSome, IfNone, IfErr, IfOk, OnOk, OnErr, OnSome};
 ghost use Rattle.std.specs.Fn.{FnOnceReturnsAtMut};
