@@ -4,9 +4,11 @@ the wrong bodies.
 
   .ci/run            with one wrong body for each row of crates/PROMISES.md, drawn by the commit's hash, and with all of the
                      crates that changed since the last whole run
-  .ci/run --all      with all wrong bodies: a whole run
-  .. --store         and writes to bench/results/gate.tsv what the parts took, and the commit, if nothing failed; hold it
-                     to two cores by `taskset -c 0,1`
+  .ci/run --all      with all wrong bodies, a whole run: first with one for each row, and then with the others
+  .ci/run --all --store
+                     and writes to bench/results/gate.tsv the commit, and what the parts took, if nothing failed: of the
+                     whole run, and of what `.ci/run` is for the same commit then, which is the same run without the
+                     others; hold it to two cores by `taskset -c 0,1`
 
 A crate has changed if a file below its src/, specs/, proofs/ or edits/ isn't as in the commit that gate.tsv has of a whole
 run; what is only below it in the graph doesn't count. If this clone hasn't that commit, or tools/ or crates.txt changed,
@@ -67,9 +69,15 @@ TOOK = {}
 
 
 def tell_times(name, before):
-    """Says and keeps what a part took."""
-    TOOK[name] = clock, processor = [now - then for now, then in zip(used(), before)]
+    """Says what a part took, and keeps it: of one that ran twice, both."""
+    clock, processor = [now - then for now, then in zip(used(), before)]
+    TOOK[name] = [was + now for was, now in zip(TOOK.get(name, (0, 0)), (clock, processor))]
     say(f"-- {name} took {clock:.1f} minutes of the clock and {processor:.1f} of a processor")
+
+
+def all_took(begun):
+    """What each part took so far, and all."""
+    return {**TOOK, "in all": [(time.monotonic() - begun) / 60, sum(it[1] for it in TOOK.values())]}
 
 
 def git(*words):
@@ -83,15 +91,16 @@ def stored():
     return [it.split("\t") for it in STORED.read_text(encoding="utf-8").splitlines()[1:]] if STORED.is_file() else []
 
 
-def store(form, begun):
-    """Writes what the parts of this form took, and leaves the other form's rows."""
-    TOOK["in all"] = (time.monotonic() - begun) / 60, sum(it[1] for it in TOOK.values())
-    rows = [it for it in stored() if it[0] != form]
-    rows += [[form, "run", *it] for it in (("commit", git("describe", "--always", "--abbrev=40", "--exclude=*", "--dirty") or "none"),
-                                           ("cores", str(len(os.sched_getaffinity(0)))), ("day", str(datetime.date.today())))]
-    rows += [[form, part, what, f"{minutes:.1f}"] for part, its in TOOK.items() for what, minutes in zip(("clock", "processor"), its)]
-    head = "# What runs of the gate took, in minutes, as `.ci/run --store` and `.ci/run --all --store` write it.\n"
-    STORED.write_text(head + "".join("\t".join(it) + "\n" for it in sorted(rows, key=lambda it: it[0])), encoding="utf-8")
+def store(forms):
+    """Writes what the parts took of a whole run, and of its part that is `.ci/run`."""
+    commit = git("describe", "--always", "--abbrev=40", "--exclude=*", "--dirty") or "none"
+    run = {"commit": commit, "cores": len(os.sched_getaffinity(0)), "day": datetime.date.today()}
+    rows = []
+    for form, took in forms.items():
+        rows += [(form, "run", what, str(it)) for what, it in run.items()]
+        rows += [(form, part, what, f"{minutes:.1f}") for part, its in took.items() for what, minutes in zip(("clock", "processor"), its)]
+    head = "# What a whole run of the gate took, in minutes, and its part that is `.ci/run`, as `.ci/run --all --store` writes it.\n"
+    STORED.write_text(head + "".join("\t".join(it) + "\n" for it in rows), encoding="utf-8")
 
 
 def changed_since(commit):
@@ -114,27 +123,28 @@ def wrong_bodies():
     return names, rows
 
 
-def to_try(form):
-    """The wrong bodies that this run tries, by their names, none for all; it says which."""
+def to_try(is_whole):
+    """The wrong bodies that this run tries, by their names, none for all, and those that a whole run tries then; it says which."""
     edits, rows = wrong_bodies()
-    if form == WHOLE:
-        say(f"-- wrong bodies: all {len(edits)}")
-        return []
     commit, last = git("rev-parse", "HEAD"), next((it[3] for it in stored() if it[:3] == [WHOLE, "run", "commit"]), "none")
+    # one for each row, the same for the same commit
+    number = lambda row: int(hashlib.sha256(f"{commit}{row}".encode()).hexdigest(), 16)
+    its = {its[number(row) % len(its)] for row, its in rows.items()}
+    if is_whole:
+        say(f"-- wrong bodies: all {len(edits)}, of which the first {len(its)} are one for each of {len(rows)} rows of"
+            f" crates/PROMISES.md, drawn by {commit}")
+        return sorted(its), sorted({*edits} - its)
     crates = changed_since(last)
     if crates is None:
         say(f"-- wrong bodies: all {len(edits)}, since {' or '.join(SHARED)} changed, or this clone hasn't {last},"
             " the commit of the last whole run")
-        return []
-    # one for each row, the same for the same commit
-    number = lambda row: int(hashlib.sha256(f"{commit}{row}".encode()).hexdigest(), 16)
-    its = {its[number(row) % len(its)] for row, its in rows.items()}
+        return [], []
     whole = {it for it in edits if it.partition("/")[0] in crates}
     say(f"-- wrong bodies: {len(its | whole)} of {len(edits)}: all {len(whole)} of the crates that changed since {last},"
         f" the commit of the last whole run ({' '.join(sorted(crates)) or 'none'}), and one for each of {len(rows)} rows of"
         f" crates/PROMISES.md, drawn by {commit}; beside those crates:")
     say(textwrap.fill(" ".join(sorted(its - whole)), 140, initial_indent="   ", subsequent_indent="   "))
-    return sorted(its | whole)
+    return sorted(its | whole), []
 
 
 def shown(name, words, heard=lambda line: None, **more):
@@ -202,27 +212,31 @@ def proved(edits):
 
 
 def main():
-    begun = time.monotonic()
-    if not set(sys.argv[1:]) <= {"--all", "--store"}:
+    begun, asked = time.monotonic(), {*sys.argv[1:]}
+    if asked not in (set(), {"--all"}, {"--all", "--store"}):
         print(__doc__, end="")
         return 2
-    form = WHOLE if "--all" in sys.argv else DRAWN
     if any([shown(*part)[0] for part in FIRST.items()]):
         say("0 passed, 1 failed")
         return 1
-    processors = len(os.sched_getaffinity(0))
+    processors, (first, others) = len(os.sched_getaffinity(0)), to_try("--all" in asked)
+    tries = ["nice", "python3", "tools/test-edits", "-j", str(processors)]
     tests = [Beside("rust/test", "rust/test"), Beside("bench/count", "bench/count", "--check")]
-    edits = Beside("tools/test-edits", "nice", "python3", "tools/test-edits", "--follow", "-j", str(processors), *to_try(form))
+    edits, more = (Beside("tools/test-edits", *tries, *words) for words in (("--follow", *first), ("--built", *others)))
     try:
         for it in [*tests, edits] if processors > 1 else []:
             it.begin()
         parts = [*proved(edits), *(it.end() for it in tests)]
+        forms = {DRAWN: all_took(begun)}
+        if others and not parts[0][0]:
+            parts.append(more.end())
+        forms[WHOLE] = all_took(begun)
     finally:
-        for it in (edits, *tests):
+        for it in (edits, more, *tests):
             it.stop()
     failed = parts[0][0] or int(any(status or it[1] for status, it in parts))
-    if "--store" in sys.argv and not failed:
-        store(form, begun)
+    if "--store" in asked and not failed:
+        store(forms)
     say(f"{sum(it[0] for _, it in parts)} passed, {sum(it[1] for _, it in parts)} failed")
     return failed
 

@@ -122,47 +122,61 @@ class Repository:
         with (self.folder / path).open("a", encoding="utf-8") as file:
             file.write("changed")
 
-    def asked(self, *words):
-        """The wrong bodies that a run asks for, none for all."""
+    def forms(self):
+        """The forms of the gate of which something is stored."""
+        return {it.split("\t")[0] for it in self.stored.read_text(encoding="utf-8").splitlines()[1:]}
+
+    def asks(self, *words):
+        """The wrong bodies that a run asks for, a row for each time that it does, none for all."""
         said = run_gate(self.folder, *words).stdout.splitlines()
-        return next((it.split()[1:] for it in said if it.startswith("asked:")), ["nothing was asked for"])
+        return [it.split()[1:] for it in said if it.startswith("asked:")]
+
+    def asked(self, *words):
+        """The same of a run that asks once."""
+        its = self.asks(*words)
+        return its[0] if len(its) == 1 else [f"it asked {len(its)} times"]
+
+    def asks_for_all(self):
+        """Whether a whole run asks for one of each row, and then for all others."""
+        its = self.asks("--all", "--store")
+        return [len(it) for it in its] == [2, 14] and sorted(sum(its, [])) == sum(self.edits.values(), [])
 
 
 def draws(its):
     """Each case of the draw, and whether it is as it has to be."""
     one, two = its.edits.values()
     yield "all, where no whole run is stored", its.asked() == []
-    yield "all, by --all", its.asked("--all", "--store") == []
+    yield "one for each row and then all others, by --all", its.asks_for_all()
     its.commit()
     drawn = its.asked()
     yield "one for each row", [it.partition("/")[0] for it in drawn] == ["one", "two"]
     yield "the same for the same commit", its.asked() == drawn
-    yield "those of a drawn run that stores what it took", its.asked("--store") == drawn
+    yield "none by a run that isn't whole and is to store what it took", its.asks("--store") == []
+    yield "of both forms what they took is stored", its.forms() == {".ci/run", ".ci/run --all"}
     others = []
     for _ in range(8):
         its.commit()
         others.append(its.asked())
     yield "not the same for each commit", any(it != drawn for it in others)
-    yield "one for each row, after a stored run that isn't whole", all(len(it) == 2 for it in others)
+    yield "one for each row, at each commit after a stored run", all(len(it) == 2 for it in others)
     its.change("crates/one/src/lib.rt")
     yield "all of a crate that has a new file", its.asked()[:-1] == one
     its.commit()
     yield "all of a crate that changed in a commit", its.asked()[:-1] == one
     its.change("crates/two/edits/lib.edits")
     yield "all of both, where an edit of the other changed", its.asked() == one + two
-    yield "all, by --all, of a tree that isn't a commit's", its.asked("--all", "--store") == []
+    yield "all others too, by --all, of a tree that isn't a commit's", its.asks_for_all()
     its.commit()
     yield "all, where the whole run was of no commit", its.asked() == []
-    its.asked("--all", "--store")
+    its.asks("--all", "--store")
     yield "one for each row again", len(its.asked()) == 2
     its.change("tools/source.py")
     yield "all, where what tries them changed", its.asked() == []
     its.commit()
     before = its.stored.read_text(encoding="utf-8")
     (its.folder / "rust" / "test").write_text(SCRIPT.format("1 passed, 1 failed", 1), encoding="utf-8")
-    its.asked("--all", "--store")
+    its.asks("--all", "--store")
     yield "nothing is stored of a run that failed", its.stored.read_text(encoding="utf-8") == before
-    its.asked("--all", "--store")
     its.stored.write_text(re.sub(r"\b[0-9a-f]{40}\b", "0" * 40, before), encoding="utf-8")
     yield "all, where the clone hasn't the commit of the whole run", its.asked() == []
 
