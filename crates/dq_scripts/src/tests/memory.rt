@@ -3,8 +3,8 @@
 use super::scripts::EVERY_COMMAND;
 use super::table::{Row, joined};
 use dq_replay::{ReplayFault, run};
+use dq_testing::RefusingHeap;
 use linked_list_allocator::LocalHeap;
-use refusing_heap::RefusingHeap;
 use std::alloc::Global;
 use std::process::Abort;
 use std::test::Fail;

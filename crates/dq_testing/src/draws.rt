@@ -1,5 +1,4 @@
 //! For tests: numbers from a fixed generator, the same in each run.
-#![tactic(auto)]
 
 use rand_pcg::Pcg32;
 use rand_pcg::rand_core::Rng;

@@ -6,7 +6,7 @@ use denote.Builtin.{usize, RawPtr, RefOf}
 use denote.Param.{bounded, param}
 use denote.Signature.{Slot, plain}
 use Rattle.std.proofs.alloc.Calls.{Al, α}
-use Rattle.refusing_heap.specs.contracts.RefusingHeap as heap
+use Rattle.dq_testing.specs.contracts.refusing_heap.RefusingHeap as heap
 
 module _ (Z : Al) where
   abbrev pub arguments : Args

@@ -14,8 +14,8 @@ use denote.Builtin.{bool}
 use denote.Steps.{nothing, only}
 use denote.Triple.Statement.{Contract}
 use denote.Triple.Spec.{triple_of}
-use Rattle.refusing_heap.specs.contracts.Grants as GR
-use Rattle.refusing_heap.specs.contracts.Grants.grants as GN
+use Rattle.dq_testing.specs.contracts.refusing_heap.Grants as GR
+use Rattle.dq_testing.specs.contracts.refusing_heap.Grants.grants as GN
 
 module _ {M : Type 1} {𝓤 : Ura M} (𝓛 : Logic 𝓤) (at_mem : Memory → SProp 𝓤) (run : Routine → Fun 𝓤) where
   abbrev pub Asks : Contract 𝓤

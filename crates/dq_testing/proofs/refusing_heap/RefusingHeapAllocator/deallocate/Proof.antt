@@ -31,12 +31,12 @@ use types.Kit.{‵, raw, ◌⊛◌, Item, later, given, ◌$◌, ◌∵◌, !, q
 use types.ByLocal.{alloc_all, pass_all, free_all, look_at, get, through, sets, lands_as}
 use Rattle.std.proofs.alloc.Calls.{Al, seen, token, gives_key, Gives, at_gives, Gives-goes, Gives-Gives}
 use Rattle.std.proofs.raw_atomic.Walks.{proved}
-use Rattle.refusing_heap.proofs.Handed.{arguments, receiver, inner_at, number, pointer, Asked}
-use Rattle.refusing_heap.specs.contracts.RefusingHeap as heap
-use Rattle.refusing_heap.specs.contracts.RefusingHeapAllocator.deallocate as F
-use Rattle.refusing_heap.specs.contracts.RefusingHeapAllocator.deallocate.Key as key
-use Rattle.refusing_heap.proofs.RefusingHeapAllocator.deallocate.Statement as stated
-use Rattle.refusing_heap.proofs.RefusingHeapAllocator.deallocate.Code as code
+use Rattle.dq_testing.proofs.Handed.{arguments, receiver, inner_at, number, pointer, Asked}
+use Rattle.dq_testing.specs.contracts.refusing_heap.RefusingHeap as heap
+use Rattle.dq_testing.specs.contracts.refusing_heap.RefusingHeapAllocator.deallocate as F
+use Rattle.dq_testing.specs.contracts.refusing_heap.RefusingHeapAllocator.deallocate.Key as key
+use Rattle.dq_testing.proofs.refusing_heap.RefusingHeapAllocator.deallocate.Statement as stated
+use Rattle.dq_testing.proofs.refusing_heap.RefusingHeapAllocator.deallocate.Code as code
 
 module _ (Z : Al) where
   abbrev here : Fn

@@ -1,6 +1,5 @@
 //! An allocator for tests, which refuses one allocation of the test's choosing. So each allocation of a call can be
 //! refused in turn, also one that needs no more memory than was free before.
-#![tactic(auto)]
 
 use std::alloc::{AllocError, Allocator};
 use std::cell::Cell;

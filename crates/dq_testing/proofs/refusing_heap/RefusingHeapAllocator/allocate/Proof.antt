@@ -38,15 +38,15 @@ use Rattle.std.specs.Allocator.{block_if_ok}
 use Rattle.std.proofs.alloc.Shapes.{after}
 use Rattle.std.proofs.alloc.Calls.{Al, seen, token, Answer, answer_val, Answer-typed, Answer-Ok, Answer-err, takes_key, Takes, at_takes, Answered, Takes-goes, Takes-gives, answers}
 use Rattle.std.proofs.raw_atomic.Walks.{proved}
-use Rattle.refusing_heap.proofs.Asks.{Asks, at_asks, Asks-goes, Asks-gives}
-use Rattle.refusing_heap.proofs.Handed.{arguments, receiver, inner_at, grants_at, number, Asked}
-use Rattle.refusing_heap.proofs.Grants.grants.Symbol as asks
-use Rattle.refusing_heap.proofs.Grants.grants.Met as asks_met
-use Rattle.refusing_heap.specs.contracts.RefusingHeap as heap
-use Rattle.refusing_heap.specs.contracts.RefusingHeapAllocator.allocate as F
-use Rattle.refusing_heap.specs.contracts.RefusingHeapAllocator.allocate.Key as key
-use Rattle.refusing_heap.proofs.RefusingHeapAllocator.allocate.Statement as stated
-use Rattle.refusing_heap.proofs.RefusingHeapAllocator.allocate.Code as code
+use Rattle.dq_testing.proofs.Asks.{Asks, at_asks, Asks-goes, Asks-gives}
+use Rattle.dq_testing.proofs.Handed.{arguments, receiver, inner_at, grants_at, number, Asked}
+use Rattle.dq_testing.proofs.refusing_heap.Grants.grants.Symbol as asks
+use Rattle.dq_testing.proofs.refusing_heap.Grants.grants.Met as asks_met
+use Rattle.dq_testing.specs.contracts.refusing_heap.RefusingHeap as heap
+use Rattle.dq_testing.specs.contracts.refusing_heap.RefusingHeapAllocator.allocate as F
+use Rattle.dq_testing.specs.contracts.refusing_heap.RefusingHeapAllocator.allocate.Key as key
+use Rattle.dq_testing.proofs.refusing_heap.RefusingHeapAllocator.allocate.Statement as stated
+use Rattle.dq_testing.proofs.refusing_heap.RefusingHeapAllocator.allocate.Code as code
 
 module _ (Z : Al) where
   abbrev here : Fn
@@ -128,5 +128,5 @@ allocate_spec 𝓤 𝓛 𝓜 𝓡 wired Y L g d d' met _ =
     (key.name (arguments Z)) (here Z) (code.unfolded 𝓤 𝓛.H 𝓜 𝓡 wired (Y, tt) d d')
     (λ κs. (shr_vals, (uint_vals w64, (uint_vals w64, tt)))) (λ κs. ((λ r vs s. s.0), (uint_Tells w64, (uint_Tells w64, tt))))
     (λ κs qs bounds a τ are. walk Z 𝓛 𝓜.mem 𝓡.returns (tables_of 𝓤 𝓛.H 𝓜 (tables 𝓤 𝓛.H 𝓜 𝓡 𝓡.env)) (met.allocate d')
-    (cited 𝓤 𝓛.H _ 𝓜 𝓡 𝓡.env asks.name (𝓡.env asks.name) refl (asks_met.met 𝓤 𝓛 𝓜 𝓡 (code.calls-refusing_heap::Grants::grants 𝓡.env wired)))
+    (cited 𝓤 𝓛.H _ 𝓜 𝓡 𝓡.env asks.name (𝓡.env asks.name) refl (asks_met.met 𝓤 𝓛 𝓜 𝓡 (code.calls-dq_testing::refusing_heap::Grants::grants 𝓡.env wired)))
     κs.0 κs.1.0 qs.0 qs.1.0 bounds.0 a.0 a.1.0 a.1.1.0 τ are.1.0.1 are.1.1.0.1)
