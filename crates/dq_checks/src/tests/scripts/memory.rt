@@ -1,6 +1,6 @@
 //! Each allocation of a script's run is refused in turn.
 
-use super::scripts::EVERY_COMMAND;
+use super::EVERY_COMMAND;
 use super::table::{Row, joined};
 use dq_replay::{ReplayFault, run};
 use dq_testing::RefusingHeap;

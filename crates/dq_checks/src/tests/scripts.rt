@@ -1,6 +1,9 @@
-//! Scripts without a fault.
+//! Whole scripts, from bytes to bytes: every command, and refused memory. Those of faults, readers and writers are in plain Rust.
 
-use super::table::{Row, answers};
+mod memory;
+mod table;
+
+use table::{Row, answers};
 
 /// A script of two names.
 pub const TWO_NAMES: [Row<'static>; 4] = [
