@@ -6,7 +6,7 @@ use crate::closer::Closer;
 use crate::leader::Leader;
 use crate::line::Line;
 use crate::sleepers::Call;
-use refusing_heap::RefusingHeap;
+use dq_testing::RefusingHeap;
 use std::alloc::{AllocError, Allocator};
 use std::process::Abort;
 

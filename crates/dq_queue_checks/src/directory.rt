@@ -4,8 +4,8 @@ ghost use Rattle.dq_directory.specs.Claims.{IsOf};
 
 use super::same;
 use dq_directory::{AddError, Claim, Clerk, Directory, MOST};
+use dq_testing::RefusingHeap;
 use linked_list_allocator::LocalHeap;
-use refusing_heap::RefusingHeap;
 use std::alloc::{Allocator, Global};
 use std::process::Abort;
 use std::test::*;

@@ -2,9 +2,9 @@
 
 use super::same;
 use dq_core::{CoreConfig, CoreError, DelayCore, Look, Turn, VecWords};
+use dq_testing::RefusingHeap;
 use dq_ticks::{EntryId, Key, LAST_STAMP};
 use linked_list_allocator::LocalHeap;
-use refusing_heap::RefusingHeap;
 use std::alloc::Allocator;
 use std::process::Abort;
 use std::test::Fail;

@@ -4,11 +4,11 @@ ghost use Rattle.dq_core.specs.Words.{AreFresh};
 
 use super::same;
 use dq_core::{CoreConfig, CoreError, DelayCore, PlainQueue, Slots, VecWords, Words};
+use dq_testing::RefusingHeap;
 use dq_ticks::LAST_STAMP;
 use dq_wheel::{Wheel, WheelError};
 use dq_words::{HANDLE_LIMIT, Keeper, WordsError};
 use linked_list_allocator::LocalHeap;
-use refusing_heap::RefusingHeap;
 use std::alloc::{Allocator, Global};
 use std::process::Abort;
 use std::test::Fail;

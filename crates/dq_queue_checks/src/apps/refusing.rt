@@ -1,8 +1,8 @@
 //! A walk is made again and again, and each of its allocations is refused in turn.
 
 use super::same;
+use dq_testing::RefusingHeap;
 use linked_list_allocator::LocalHeap;
-use refusing_heap::RefusingHeap;
 use std::alloc::Global;
 use std::process::Abort;
 use std::test::Fail;

@@ -3,11 +3,11 @@
 use super::same;
 use dq_core::{CoreConfig, CoreError, DelayCore, Look, PlainQueue, Turn, VecWords};
 use dq_shards::{Handle, QueueConfig, QueueError, SharedDelayQueue};
+use dq_testing::RefusingHeap;
 use dq_ticks::{Key, LAST_STAMP};
 use dq_wheel::Wheel;
 use dq_words::{Keeper, WordsError};
 use linked_list_allocator::LocalHeap;
-use refusing_heap::RefusingHeap;
 use std::alloc::{Allocator, Global};
 use std::process::Abort;
 use std::sync::Wait;

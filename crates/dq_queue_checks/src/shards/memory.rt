@@ -3,9 +3,9 @@
 use super::same;
 use dq_core::CoreError;
 use dq_shards::{QueueConfig, QueueError, SharedDelayQueue};
+use dq_testing::RefusingHeap;
 use dq_words::HANDLE_LIMIT;
 use linked_list_allocator::LocalHeap;
-use refusing_heap::RefusingHeap;
 use std::alloc::Allocator;
 use std::process::Abort;
 use std::sync::Wait;

@@ -6,7 +6,7 @@ use super::play::{Letters, Play, Way};
 use super::same;
 use dq_core::Tally;
 use dq_shards::{Handle, HandlesOut, QueueConfig, QueueError, Totals};
-use draws::Draw;
+use dq_testing::Draw;
 use std::process::Abort;
 use std::sync::Wait;
 use std::test::Fail;

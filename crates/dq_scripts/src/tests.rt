@@ -1,3 +1,0 @@
-mod memory;
-mod scripts;
-mod table;
