@@ -12,7 +12,7 @@ use Rattle.dq_words.specs.Files.{keeper_writes}
 use Rattle.dq_words.specs.KeeperCalls.{Accounts, AccountsFor, Returns}
 use Rattle.dq_words.specs.Keeping.{Stood, counts_of}
 use Rattle.dq_words.specs.Seats.{Sat}
-use Rattle.dq_parking.specs.declared.parked.Parked.{Parked}
+use Rattle.dq_shards.specs.declared.parking.parked.Parked.{Parked}
 use Rattle.dq_shards.specs.declared.audit.Totals.{Totals}
 use Rattle.dq_shards.specs.declared.audit.HandlesOut.{HandlesOut}
 use Rattle.dq_shards.specs.Shard.{ShardView}

@@ -19,9 +19,9 @@ use Rattle.dq_words.specs.Seats.{Sat}
 use Rattle.dq_words.specs.declared.keeper.WordsError.{WordsError}
 use Rattle.dq_words.specs.Endings.{WritesStay}
 use Rattle.dq_words.specs.KeeperCalls.{HasBegun, Issues, Tells}
-use Rattle.dq_parking.specs.declared.parked.Parked.{Parked}
-use Rattle.dq_parking.specs.Parking.{is_rung, after_ring}
-use Rattle.dq_parking.specs.Waits.{ends_by_tick}
+use Rattle.dq_shards.specs.declared.parking.parked.Parked.{Parked}
+use Rattle.dq_shards.specs.Parking.{is_rung, after_ring}
+use Rattle.dq_shards.specs.Waits.{ends_by_tick}
 use Rattle.dq_shards.specs.Shard.{ShardView, IsShard, KeepsOrWakes, keeper_of}
 
 -- the slot to go on from behind a piece that ends at one, none behind the last slot

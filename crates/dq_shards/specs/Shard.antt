@@ -7,9 +7,9 @@ use Rattle.dq_words.specs.declared.views.View.{View}
 use Rattle.dq_words.specs.Word.{parts_row}
 use Rattle.dq_words.specs.Seats.{Sat}
 use Rattle.dq_words.specs.Keeping.{IsKeeper, Stood, counts_of}
-use Rattle.dq_parking.specs.declared.parked.Parked.{Parked}
-use Rattle.dq_parking.specs.Attending.{KeepsOrLeaves}
-use Rattle.dq_parking.specs.Waits.{lasts_until}
+use Rattle.dq_shards.specs.declared.parking.parked.Parked.{Parked}
+use Rattle.dq_shards.specs.Attending.{KeepsOrLeaves}
+use Rattle.dq_shards.specs.Waits.{lasts_until}
 
 -- a shard: its queue over the keeper's words, and the poller that is parked
 pub record ShardView (T : Type 0) : Type 0 where

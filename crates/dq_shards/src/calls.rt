@@ -10,9 +10,9 @@ ghost use Rattle.dq_shards.specs.Answers.{OnShard, OnShardOr};
 ghost use Rattle.dq_shards.specs.Changes.{ShardResets, ShardRemoves, ShardDeadline, Rings};
 
 use crate::errors::QueueError;
+use crate::parking::{ring, unlock};
 use crate::queue::SharedDelayQueue;
 use dq_core::{Removed, Tally};
-use dq_parking::{ring, unlock};
 use dq_ticks::{EntryId, Key};
 use std::alloc::Allocator;
 use std::sync::Wait;

@@ -19,10 +19,10 @@ ghost use Rattle.dq_shards.specs.Many.{ShardPollsMany};
 ghost use Rattle.dq_shards.specs.Through.{AnswersThrough};
 
 use crate::errors::{QueueConfig, QueueError};
+use crate::parking::{PendingWake, Row, unlock};
 use crate::queue::SharedDelayQueue;
 use crate::state::ShardState;
 use dq_core::{CoreError, Expired, Piece, ReapError, Swept, Turn};
-use dq_parking::{PendingWake, Row, unlock};
 use dq_ticks::{EntryId, Key};
 use dq_words::ManyTurn;
 use std::alloc::Allocator;

@@ -7,14 +7,15 @@ mod drops;
 pub mod endings;
 mod errors;
 mod handle;
+pub mod parking;
 mod queue;
 mod readers;
 mod shard;
 mod state;
 
 pub use audit::{HandlesOut, Totals};
-pub use dq_parking::Parked;
 pub use errors::{BadQueueNumber, QueueConfig, QueueError, SHARD_LIMIT};
 pub use handle::Handle;
+pub use parking::Parked;
 pub use queue::SharedDelayQueue;
 pub use state::ShardState;

@@ -6,8 +6,8 @@ ghost use Rattle.dq_shards.specs.declared.errors.QueueError.TheVariants.{Unknown
 ghost use Rattle.dq_shards.specs.Shard.{IsShard};
 
 use crate::errors::{QueueError, SHARD_LIMIT};
+use crate::parking::Row;
 use crate::state::ShardState;
-use dq_parking::Row;
 use std::alloc::{Allocator, Global};
 use std::marker::Model;
 use std::sync::{MutexGuard, Wait};

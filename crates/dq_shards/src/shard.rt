@@ -2,17 +2,17 @@
 //! what a stream asks of the queue.
 ghost use Rattle.std.specs.Prelude.{◌≡◌, true, Some, option_map};
 ghost use Rattle.dq_core.specs.Deferring.{WillDisplace, waiting_in};
-ghost use Rattle.dq_parking.specs.Parking.{poller};
+ghost use Rattle.dq_shards.specs.Parking.{poller};
 ghost use Rattle.dq_shards.specs.declared.errors.QueueError.TheVariants.{Unknown};
 ghost use Rattle.dq_shards.specs.Shard.{IsParked, IsShard};
 ghost use Rattle.dq_shards.specs.Changes.{Changes, Unparks, TakesParked, Rings};
 ghost use Rattle.std.proofs.Common.{refl};
 
 use crate::errors::QueueError;
+use crate::parking::{Parked, Row, Shard, Shards, Sleeps, TickSource, let_sleep, ring};
 use crate::queue::SharedDelayQueue;
 use crate::state::ShardState;
 use dq_core::{CoreError, Piece};
-use dq_parking::{Parked, Row, Shard, Shards, Sleeps, TickSource, let_sleep, ring};
 use futures::task::Waker;
 use std::alloc::Allocator;
 use std::sync::{MutexGuard, Wait};
@@ -92,7 +92,7 @@ impl<T, A: Allocator> Shard for ShardState<T, A> {
 
     ghost has_room = { λ s. ¬ WillDisplace s.core.slots s.core.deferred };
 
-    #[tactic(auto, using(crate::proofs::Parking::told))]
+    #[tactic(auto, using(crate::proofs::ParkedLaw::told))]
     fn law(&self) {
         self.watched.core.law();
     }
@@ -108,7 +108,7 @@ impl<T, A: Allocator> Shard for ShardState<T, A> {
     }
 
     #[inline(always)]
-    #[tactic(auto, using(crate::proofs::Parking::one_displaced))]
+    #[tactic(auto, using(crate::proofs::ParkedLaw::one_displaced))]
     fn take_displaced(&mut self) -> Option<T> {
         self.watched.core.take_displaced()
     }

@@ -18,8 +18,8 @@ ghost use Rattle.dq_shards.specs.Changes.{ShardPolls, ShardPollsSome, IfWorking}
 ghost use Rattle.dq_shards.specs.Changes.{ShardSweeps, ShardSweepsSome, ShardReaps, ShardClears, going_on};
 ghost use Rattle.dq_shards.specs.Many.{ShardPollsMany};
 
+use crate::parking::{WatchedCore, keep_or_leave};
 use dq_core::{CoreError, DelayCore, Expired, Piece, ReapError, Removed, Swept, Turn};
-use dq_parking::{WatchedCore, keep_or_leave};
 use dq_ticks::{EntryId, Key};
 use dq_words::{Caller, Keeper, ManyTurn, WordsError};
 use std::alloc::{Allocator, Global};
@@ -46,8 +46,8 @@ pub struct ShardState<T, A: Allocator = Global> {
 }
 
 impl<T, A: Allocator> Model for ShardState<T, A> {
-    ghost use Rattle.dq_parking.specs.Attending.{MayWait};
-    ghost use Rattle.dq_parking.specs.Waits.{lasts_until};
+    ghost use Rattle.dq_shards.specs.Attending.{MayWait};
+    ghost use Rattle.dq_shards.specs.Waits.{lasts_until};
     ghost use Rattle.dq_shards.specs.Shard.{ShardView};
 
     ghost Value = { ShardView T };
@@ -110,7 +110,7 @@ impl<T: Drop, A: Allocator> ShardState<T, A> {
 
 impl<T, A: Allocator> ShardState<T, A> {
     /// What every shard keeps. The call does nothing, and is for proofs.
-    #[tactic(auto, using(crate::proofs::Parking::told))]
+    #[tactic(auto, using(crate::proofs::ParkedLaw::told))]
     pub fn law(&self)
         ensures { IsShard self.now }
     {
@@ -431,7 +431,7 @@ impl<T, A: Allocator> ShardState<T, A> {
 
     /// Takes all entries out, and returns how many live ones were removed. Their values, and those of cancelled
     /// entries, are deferred. A parked task is woken. It looks at every slot.
-    #[tactic(auto, using(crate::proofs::Parking::none_waits))]
+    #[tactic(auto, using(crate::proofs::ParkedLaw::none_waits))]
     pub fn clear(&mut self) -> usize
         // Nothing is linked any more, and so no poller is parked.
         ensures empty { NoneLinked (machine self.new.core) }
@@ -455,7 +455,7 @@ impl<T, A: Allocator> ShardState<T, A> {
     /// In this order:
     /// - `TooManyHandles` if 1,024 callers were made, given back or not.
     /// - `NoMemory` if memory is refused.
-    #[tactic(auto, using(crate::proofs::Parking::parked_over))]
+    #[tactic(auto, using(crate::proofs::ParkedLaw::parked_over))]
     pub fn issue(&mut self) -> Result<Caller<A>, WordsError>
         // One more, which sits at the table of this shard's keeper and knows nothing yet.
         ensures counted { OnOk result
@@ -475,7 +475,7 @@ impl<T, A: Allocator> ShardState<T, A> {
 
     /// Returns the number of callers that were made and not given back, by one load. A caller that was dropped stays
     /// counted.
-    #[tactic(auto, using(crate::proofs::Parking::parked_over))]
+    #[tactic(auto, using(crate::proofs::ParkedLaw::parked_over))]
     pub fn out(&mut self) -> u64
         ensures at_most { result ≤ (keeper_of self.new).issued }
         ensures stays { OnlyKeeperGoesOn self.old self.new }

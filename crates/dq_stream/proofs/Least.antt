@@ -3,12 +3,12 @@ use Rattle.std.proofs.Common.{ℕ, ◌∙◌, Option, Some, None, Ok}
 use Rattle.dq_core.specs.declared.outcomes.Expired.{Expired}
 use Rattle.dq_core.specs.declared.outcomes.Piece.TheVariants.{Answer as Answered}
 use Rattle.dq_core.specs.declared.outcomes.Turn.TheVariants.{Out}
-use Rattle.dq_parking.specs.Streaming.{PollsBy}
+use Rattle.dq_shards.specs.Streaming.{PollsBy}
 use Rattle.dq_shards.specs.Shard.{ShardView, IsShard}
 use Rattle.dq_shards.specs.Changes.{Changes}
 use Rattle.dq_shards.specs.Endings.{OutsAreInForce, PieceOutsAreInForce, IsOutInForce}
 use Rattle.dq_stream.specs.Endings.{ItemsAreInForce}
-use Rattle.dq_parking.proofs.Streamed.{least_due}
+use Rattle.dq_shards.proofs.Streamed.{least_due}
 
 module _ (T : Type 0) (outs : OutsAreInForce T) (pieces : PieceOutsAreInForce T) where
   in_force : (most : Option ℕ) (old new : ShardView T) (tick : ℕ) (x : Expired T) → IsShard new

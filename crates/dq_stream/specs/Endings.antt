@@ -3,8 +3,8 @@ use Rattle.std.specs.Prelude.{◌≡◌, ℕ, Ok}
 use Rattle.dq_core.specs.declared.outcomes.Expired.{Expired}
 use Rattle.dq_core.specs.Core.{machine}
 use Rattle.dq_core.specs.Machine.{NoneLiveBefore}
-use Rattle.dq_parking.specs.EachPoll.{IsGiven}
-use Rattle.dq_parking.specs.Items.{StreamItem}
+use Rattle.dq_shards.specs.EachPoll.{IsGiven}
+use Rattle.dq_shards.specs.Items.{StreamItem}
 use Rattle.dq_shards.specs.Shard.{ShardView, IsShard}
 use Rattle.dq_shards.specs.Changes.{Changes}
 use Rattle.dq_shards.specs.Endings.{IsOutInForce}

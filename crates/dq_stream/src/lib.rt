@@ -8,8 +8,10 @@
 
 pub mod endings;
 
-pub use dq_parking::{MillisecondTicks, ShardStream, StreamFault, TickSource, Whole, park_with};
 use dq_shards::SharedDelayQueue;
+pub use dq_shards::parking::{
+    MillisecondTicks, ShardStream, StreamFault, TickSource, Whole, park_with,
+};
 use std::alloc::Global;
 use std::num::NonZeroU32;
 

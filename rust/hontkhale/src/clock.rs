@@ -1,6 +1,6 @@
 //! Instants and durations as ticks.
 
-use crate::parking::TickSource;
+use crate::shards::parking::TickSource;
 use crate::ticks::LAST_TICK;
 use std::time::{Duration, Instant};
 

@@ -122,7 +122,7 @@ mod with_std {
     use crate::core::Words;
     use crate::directory::{Clerk, Directory};
     use crate::growing::{Cores, Folds, Store};
-    use crate::parking::{MillisecondTicks, Parked, ShardStream, Shards};
+    use crate::shards::parking::{MillisecondTicks, Parked, ShardStream, Shards};
     use crate::shards::{Handle, ShardState, SharedDelayQueue};
     use std::hash::{BuildHasher, Hash};
 

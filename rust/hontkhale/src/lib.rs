@@ -102,8 +102,6 @@ mod directory;
 #[cfg(feature = "std")]
 mod growing;
 #[cfg(feature = "std")]
-mod parking;
-#[cfg(feature = "std")]
 mod replay;
 #[cfg(feature = "std")]
 mod shards;

@@ -68,7 +68,7 @@ pub mod streams {
     //! Streams of the entries that expire in a shard, for a task. No other crate's queue has a [`ShardStream`]: the bound
     //! [`Shards`] is that of [`SharedDelayQueue`](crate::parts::shards::SharedDelayQueue) alone.
 
-    pub use crate::parking::{LockedShard, Pace, Shards};
+    pub use crate::shards::parking::{LockedShard, Pace, Shards};
     pub use crate::stream::{
         ExpiredStream, MillisecondTicks, PacedStream, ShardStream, StreamFault, TickSource, Whole,
     };

@@ -5,14 +5,15 @@ mod calls;
 mod drops;
 mod errors;
 mod handle;
+pub mod parking;
 mod queue;
 mod readers;
 mod shard;
 mod state;
 
-pub use crate::parking::Parked;
 pub use audit::{HandlesOut, Totals};
 pub use errors::{BadQueueNumber, QueueConfig, QueueError, SHARD_LIMIT};
 pub use handle::Handle;
+pub use parking::Parked;
 pub use queue::SharedDelayQueue;
 pub use state::ShardState;

@@ -9,8 +9,8 @@ use crate::shards::SharedDelayQueue;
 use core::num::NonZeroU32;
 
 #[cfg(test)]
-pub use crate::parking::park_with;
-pub use crate::parking::{MillisecondTicks, ShardStream, StreamFault, TickSource, Whole};
+pub use crate::shards::parking::park_with;
+pub use crate::shards::parking::{MillisecondTicks, ShardStream, StreamFault, TickSource, Whole};
 
 /// The entries that expire in one shard of a [`SharedDelayQueue`], at the ticks of a source.
 ///

@@ -2,8 +2,8 @@
 //! Who leaves by it is woken once the lock is free.
 
 use crate::core::{Removed, Tally};
-use crate::parking::{ring, unlock};
 use crate::shards::errors::QueueError;
+use crate::shards::parking::{ring, unlock};
 use crate::shards::queue::SharedDelayQueue;
 use crate::ticks::{EntryId, Key};
 

@@ -7,8 +7,8 @@
 //! a value of it may be dropped, so the checker refuses a drop anywhere else.
 
 use crate::core::{CoreError, Expired, Piece, ReapError, Swept, Turn};
-use crate::parking::{unlock, PendingWake, Row};
 use crate::shards::errors::{QueueConfig, QueueError};
+use crate::shards::parking::{unlock, PendingWake, Row};
 use crate::shards::queue::SharedDelayQueue;
 use crate::shards::state::ShardState;
 use crate::ticks::{EntryId, Key};

@@ -1,8 +1,8 @@
 //! Shards behind locks.
 
 use crate::locks::MutexGuard;
-use crate::parking::Row;
 use crate::shards::errors::QueueError;
+use crate::shards::parking::Row;
 use crate::shards::state::ShardState;
 
 /// A delay queue in shards, each behind a lock of its own, so that many threads may fill and poll it. A call takes

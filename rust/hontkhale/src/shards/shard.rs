@@ -3,8 +3,8 @@
 
 use crate::core::{CoreError, Piece};
 use crate::locks::MutexGuard;
-use crate::parking::{let_sleep, ring, Parked, Row, Rows, Shard, Shards, Sleeps, TickSource};
 use crate::shards::errors::QueueError;
+use crate::shards::parking::{let_sleep, ring, Parked, Row, Rows, Shard, Shards, Sleeps, TickSource};
 use crate::shards::queue::SharedDelayQueue;
 use crate::shards::state::ShardState;
 use core::task::Waker;

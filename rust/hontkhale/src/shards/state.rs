@@ -1,7 +1,7 @@
 //! The value behind a shard's lock: a queue over shared words, and the poller that waits for it.
 
 use crate::core::{CoreError, DelayCore, Expired, Piece, ReapError, Removed, Swept, Turn};
-use crate::parking::{keep_or_leave, WatchedCore};
+use crate::shards::parking::{keep_or_leave, WatchedCore};
 use crate::ticks::{EntryId, Key};
 use crate::words::{Caller, Keeper, ManyTurn, WordsError};
 use alloc::vec::Vec;

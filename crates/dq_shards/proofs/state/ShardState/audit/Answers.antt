@@ -1,5 +1,5 @@
 use Rattle.std.proofs.Common.{refl, ap}
-use Rattle.dq_shards.proofs.Parking.{parked_still}
+use Rattle.dq_shards.proofs.ParkedLaw.{parked_still}
 use Rattle.dq_shards.proofs.Auditing.{audited, refused, few_told}
 use Rattle.dq_shards.proofs.state.ShardState.audit.Goals as goal
 use Rattle.dq_shards.proofs.state.ShardState.audit.Goals.{in-Ok, in-Err}

@@ -1,4 +1,4 @@
-use Rattle.dq_shards.proofs.Parking.{parked_still}
+use Rattle.dq_shards.proofs.ParkedLaw.{parked_still}
 use Rattle.dq_shards.proofs.state.ShardState.deadline.Goals as goal
 
 pub invariant_of-self : goal.invariant_of-self

@@ -1,6 +1,6 @@
 use Rattle.std.proofs.Common.{Some, ap, ◌∙◌}
-use Rattle.dq_parking.specs.Parking.{poller}
-use Rattle.dq_shards.proofs.Parking.{may_wait}
+use Rattle.dq_shards.specs.Parking.{poller}
+use Rattle.dq_shards.proofs.ParkedLaw.{may_wait}
 use Rattle.dq_shards.proofs.state.ShardState.park.Goals as goal
 
 pub invariant_of-self : goal.invariant_of-self
