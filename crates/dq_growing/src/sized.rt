@@ -4,16 +4,19 @@
 //! may be due. It is never later than the deadline of a live entry: an insert and a reset lower it, and a poll that finds
 //! nothing due sets it anew.
 
-ghost use Rattle.std.specs.Prelude.{◌≡◌, ◌≤◌, ◌⊎◌, max, min, true, false, length, IfSome, IfNone, IfErr, IfOk, OnOk, OnErr, OnSome};
+ghost use Rattle.std.specs.Prelude.{◌≡◌, ◌≤◌, ◌<◌, ◌↔◌, ◌⊎◌, max, min, true, false, length, [], IsTrue, IfSome, IfNone, IfErr, IfOk, OnOk, OnErr, OnSome, unwrap_or};
 ghost use Rattle.std.specs.Fn.{FnOnceReturnsAtMut};
+ghost use Rattle.dq_ticks.specs.Keys.{EntryName};
 ghost use Rattle.dq_core.specs.Folds.{IsFoldable};
-ghost use Rattle.dq_growing.specs.Moving.{HasOpenRoom, IfTo};
-ghost use Rattle.dq_growing.specs.Polls.{DoesPoll, DoesPiece, IfPieceOut, NoneLiveIn, TakesDeferredIn};
+ghost use Rattle.dq_growing.specs.Cores.{InsertsIn};
+ghost use Rattle.dq_growing.specs.Moving.{HasBegunIn, HasOpenRoom, IfCameOut, IfTo};
+ghost use Rattle.dq_growing.specs.Notes.{HasNoteRoom, SameNotes, user_at};
+ghost use Rattle.dq_growing.specs.Polls.{DoesPoll, DoesPiece, IfPieceOut, IfPieceRests, NoneLiveIn, TakesDeferredIn};
 ghost use Rattle.dq_growing.specs.Runs.{GivesId, HoldsDeadlines, HoldsOtherDeadlines, KeepsIds, KeepsIdsBeside, LeavesInForce, NotDueBefore};
-ghost use Rattle.dq_growing.specs.Sized.{hint_after, KeepsHint};
-ghost use Rattle.dq_growing.specs.Sizing.{ComesInto, HasClearAt, HasNoRoom, MayNoteWork, OnlyOpens, WasBeside, with_work};
-ghost use Rattle.dq_growing.specs.Stands.{SameStand};
-ghost use Rattle.dq_growing.specs.Store.{ChangesFor, ComesFor, PollsFor, ReapsFor, RelocatesFor, RemovesFor, RemovesIfDueFor, ResetsFor, ResetsThere, StandsFor, TellsFor};
+ghost use Rattle.dq_growing.specs.Sized.{hint_after, KeepsHint, NotesNext};
+ghost use Rattle.dq_growing.specs.Sizing.{anew, way_for, with_work, AllWere, ComesInto, HasClearAt, HasNoRoom, MayNoteWork, OnlyOpens, OpensOne, OpensWanted, StaysOpen, SweepsNext, TellsQuiet, WasBeside};
+ghost use Rattle.dq_growing.specs.Stands.{KeepsWords, OneLeaves, SameStand};
+ghost use Rattle.dq_growing.specs.Store.{ChangesFor, ChangesThere, ComesFor, GoesOnFor, GoesOut, HasBegunFor, PollsFor, ReapsFor, RelocatesFor, RemovesFor, RemovesIfDueFor, ResetsFor, ResetsThere, StandsFor, TellsFor};
 
 use crate::NEVER;
 use crate::cores::Cores;
@@ -107,7 +110,14 @@ impl<T, W: Words + Drop, A: Allocator + Clone> SizedStore<T, W, A> {
     /// # Errors
     /// If the allocator isn't cloned.
     pub fn new(alloc: A, least: usize) -> Result<SizedStore<T, W, A>, AllocError>
-        ensures { IfOk result (λ s. (length s.store.cores.cores ≡ 0) × (s.hint ≡ NEVER)) }
+        ensures cores { IfOk result (λ s. s.store.cores
+            ≡ record { cores = []; opened = 0; next = 0; noted = 0 }) }
+
+        // Each entry keeps the id that it has.
+        ensures own { IfOk result (λ s. (id : EntryName) → user_at s.store.notes id ≡ id) }
+        ensures sizing { IfOk result
+            (λ s. (s.sizing.has_work ≡ false) × (s.sizing.quiet_since ≡ 0)) }
+        ensures hint { IfOk result (λ s. s.hint ≡ NEVER) }
     {
         let notes = Notes::new(alloc.clone()?)?;
         let cores = Cores::new(alloc);
@@ -128,9 +138,15 @@ impl<T, W: Words, A: Allocator + Clone> SizedStore<T, W, A> {
     #[inline(always)]
     pub fn insert(&mut self, value: T, when: u64) -> (Result<Key, (CoreError, T)>, Option<T>)
         ensures comes { IfOk result.0 (λ k. ComesFor self.old.store k value when self.new.store) }
+        ensures inserts { InsertsIn self.old.store.cores value when result self.new.store.cores }
+        ensures begins { IfOk result.0
+            (λ k. HasBegunIn W.begun self.old.store.cores k when self.new.store.cores) }
+        ensures notes { self.new.store.notes ≡ self.old.store.notes }
+        ensures words { KeepsWords W.origin W.begun self.old.store.cores self.new.store.cores }
         ensures gives { IfOk result.0 (λ k. GivesId self.old.store k.entry self.new.store) }
         ensures keeps { KeepsIds self.old.store self.new.store }
         ensures holds { HoldsDeadlines self.old.store self.new.store }
+        ensures due { IfOk result.0 (λ k. NotDueBefore self.new.store k.entry when) }
         ensures hint { OnOk result.0 (self.new.hint ≡ min self.old.hint when) }
         ensures stays { OnErr result.0 (self.new ≡ self.old) }
         ensures sizing { self.new.sizing ≡ self.old.sizing }
@@ -148,7 +164,13 @@ impl<T, W: Words, A: Allocator + Clone> SizedStore<T, W, A> {
     /// As there.
     #[inline(always)]
     pub fn remove(&mut self, entry: &EntryId) -> Result<Removed<T>, CoreError>
+        ensures leaves { IfOk result (λ x.
+            OneLeaves (StandsFor self.old.store) (StandsFor self.new.store) entry.now x.value) }
+        ensures key { IfOk result (λ x. x.key.entry ≡ entry.now) }
+        ensures refused { OnErr result
+            (SameStand (StandsFor self.old.store) (StandsFor self.new.store)) }
         ensures removes { RemovesFor W.shared self.old.store entry.now result self.new.store }
+        ensures words { KeepsWords W.origin W.begun self.old.store.cores self.new.store.cores }
         ensures keeps { KeepsIds self.old.store self.new.store }
         ensures holds { HoldsDeadlines self.old.store self.new.store }
         ensures in_force { IfOk result (λ x. LeavesInForce self.old.store entry.now x.deadline) }
@@ -167,10 +189,21 @@ impl<T, W: Words, A: Allocator + Clone> SizedStore<T, W, A> {
         entry: &EntryId,
         tick: u64,
     ) -> Result<Option<Removed<T>>, CoreError>
+        ensures leaves { IfOk result (λ found. IfSome found (λ x.
+            OneLeaves (StandsFor self.old.store) (StandsFor self.new.store) entry.now x.value)) }
+        ensures key { IfOk result (λ found. IfSome found (λ x. x.key.entry ≡ entry.now)) }
+        ensures due { IfOk result (λ found. IfSome found (λ x. x.deadline ≤ tick)) }
+        ensures stays { IfOk result (λ found. IfNone found
+            (SameStand (StandsFor self.old.store) (StandsFor self.new.store))) }
+        ensures refused { OnErr result
+            (SameStand (StandsFor self.old.store) (StandsFor self.new.store)) }
         ensures removes { RemovesIfDueFor W.shared
             self.old.store entry.now tick result self.new.store }
+        ensures words { KeepsWords W.origin W.begun self.old.store.cores self.new.store.cores }
         ensures keeps { KeepsIds self.old.store self.new.store }
         ensures holds { HoldsDeadlines self.old.store self.new.store }
+        ensures in_force { IfOk result (λ found. IfSome found
+            (λ x. LeavesInForce self.old.store entry.now x.deadline)) }
         ensures rest { KeepsHint self.old self.new }
     {
         let answer = self.store.remove_if_due(entry, tick);
@@ -183,6 +216,7 @@ impl<T, W: Words, A: Allocator + Clone> SizedStore<T, W, A> {
     /// As there.
     pub fn deadline(&mut self, entry: &EntryId) -> Result<u64, CoreError>
         ensures tells { TellsFor W.shared self.old.store entry.now result self.new.store }
+        ensures words { KeepsWords W.origin W.begun self.old.store.cores self.new.store.cores }
         ensures keeps { KeepsIds self.old.store self.new.store }
         ensures holds { HoldsDeadlines self.old.store self.new.store }
         ensures rest { KeepsHint self.old self.new }
@@ -199,8 +233,10 @@ impl<T, W: Words, A: Allocator + Clone> SizedStore<T, W, A> {
     #[inline(always)]
     pub fn reset_in_place(&mut self, entry: &EntryId, when: u64) -> Result<Key, CoreError>
         ensures resets { ResetsThere W.shared self.old.store entry.now when result self.new.store }
+        ensures words { KeepsWords W.origin W.begun self.old.store.cores self.new.store.cores }
         ensures keeps { KeepsIds self.old.store self.new.store }
         ensures holds { HoldsOtherDeadlines entry.now self.old.store self.new.store }
+        ensures refused { OnErr result (HoldsDeadlines self.old.store self.new.store) }
         ensures due { OnOk result (NotDueBefore self.new.store entry.now when) }
         ensures hint { OnOk result (self.new.hint ≡ min self.old.hint when) }
         ensures stays { OnErr result (self.new.hint ≡ self.old.hint) }
@@ -219,8 +255,10 @@ impl<T, W: Words, A: Allocator + Clone> SizedStore<T, W, A> {
     /// As there.
     pub fn reset(&mut self, entry: &EntryId, when: u64) -> (Result<Key, CoreError>, Option<T>)
         ensures resets { ResetsFor W.shared self.old.store entry.now when result self.new.store }
+        ensures words { KeepsWords W.origin W.begun self.old.store.cores self.new.store.cores }
         ensures keeps { KeepsIds self.old.store self.new.store }
         ensures holds { HoldsOtherDeadlines entry.now self.old.store self.new.store }
+        ensures refused { OnErr result.0 (HoldsDeadlines self.old.store self.new.store) }
         ensures due { OnOk result.0 (NotDueBefore self.new.store entry.now when) }
         ensures hint { OnOk result.0 (self.new.hint ≡ min self.old.hint when) }
         ensures stays { OnErr result.0 (self.new.hint ≡ self.old.hint) }
@@ -239,10 +277,26 @@ impl<T, W: Words, A: Allocator + Clone> SizedStore<T, W, A> {
     /// # Errors
     /// As there.
     pub fn relocate(&mut self, entry: &EntryId) -> (Result<Moved<T>, CoreError>, Option<T>)
+        ensures goes_on { IfOk result.0 (λ moved. IfTo moved (λ key deadline.
+            (key.entry ≡ entry.now)
+            × GoesOnFor self.old.store entry.now deadline self.new.store)) }
+        ensures begins { IfOk result.0 (λ moved. IfTo moved (λ key deadline.
+            HasBegunFor W.begun self.old.store key deadline self.new.store)) }
+        ensures came_out { IfOk result.0 (λ moved. IfCameOut moved (λ x.
+            OneLeaves (StandsFor self.old.store) (StandsFor self.new.store) entry.now x.value)) }
+        ensures refused { OnErr result.0
+            (SameStand (StandsFor self.old.store) (StandsFor self.new.store)) }
         ensures relocates { RelocatesFor W.shared
             self.old.store entry.now NextDeadline.Same result self.new.store }
+        ensures words { KeepsWords W.origin W.begun self.old.store.cores self.new.store.cores }
         ensures keeps { KeepsIds self.old.store self.new.store }
         ensures holds { HoldsDeadlines self.old.store self.new.store }
+        ensures due { IfOk result.0 (λ moved. IfTo moved
+            (λ _ deadline. NotDueBefore self.new.store entry.now deadline)) }
+        ensures told { IfOk result.0 (λ moved. IfTo moved
+            (λ _ deadline. LeavesInForce self.old.store entry.now deadline)) }
+        ensures in_force { IfOk result.0 (λ moved. IfCameOut moved
+            (λ x. LeavesInForce self.old.store entry.now x.deadline)) }
         ensures rest { KeepsHint self.old self.new }
     {
         let answer = self.store.relocate(entry, NextDeadline::Same);
@@ -255,6 +309,7 @@ impl<T, W: Words, A: Allocator + Clone> SizedStore<T, W, A> {
     /// As there.
     pub fn reap(&mut self, entry: &EntryId) -> Result<(), ReapError>
         ensures reaps { ReapsFor W.shared self.old.store entry.now result self.new.store }
+        ensures words { KeepsWords W.origin W.begun self.old.store.cores self.new.store.cores }
         ensures keeps { KeepsIds self.old.store self.new.store }
         ensures holds { HoldsDeadlines self.old.store self.new.store }
         ensures rest { KeepsHint self.old self.new }
@@ -268,6 +323,8 @@ impl<T, W: Words, A: Allocator + Clone> SizedStore<T, W, A> {
         requires { F.IsAlwaysCallable call }
         ensures changes { ChangesFor (FnOnceReturnsAtMut F.FnOnce call)
             self.old.store entry.now result self.new.store }
+        ensures exact { ChangesThere (FnOnceReturnsAtMut F.FnOnce call)
+            self.old.store entry.now result self.new.store }
         ensures rest { KeepsHint self.old self.new }
     {
         let answer = self.store.with_value(entry, call);
@@ -279,6 +336,8 @@ impl<T, W: Words, A: Allocator + Clone> SizedStore<T, W, A> {
     pub fn take_deferred(&mut self) -> Option<T>
         ensures takes { TakesDeferredIn self.old.store.cores result self.new.store.cores }
         ensures notes { self.new.store.notes ≡ self.old.store.notes }
+        ensures keeps { KeepsIds self.old.store self.new.store }
+        ensures holds { HoldsDeadlines self.old.store self.new.store }
         ensures rest { KeepsHint self.old self.new }
     {
         let value = self.store.take_deferred();
@@ -293,6 +352,11 @@ impl<T, W: Words, A: Allocator + Clone> SizedStore<T, W, A> {
     #[inline(always)]
     pub fn poll(&mut self, tick: u64) -> Result<Piece<T>, CoreError>
         ensures polls { PollsFor (DoesPoll W.shared) self.old.store tick result self.new.store }
+        ensures rests { IfPieceRests result
+            (λ next. NoneLiveIn self.new.store.cores (unwrap_or next NEVER)) }
+        ensures goes_out { IfPieceOut result
+            (λ x. GoesOut self.old.store x.key.entry x.value self.new.store) }
+        ensures words { KeepsWords W.origin W.begun self.old.store.cores self.new.store.cores }
         ensures keeps { KeepsIds self.old.store self.new.store }
         ensures holds { HoldsDeadlines self.old.store self.new.store }
         ensures in_force { IfPieceOut result
@@ -313,6 +377,11 @@ impl<T, W: Words, A: Allocator + Clone> SizedStore<T, W, A> {
     pub fn poll_some(&mut self, tick: u64, most: u32) -> Result<Piece<T>, CoreError>
         ensures polls { PollsFor (DoesPiece W.shared most)
             self.old.store tick result self.new.store }
+        ensures rests { IfPieceRests result
+            (λ next. NoneLiveIn self.new.store.cores (unwrap_or next NEVER)) }
+        ensures goes_out { IfPieceOut result
+            (λ x. GoesOut self.old.store x.key.entry x.value self.new.store) }
+        ensures words { KeepsWords W.origin W.begun self.old.store.cores self.new.store.cores }
         ensures keeps { KeepsIds self.old.store self.new.store }
         ensures holds { HoldsDeadlines self.old.store self.new.store }
         ensures in_force { IfPieceOut result
@@ -329,6 +398,7 @@ impl<T, W: Words, A: Allocator + Clone> SizedStore<T, W, A> {
     /// several cores that takes as long as a poll.
     #[inline(always)]
     pub fn note_next(&mut self)
+        ensures hint { NotesNext self.old.store.cores self.old.hint self.new.hint }
         ensures store { self.new.store ≡ self.old.store }
         ensures sizing { self.new.sizing ≡ self.old.sizing }
     {
@@ -357,8 +427,15 @@ impl<T, W: Words, A: Allocator + Clone> SizedStore<T, W, A> {
         ensures room { result ≡ true → HasOpenRoom self.new.store.cores }
         ensures clear { result ≡ true
             → HasClearAt self.new.store.cores self.new.store.cores.opened }
+        ensures stays { HasClearAt self.old.store.cores self.old.store.cores.opened
+            → self.new.store ≡ self.old.store }
+        ensures other { (self.new.store ≡ self.old.store)
+            ⊎ OpensOne any_will_do self.new.store.cores }
         ensures none { result ≡ false → HasNoRoom any_will_do self.old.store.cores }
+        ensures kept { result ≡ false → self.new.store ≡ self.old.store }
         ensures opens { OnlyOpens self.old.store self.new.store }
+        ensures keeps { KeepsIds self.old.store self.new.store }
+        ensures holds { HoldsDeadlines self.old.store self.new.store }
         ensures notes { MayNoteWork self.old.sizing self.new.sizing }
         ensures hint { self.new.hint ≡ self.old.hint }
     {
@@ -371,6 +448,10 @@ impl<T, W: Words, A: Allocator + Clone> SizedStore<T, W, A> {
     /// If memory is refused.
     pub fn reserve(&mut self, cores: usize) -> Result<(), AllocError>
         ensures cores { self.new.store.cores ≡ self.old.store.cores }
+        ensures notes { SameNotes self.old.store.notes self.new.store.notes }
+        ensures room { OnOk result (HasNoteRoom self.new.store.notes) }
+        ensures keeps { KeepsIds self.old.store self.new.store }
+        ensures holds { HoldsDeadlines self.old.store self.new.store }
         ensures rest { KeepsHint self.old self.new }
     {
         let reserved = self.store.reserve(cores);
@@ -380,12 +461,18 @@ impl<T, W: Words, A: Allocator + Clone> SizedStore<T, W, A> {
     /// Takes a core in that was made, as [`Sizing::bring`] tells.
     ///
     /// # Errors
-    /// The core comes back, and no entry changes.
+    /// The core comes back, and nothing changes in the store.
     pub fn bring(&mut self, core: DelayCore<T, W, A>) -> Result<(), DelayCore<T, W, A>>
         ensures comes { OnOk result (ComesInto self.old.store core self.new.store) }
+        ensures opens { OnOk result (OpensWanted self.old.store.cores self.new.store.cores) }
         ensures stands { SameStand (StandsFor self.old.store) (StandsFor self.new.store) }
         ensures keeps { KeepsIdsBeside core self.old.store self.new.store }
-        ensures back { IfErr result (λ c. c ≡ core) }
+        ensures holds { HoldsDeadlines self.old.store self.new.store }
+        ensures back { IfErr result (λ c. (c ≡ core)
+            × (self.new.store.cores ≡ self.old.store.cores)
+            × (self.new.store.notes ≡ self.old.store.notes)) }
+        ensures notes { self.new.sizing ≡ with_work
+            (record self.old.sizing { sweep = anew self.old.sizing.sweep self.new.store.cores }) }
         ensures hint { self.new.hint ≡ self.old.hint }
     {
         core.law();
@@ -395,8 +482,20 @@ impl<T, W: Words, A: Allocator + Clone> SizedStore<T, W, A> {
     /// Takes a core out that has drained and isn't needed soon, as [`Sizing::take_needless`] tells.
     pub fn take_needless(&mut self) -> Option<DelayCore<T, W, A>>
         ensures drained { IfSome result (λ c. IsFoldable c × WasBeside self.old.store.cores c) }
+        ensures opens { StaysOpen self.old.store.cores self.new.store.cores }
+        ensures were { AllWere self.old.store.cores self.new.store.cores }
+        ensures notes { self.new.store.notes ≡ self.old.store.notes }
         ensures stands { SameStand (StandsFor self.old.store) (StandsFor self.new.store) }
         ensures keeps { KeepsIds self.old.store self.new.store }
+        ensures holds { HoldsDeadlines self.old.store self.new.store }
+        ensures anew { OnSome result
+            (self.new.sizing.sweep ≡ anew self.old.sizing.sweep self.old.store.cores) }
+        ensures stays { IfNone result
+            ((self.new.sizing.sweep ≡ anew self.old.sizing.sweep self.old.store.cores)
+            ⊎ ((self.new.sizing.sweep ≡ self.old.sizing.sweep)
+            × (self.new.store ≡ self.old.store))) }
+        ensures work { self.new.sizing
+            ≡ record self.old.sizing { has_work = false; sweep = self.new.sizing.sweep } }
         ensures hint { self.new.hint ≡ self.old.hint }
     {
         self.sizing.take_needless(&mut self.store)
@@ -404,8 +503,22 @@ impl<T, W: Words, A: Allocator + Clone> SizedStore<T, W, A> {
 
     /// Frees cancelled entries at the next slots, as [`Sizing::sweep`] tells.
     pub fn sweep(&mut self, cancels: u64) -> bool
+        ensures sweeps { result ≡ true → SweepsNext W.shared 256
+            (way_for self.old.sizing.sweep cancels self.old.store.cores)
+            self.old.store self.new.sizing.sweep self.new.store }
+        ensures rests { result ≡ false → self.new.store ≡ self.old.store }
+        ensures stays { result ≡ false → self.new.sizing.sweep
+            ≡ way_for self.old.sizing.sweep cancels self.old.store.cores }
+        ensures left { IsTrue result
+            ↔ (0 < (way_for self.old.sizing.sweep cancels self.old.store.cores).left) }
+        ensures noted { self.new.sizing.sweep.cancels ≡ cancels }
         ensures keeps { KeepsIds self.old.store self.new.store }
         ensures holds { HoldsDeadlines self.old.store self.new.store }
+        ensures quiet { TellsQuiet self.new.sizing cancels self.new.store }
+        ensures rest { self.new.sizing ≡ record self.old.sizing {
+          quiet_since = self.new.sizing.quiet_since;
+          sweep = self.new.sizing.sweep;
+        } }
         ensures hint { self.new.hint ≡ self.old.hint }
     {
         self.sizing.sweep(&mut self.store, cancels)

@@ -233,7 +233,7 @@ impl<T, W: Words> SizedStore<T, W> {
     /// Takes a core in that was made, as `Sizing::bring` tells.
     ///
     /// # Errors
-    /// The core comes back, and no entry changes.
+    /// The core comes back, and nothing changes in the store.
     #[allow(clippy::result_large_err)]
     pub fn bring(&mut self, core: DelayCore<T, W>) -> Result<(), DelayCore<T, W>> {
         self.sizing.bring(&mut self.store, core)

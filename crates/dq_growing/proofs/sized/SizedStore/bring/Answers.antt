@@ -12,3 +12,9 @@ returns-clause-keeps g c = rw (← c.self.view_is) c.bring.ensures.keeps
 
 pub returns-clause-stands : goal.returns-clause-stands
 returns-clause-stands g c = rw (← c.self.view_is) c.bring.ensures.stands
+
+pub returns-clause-opens : goal.returns-clause-opens
+returns-clause-opens g c = rw (← c.self.view_is) c.bring.ensures.opens
+
+pub returns-clause-holds : goal.returns-clause-holds
+returns-clause-holds g c = rw (← c.self.view_is) c.bring.ensures.holds

@@ -8,3 +8,12 @@ invariant_of-self g c =
 
 pub returns-clause-none : goal.returns-clause-none
 returns-clause-none g c = rw (← c.self.view_is) c.finds_room.ensures.none
+
+pub returns-clause-stays : goal.returns-clause-stays
+returns-clause-stays g c = rw (← c.self.view_is) c.finds_room.ensures.stays
+
+pub returns-clause-keeps : goal.returns-clause-keeps
+returns-clause-keeps g c = rw (← c.self.view_is) c.finds_room.ensures.keeps
+
+pub returns-clause-holds : goal.returns-clause-holds
+returns-clause-holds g c = rw (← c.self.view_is) c.finds_room.ensures.holds

@@ -32,3 +32,18 @@ returns-else-is_ok-clause-keeps g c = rw (← c.self.view_is) c.insert-answer.en
 
 pub returns-else-is_ok-clause-holds : goal.returns-else-is_ok-clause-holds
 returns-else-is_ok-clause-holds g c = rw (← c.self.view_is) c.insert-answer.ensures.holds
+
+pub returns-then-is_ok-clause-inserts : goal.returns-then-is_ok-clause-inserts
+returns-then-is_ok-clause-inserts g c = rw (← c.self.view_is) c.insert-answer.ensures.inserts
+
+pub returns-then-is_ok-clause-begins : goal.returns-then-is_ok-clause-begins
+returns-then-is_ok-clause-begins g c = rw (← c.self.view_is) c.insert-answer.ensures.begins
+
+pub returns-then-is_ok-clause-words : goal.returns-then-is_ok-clause-words
+returns-then-is_ok-clause-words g c = rw (← c.self.view_is) c.insert-answer.ensures.words
+
+pub returns-else-is_ok-clause-inserts : goal.returns-else-is_ok-clause-inserts
+returns-else-is_ok-clause-inserts g c = rw (← c.self.view_is) c.insert-answer.ensures.inserts
+
+pub returns-else-is_ok-clause-words : goal.returns-else-is_ok-clause-words
+returns-else-is_ok-clause-words g c = rw (← c.self.view_is) c.insert-answer.ensures.words

@@ -19,3 +19,9 @@ returns-clause-in_force g c = rw (← c.self.view_is) c.poll-made.ensures.in_for
 
 pub returns-clause-polls : goal.returns-clause-polls
 returns-clause-polls g c = rw (← c.self.view_is) c.poll-made.ensures.polls
+
+pub returns-clause-goes_out : goal.returns-clause-goes_out
+returns-clause-goes_out g c = rw (← c.self.view_is) c.poll-made.ensures.goes_out
+
+pub returns-clause-words : goal.returns-clause-words
+returns-clause-words g c = rw (← c.self.view_is) c.poll-made.ensures.words

@@ -11,3 +11,6 @@ returns-clause-keeps g c = rw (← c.self.view_is) c.reap-answer.ensures.keeps
 
 pub returns-clause-holds : goal.returns-clause-holds
 returns-clause-holds g c = rw (← c.self.view_is) c.reap-answer.ensures.holds
+
+pub returns-clause-words : goal.returns-clause-words
+returns-clause-words g c = rw (← c.self.view_is) c.reap-answer.ensures.words

@@ -13,3 +13,15 @@ returns-clause-keeps g c = rw (← c.self.view_is) c.relocate-answer.ensures.kee
 
 pub returns-clause-holds : goal.returns-clause-holds
 returns-clause-holds g c = rw (← c.self.view_is) (c.relocate-answer.ensures.same (tt {0}))
+
+pub returns-clause-begins : goal.returns-clause-begins
+returns-clause-begins g c = rw (← c.self.view_is) c.relocate-answer.ensures.begins
+
+pub returns-clause-refused : goal.returns-clause-refused
+returns-clause-refused g c = rw (← c.self.view_is) c.relocate-answer.ensures.refused
+
+pub returns-clause-words : goal.returns-clause-words
+returns-clause-words g c = rw (← c.self.view_is) c.relocate-answer.ensures.words
+
+pub returns-clause-told : goal.returns-clause-told
+returns-clause-told g c = rw (← c.self.view_is) (c.relocate-answer.ensures.told (tt {0}))

@@ -14,3 +14,9 @@ returns-clause-holds g c = rw (← c.self.view_is) c.remove-answer.ensures.holds
 
 pub returns-clause-in_force : goal.returns-clause-in_force
 returns-clause-in_force g c = rw (← c.self.view_is) c.remove-answer.ensures.in_force
+
+pub returns-clause-refused : goal.returns-clause-refused
+returns-clause-refused g c = rw (← c.self.view_is) c.remove-answer.ensures.refused
+
+pub returns-clause-words : goal.returns-clause-words
+returns-clause-words g c = rw (← c.self.view_is) c.remove-answer.ensures.words

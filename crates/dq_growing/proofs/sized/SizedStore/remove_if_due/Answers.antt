@@ -11,3 +11,15 @@ returns-clause-keeps g c = rw (← c.self.view_is) c.remove_if_due-answer.ensure
 
 pub returns-clause-holds : goal.returns-clause-holds
 returns-clause-holds g c = rw (← c.self.view_is) c.remove_if_due-answer.ensures.holds
+
+pub returns-clause-stays : goal.returns-clause-stays
+returns-clause-stays g c = rw (← c.self.view_is) c.remove_if_due-answer.ensures.stays
+
+pub returns-clause-refused : goal.returns-clause-refused
+returns-clause-refused g c = rw (← c.self.view_is) c.remove_if_due-answer.ensures.refused
+
+pub returns-clause-words : goal.returns-clause-words
+returns-clause-words g c = rw (← c.self.view_is) c.remove_if_due-answer.ensures.words
+
+pub returns-clause-in_force : goal.returns-clause-in_force
+returns-clause-in_force g c = rw (← c.self.view_is) c.remove_if_due-answer.ensures.in_force

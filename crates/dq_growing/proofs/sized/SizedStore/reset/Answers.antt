@@ -32,3 +32,12 @@ returns-else-is_ok-clause-keeps g c = rw (← c.self.view_is) c.reset-answer.ens
 
 pub returns-else-is_ok-clause-holds : goal.returns-else-is_ok-clause-holds
 returns-else-is_ok-clause-holds g c = rw (← c.self.view_is) c.reset-answer.ensures.holds
+
+pub returns-then-is_ok-clause-words : goal.returns-then-is_ok-clause-words
+returns-then-is_ok-clause-words g c = rw (← c.self.view_is) c.reset-answer.ensures.words
+
+pub returns-else-is_ok-clause-words : goal.returns-else-is_ok-clause-words
+returns-else-is_ok-clause-words g c = rw (← c.self.view_is) c.reset-answer.ensures.words
+
+pub returns-else-is_ok-clause-refused : goal.returns-else-is_ok-clause-refused
+returns-else-is_ok-clause-refused g c = rw (← c.self.view_is) c.reset-answer.ensures.stays

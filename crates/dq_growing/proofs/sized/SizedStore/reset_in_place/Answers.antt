@@ -29,3 +29,12 @@ returns-else-is_ok-clause-keeps g c = rw (← c.self.view_is) c.reset_in_place-a
 
 pub returns-else-is_ok-clause-holds : goal.returns-else-is_ok-clause-holds
 returns-else-is_ok-clause-holds g c = rw (← c.self.view_is) c.reset_in_place-answer.ensures.holds
+
+pub returns-then-is_ok-clause-words : goal.returns-then-is_ok-clause-words
+returns-then-is_ok-clause-words g c = rw (← c.self.view_is) c.reset_in_place-answer.ensures.words
+
+pub returns-else-is_ok-clause-words : goal.returns-else-is_ok-clause-words
+returns-else-is_ok-clause-words g c = rw (← c.self.view_is) c.reset_in_place-answer.ensures.words
+
+pub returns-else-is_ok-clause-refused : goal.returns-else-is_ok-clause-refused
+returns-else-is_ok-clause-refused g c = rw (← c.self.view_is) c.reset_in_place-answer.ensures.stays

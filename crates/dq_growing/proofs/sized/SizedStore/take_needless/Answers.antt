@@ -15,3 +15,6 @@ returns-clause-stands g c = rw (← c.self.view_is) c.take_needless.ensures.stan
 
 pub returns-clause-drained : goal.returns-clause-drained
 returns-clause-drained g c = rw (← c.self.view_is) c.take_needless.ensures.drained
+
+pub returns-clause-holds : goal.returns-clause-holds
+returns-clause-holds g c = rw (← c.self.view_is) c.take_needless.ensures.holds
