@@ -20,14 +20,14 @@ use Rattle.dq_growing.specs.declared.moving.NextDeadline.{NextDeadline}
 use Rattle.dq_growing.specs.declared.moving.NextDeadline.TheVariants.{At}
 use Rattle.dq_growing.specs.Cores.{AreCores, CoreRow, HasNo, IsCoreAt, OnCore, OnCoreAt, OnCoreOr, InsertsIn, GivesDrained, TakesIn}
 use Rattle.dq_growing.specs.Moving.{GoesTo, Relocates}
-use Rattle.dq_growing.specs.Polls.{PollsRow, DoesPiece}
+use Rattle.dq_growing.specs.Polls.{PollsRow}
 use Rattle.dq_growing.specs.Stands.{KeepsWords}
 use Rattle.dq_growing.specs.Store.{StoreState, AfterReset, PollsFor, ReapsFor, RelocatesFor, RemovesAt, RemovesFor, ResetsFor, TellsFor}
 use Rattle.dq_growing.proofs.Rows.{one_at, at_snoc, removed_at, snoc_long, snoc_before, snoc_last}
 use Rattle.dq_words.specs.KeeperCalls.{HasBegun}
 use Rattle.dq_words.specs.OpenCalls.{Open}
 use Rattle.dq_words.specs.Seats.{Sat}
-use Rattle.dq_queue.specs.Calls.{StoreGives}
+use Rattle.dq_queue.specs.Calls.{DoesSteps, StoreGives}
 use Rattle.dq_queue.specs.Claims.{IsClaimAt, AreClaimsOf, AgreeWith, AreClaimed, BringsNoCore, IsClaimed, IsOfItsWords}
 use Rattle.dq_queue.specs.Words.{PromiseView, IsPromiseOf}
 
@@ -104,12 +104,12 @@ module _ {T : Type 0} where
   reaps_long s t u r (inl y) = or_long s.cores t.cores _ _ _ y.2.0
   reaps_long s t u r (inr y) = same_store s t y.1.1
 
-  polls_row : (s t : CoreRow T Sat) (tick most : ℕ) (r : Result (Piece T) CoreError) → PollsRow (DoesPiece true most) s tick r t → SameLength s t
+  polls_row : (s t : CoreRow T Sat) (tick : ℕ) (most : Option ℕ) (r : Result (Piece T) CoreError) → PollsRow (DoesSteps most) s tick r t → SameLength s t
   polls_row s t tick most (Ok p) (small, inl y) = same_row _ t y.1
   polls_row s t tick most (Ok p) (small, inr core) = at_long _ t core.place _ core.did
   polls_row s t tick most (Err e) y = same_row s t y.2
 
-  pub polls_long : (s t : StoreState T Sat) (tick most : ℕ) (r : Result (Piece T) CoreError) → PollsFor (DoesPiece true most) s tick r t → SameLength s.cores t.cores
+  pub polls_long : (s t : StoreState T Sat) (tick : ℕ) (most : Option ℕ) (r : Result (Piece T) CoreError) → PollsFor (DoesSteps most) s tick r t → SameLength s.cores t.cores
   polls_long s t tick most r y = polls_row s.cores t.cores tick most y.0 y.1
 
   goes_long : (m t : CoreRow T Sat) (x : Removed T) (next : NextDeadline) (moved : Moved T) (beside : Option T) → GoesTo m x next moved beside t → SameLength m t

@@ -1,6 +1,6 @@
 -- What one call does to what lies behind a shard's lock. Each keeps the ids that entries have had, and
 -- the deadline of each entry but one that it gives another.
-use Rattle.std.specs.Prelude.{◌≡◌, ◌⊎◌, ℕ, true, Option, Some, Result, IfOk, IfErr, IfSome, IfNone, OnOk, OnErr}
+use Rattle.std.specs.Prelude.{◌≡◌, ◌⊎◌, ℕ, true, Option, Some, None, Result, IfOk, IfErr, IfSome, IfNone, OnOk, OnErr}
 use Rattle.dq_ticks.specs.declared.keys.Key.{Key}
 use Rattle.dq_ticks.specs.declared.keys.EntryId.{EntryId}
 use Rattle.dq_core.specs.declared.errors.CoreError.{CoreError}
@@ -12,7 +12,7 @@ use Rattle.dq_growing.specs.declared.cores.TakeError.{TakeError}
 use Rattle.dq_growing.specs.Cores.{HasAt, InsertsIn, IsCoreAt, TakesIn, GivesDrained, NoneDrained}
 use Rattle.dq_growing.specs.Notes.{Book, meant_place}
 use Rattle.dq_growing.specs.Moving.{IfTo, IfCameOut, UnlessTo}
-use Rattle.dq_growing.specs.Polls.{DoesPiece, IfPieceOut}
+use Rattle.dq_growing.specs.Polls.{DoesPiece, DoesPoll, IfPieceOut}
 use Rattle.dq_growing.specs.Runs.{IsUsedId, KeepsIds, KeepsIdsBeside, GivesId, HoldsDeadlines, HoldsOtherDeadlines, KeepsItsDeadline, LeavesInForce, NotDueBefore}
 use Rattle.dq_core.specs.declared.errors.ReapError.{ReapError}
 use Rattle.dq_growing.specs.declared.moving.Moved.{Moved}
@@ -80,20 +80,25 @@ module _ {T : Type 0} where
   abbrev pub StoreTells : EntryId → Result ℕ CoreError → StoreState T Sat → StoreState T Sat → Type 0
   StoreTells id r s t = TellsFor true s id r t × KeepsIds s t × HoldsDeadlines s t
 
-  -- a tick is noted, and a piece of a poll is done; what comes out leaves with its value, at no
-  -- deadline before the one that it had
-  abbrev pub StorePollsSome : ℕ → ℕ → Result (Piece T) CoreError → StoreState T Sat →
+  -- what a poll does in a core: at most so many steps of it, or all where no number is told
+  abbrev pub DoesSteps : Option ℕ → ℕ → Piece T → Core T Sat → Core T Sat → Type 0
+  DoesSteps (Some most) = DoesPiece true most
+  DoesSteps None = DoesPoll true
+
+  -- a tick is noted, and a poll is made, whole or a piece of it; what comes out leaves with its value,
+  -- at no deadline before the one that it had
+  abbrev pub StorePolls : ℕ → Option ℕ → Result (Piece T) CoreError → StoreState T Sat →
       StoreState T Sat → Type 0
-  StorePollsSome tick most r s t =
-      PollsFor (DoesPiece true most) s tick r t × KeepsIds s t
+  StorePolls tick most r s t =
+      PollsFor (DoesSteps most) s tick r t × KeepsIds s t
       × IfPieceOut r (λ x. GoesOut s x.key.entry x.value t) × HoldsDeadlines s t
       × IfPieceOut r (λ x. LeavesInForce s x.key.entry x.deadline) × KeepsNumbers s t
 
-  -- a piece of a poll, of which what comes out keeps what a call promised
-  abbrev pub StorePollsBeside : PromiseView → ℕ → ℕ → Result (Piece T) CoreError →
+  -- such a poll, of which what comes out keeps what a call promised
+  abbrev pub StorePollsBeside : PromiseView → ℕ → Option ℕ → Result (Piece T) CoreError →
       StoreState T Sat → StoreState T Sat → Type 0
   StorePollsBeside p tick most r s t =
-      StorePollsSome tick most r s t × IfPieceOut r (KeepsPromise s.notes p)
+      StorePolls tick most r s t × IfPieceOut r (KeepsPromise s.notes p)
 
   -- a core comes in, which is open from then on; or it comes back, and the store stays. It keeps the
   -- ids that it doesn't give anew
@@ -144,8 +149,8 @@ module _ {T : Type 0} where
       ⊎ (((id : EntryId) × (when : ℕ) × (r : Result Key CoreError × Option T)
       × StoreResets id when r s t)
       ⊎ (((id : EntryId) × (r : Result ℕ CoreError) × StoreTells id r s t)
-      ⊎ (((tick : ℕ) × (most : ℕ) × (r : Result (Piece T) CoreError)
-      × StorePollsSome tick most r s t)
+      ⊎ (((tick : ℕ) × (most : Option ℕ) × (r : Result (Piece T) CoreError)
+      × StorePolls tick most r s t)
       ⊎ (((c : Core T Sat) × (r : Result (Unit {0}) (TakeError × Core T Sat))
       × StoreTakesIn c r s t)
       ⊎ (((r : Option (Core T Sat)) × StoreGives r s t)

@@ -1,8 +1,8 @@
 //! A row of shards, each behind a lock of its own, and the calls by name of their callers.
-ghost use Rattle.std.specs.Prelude.{◌≡◌, ◌<◌, ◌≤◌, ◌^◌, vec_len, IfOk, IfErr, IfSome};
+ghost use Rattle.std.specs.Prelude.{◌≡◌, ◌<◌, ◌≤◌, ◌^◌, vec_len, Some, None, IfOk, IfErr, IfSome};
 ghost use Rattle.std.specs.Sync.Mutex.{mutex_guard_value};
 ghost use Rattle.dq_queue.specs.declared.queue.QueueError.TheVariants.{Unknown};
-ghost use Rattle.dq_queue.specs.Calls.{StoreInserts, StoreRemoves, StoreResets, StoreTells, StorePollsSome, StorePollsBeside};
+ghost use Rattle.dq_queue.specs.Calls.{StoreInserts, StoreRemoves, StoreResets, StoreTells, StorePolls, StorePollsBeside};
 ghost use Rattle.dq_queue.specs.Shards.{MadeOnce};
 
 use crate::shard::{Caller, Rooms, Shard};
@@ -226,10 +226,27 @@ impl<T, J: Rooms, A: Allocator + Clone> GrowingQueue<T, J, A> {
         answer
     }
 
-    /// Takes the lock of the caller's shard, and notes a tick, of one millisecond, and makes at most `most` steps of a
-    /// poll: it takes out one entry whose deadline in force is reached by the greatest tick noted, or tells when to come
-    /// again, or has more to do. No value is dropped: that of each cancelled entry which it reaps waits until it is
-    /// taken out.
+    /// Takes the lock of the caller's shard, and notes a tick, of one millisecond, and polls: it takes out one entry whose
+    /// deadline in force is reached by the greatest tick noted, or tells when to come again, or that there may be more. No
+    /// value is dropped: that of each cancelled entry which it reaps waits until it is taken out.
+    ///
+    /// # Errors
+    /// `TickTooLarge` beyond the last tick, which is not noted then.
+    pub fn poll<R: Wait>(
+        &self,
+        rt: &R,
+        me: &mut Caller<T, J, A>,
+        tick: u64,
+    ) -> Result<Piece<T>, CoreError>
+        ensures once { MadeOnce me.old (λ s t. StorePolls tick None result s t) me.new }
+    {
+        let mut shard = self.locked_for(rt, me);
+        let answer = shard.poll(me, tick);
+        drop(shard);
+        answer
+    }
+
+    /// The same by at most `most` steps. So it also tells where it made them all, and more may be left.
     ///
     /// # Errors
     /// `TickTooLarge` beyond the last tick, which is not noted then.
@@ -240,7 +257,7 @@ impl<T, J: Rooms, A: Allocator + Clone> GrowingQueue<T, J, A> {
         tick: u64,
         most: u32,
     ) -> Result<Piece<T>, CoreError>
-        ensures once { MadeOnce me.old (λ s t. StorePollsSome tick most result s t) me.new }
+        ensures once { MadeOnce me.old (λ s t. StorePolls tick (Some most) result s t) me.new }
     {
         let mut shard = self.locked_for(rt, me);
         let answer = shard.poll_some(me, tick, most);
@@ -262,7 +279,7 @@ impl<T, J: Rooms, A: Allocator + Clone> GrowingQueue<T, J, A> {
         most: u32,
     ) -> Result<Piece<T>, CoreError>
         ensures once { MadeOnce me.old
-            (λ s t. StorePollsBeside promise.old tick most result s t) me.new }
+            (λ s t. StorePollsBeside promise.old tick (Some most) result s t) me.new }
         ensures same { promise.new ≡ promise.old }
     {
         let mut shard = self.locked_for(rt, me);

@@ -1,12 +1,12 @@
 //! What lies behind a shard's lock, and the calls that callers make of it there: each is entered once in the shard's history.
-ghost use Rattle.std.specs.Prelude.{◌≡◌, ◌<◌, ◌+◌, ◌++◌, ◌∷◌, true, [], IfOk, IfErr, IfSome, IfNone, OnOk, OnErr};
+ghost use Rattle.std.specs.Prelude.{◌≡◌, ◌<◌, ◌+◌, ◌++◌, ◌∷◌, true, [], Some, None, IfOk, IfErr, IfSome, IfNone, OnOk, OnErr};
 ghost use Rattle.dq_journal.specs.Once.{IsTold, IsWithNumber};
 ghost use Rattle.dq_journal.specs.Views.{first_witness, new_witness};
 ghost use Rattle.dq_growing.specs.Cores.{HasNo};
 ghost use Rattle.dq_growing.specs.Polls.{IfPieceOut};
 ghost use Rattle.dq_growing.specs.Store.{IsStore};
 ghost use Rattle.dq_directory.specs.Claims.{IsOf};
-ghost use Rattle.dq_queue.specs.Calls.{StoreInserts, StoreRemoves, StoreResets, StoreTells, StorePollsSome};
+ghost use Rattle.dq_queue.specs.Calls.{StoreInserts, StoreRemoves, StoreResets, StoreTells, StorePolls};
 ghost use Rattle.dq_queue.specs.Calls.{KeepsPromise, StorePollsBeside};
 ghost use Rattle.dq_queue.specs.Calls.{StoreTakesIn, StoreRefuses, StoreGives, StoreRelocates, StoreReaps};
 ghost use Rattle.dq_queue.specs.Claims.{AreClaimed, AreClaimsOf, BringsNoCore, ClaimsWords, HasClaim, IsOfItsWords, RefusedAsNew};
@@ -130,11 +130,23 @@ impl<T, A: Allocator + Clone> Held<T, A> {
         answer
     }
 
+    fn poll(&mut self, tick: u64) -> Result<Piece<T>, CoreError>
+        ensures number { self.new.number ≡ self.old.number }
+        ensures stores { IsStore self.old.store × IsStore self.new.store }
+        ensures cores { BringsNoCore self.old.store self.new.store }
+        ensures polls { StorePolls tick None result self.old.store self.new.store }
+    {
+        self.store.law();
+        let answer = self.store.poll(tick);
+        self.store.law();
+        answer
+    }
+
     fn poll_some(&mut self, tick: u64, most: u32) -> Result<Piece<T>, CoreError>
         ensures number { self.new.number ≡ self.old.number }
         ensures stores { IsStore self.old.store × IsStore self.new.store }
         ensures cores { BringsNoCore self.old.store self.new.store }
-        ensures polls { StorePollsSome tick most result self.old.store self.new.store }
+        ensures polls { StorePolls tick (Some most) result self.old.store self.new.store }
     {
         self.store.law();
         let answer = self.store.poll_some(tick, most);
@@ -153,7 +165,7 @@ impl<T, A: Allocator + Clone> Held<T, A> {
         ensures number { self.new.number ≡ self.old.number }
         ensures stores { IsStore self.old.store × IsStore self.new.store }
         ensures cores { BringsNoCore self.old.store self.new.store }
-        ensures polls { StorePollsSome tick most result self.old.store self.new.store }
+        ensures polls { StorePolls tick (Some most) result self.old.store self.new.store }
         ensures kept { IfPieceOut result (KeepsPromise self.old.store.notes promise.old) }
         ensures same { promise.new ≡ promise.old }
     {
@@ -503,9 +515,26 @@ impl<T, J: Rooms, A: Allocator + Clone> Shard<T, J, A> {
         answer
     }
 
-    /// Notes a tick, of one millisecond, and makes at most `most` steps of a poll: it takes out one entry whose deadline
-    /// in force is reached by the greatest tick noted, or tells when to come again, or has more to do. No value is
-    /// dropped: that of each cancelled entry which it reaps waits until it is taken out.
+    /// Notes a tick, of one millisecond, and polls: it takes out one entry whose deadline in force is reached by the
+    /// greatest tick noted, or tells when to come again, or that there may be more. No value is dropped: that of each
+    /// cancelled entry which it reaps waits until it is taken out.
+    ///
+    /// # Errors
+    /// `TickTooLarge` beyond the last tick, which is not noted then.
+    pub fn poll(&mut self, me: &mut Caller<T, J, A>, tick: u64) -> Result<Piece<T>, CoreError>
+        requires { me.old.shard ≡ self.old.held.number }
+        ensures once { MadeOnce me.old (λ s t. StorePolls tick None result s t) me.new }
+        ensures one_more { OneMore self.old me.old self.new }
+        ensures polls { StorePolls tick None result self.old.held.store self.new.held.store }
+        ensures number { self.new.held.number ≡ self.old.held.number }
+        ensures claims { self.new.claims ≡ self.old.claims }
+    {
+        let answer = self.held.poll(tick);
+        self.history.enter_for(&mut me.history, &self.held);
+        answer
+    }
+
+    /// The same by at most `most` steps. So it also tells where it made them all, and more may be left.
     ///
     /// # Errors
     /// `TickTooLarge` beyond the last tick, which is not noted then.
@@ -516,9 +545,9 @@ impl<T, J: Rooms, A: Allocator + Clone> Shard<T, J, A> {
         most: u32,
     ) -> Result<Piece<T>, CoreError>
         requires { me.old.shard ≡ self.old.held.number }
-        ensures once { MadeOnce me.old (λ s t. StorePollsSome tick most result s t) me.new }
+        ensures once { MadeOnce me.old (λ s t. StorePolls tick (Some most) result s t) me.new }
         ensures one_more { OneMore self.old me.old self.new }
-        ensures polls { StorePollsSome tick most result self.old.held.store self.new.held.store }
+        ensures polls { StorePolls tick (Some most) result self.old.held.store self.new.held.store }
         ensures number { self.new.held.number ≡ self.old.held.number }
         ensures claims { self.new.claims ≡ self.old.claims }
     {
@@ -541,9 +570,9 @@ impl<T, J: Rooms, A: Allocator + Clone> Shard<T, J, A> {
     ) -> Result<Piece<T>, CoreError>
         requires { me.old.shard ≡ self.old.held.number }
         ensures once { MadeOnce me.old
-            (λ s t. StorePollsBeside promise.old tick most result s t) me.new }
+            (λ s t. StorePollsBeside promise.old tick (Some most) result s t) me.new }
         ensures one_more { OneMore self.old me.old self.new }
-        ensures polls { StorePollsBeside promise.old tick most result
+        ensures polls { StorePollsBeside promise.old tick (Some most) result
             self.old.held.store self.new.held.store }
         ensures number { self.new.held.number ≡ self.old.held.number }
         ensures claims { self.new.claims ≡ self.old.claims }
