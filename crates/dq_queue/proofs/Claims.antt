@@ -22,7 +22,7 @@ use Rattle.dq_growing.specs.Cores.{AreCores, CoreRow, HasNo, IsCoreAt, OnCore, O
 use Rattle.dq_growing.specs.Moving.{GoesTo, Relocates}
 use Rattle.dq_growing.specs.Polls.{PollsRow}
 use Rattle.dq_growing.specs.Stands.{KeepsWords}
-use Rattle.dq_growing.specs.Store.{StoreState, AfterReset, PollsFor, ReapsFor, RelocatesFor, RemovesAt, RemovesFor, ResetsFor, TellsFor}
+use Rattle.dq_growing.specs.Store.{StoreState, AfterReset, PollsFor, ReapsFor, RelocatesFor, RemovesAt, RemovesFor, RemovesIfDueFor, ResetsFor, TellsFor}
 use Rattle.dq_growing.proofs.Rows.{one_at, at_snoc, removed_at, snoc_long, snoc_before, snoc_last}
 use Rattle.dq_words.specs.KeeperCalls.{HasBegun}
 use Rattle.dq_words.specs.OpenCalls.{Open}
@@ -99,6 +99,11 @@ module _ {T : Type 0} where
   pub tells_long : (s t : StoreState T Sat) (u : EntryId) (r : Result ℕ CoreError) → TellsFor true s u r t → SameLength s.cores t.cores
   tells_long s t u r (inl y) = or_long s.cores t.cores _ _ _ y.2.0
   tells_long s t u r (inr y) = same_store s t y.1.1
+
+  pub removes_if_due_long : (s t : StoreState T Sat) (u : EntryId) (tick : ℕ) (r : Result (Option (Removed T)) CoreError) → RemovesIfDueFor true s u tick r t → SameLength s.cores t.cores
+  removes_if_due_long s t u tick (Ok (Some x)) y = removes_long s t u (Ok x) y.1
+  removes_if_due_long s t u tick (Ok None) y = tells_long s t u (Ok y.0) y.2
+  removes_if_due_long s t u tick (Err e) y = removes_long s t u (Err e) y
 
   pub reaps_long : (s t : StoreState T Sat) (u : EntryId) (r : Result (Unit {0}) ReapError) → ReapsFor true s u r t → SameLength s.cores t.cores
   reaps_long s t u r (inl y) = or_long s.cores t.cores _ _ _ y.2.0

@@ -1,5 +1,5 @@
 -- What a shard's calls leave of the ids that entries have had, and what follows over its history.
-use Rattle.std.proofs.Common.{◌≡◌, ◌≢◌, ◌⊎◌, ℕ, List, [], ◌∷◌, ◌++◌, arith, set, length-set, Option, Some, Result, Ok, Err, IfOk, refl, sym, ap, ◌∙◌, subst, inl, inr, ⊎_elim, append_assoc}
+use Rattle.std.proofs.Common.{true, ◌≡◌, ◌≢◌, ◌⊎◌, ℕ, List, [], ◌∷◌, ◌++◌, arith, set, length-set, Option, Some, None, Result, Ok, Err, IfOk, IfSome, refl, sym, ap, ◌∙◌, subst, inl, inr, ⊎_elim, append_assoc}
 use Rattle.dq_ticks.specs.declared.keys.Key.{Key}
 use Rattle.dq_ticks.specs.declared.keys.EntryId.{EntryId}
 use Rattle.dq_core.specs.declared.errors.CoreError.{CoreError}
@@ -13,16 +13,16 @@ use Rattle.std.proofs.lemmas.List.{get_or-set_same}
 use Rattle.dq_growing.specs.Cores.{CoreRow, HasAt, InsertsIn, IsCoreAt, TakesIn, closed_error}
 use Rattle.dq_growing.specs.Moving.{IfCameOut}
 use Rattle.dq_growing.specs.Notes.{ArePastBy, Book, numbers_of}
-use Rattle.dq_growing.specs.Runs.{IsUsedId, KeepsId, GivesId, KeepsItsDeadline, NotDueBefore, HoldsDeadline}
+use Rattle.dq_growing.specs.Runs.{IsUsedId, KeepsId, KeepsIds, GivesId, KeepsItsDeadline, NotDueBefore, HoldsDeadline, HoldsDeadlines, LeavesInForce}
 use Rattle.dq_growing.specs.Stands.{OneLeaves}
-use Rattle.dq_growing.specs.Store.{StoreState, StandsFor, HasFor, HasOneValue, NoneStandsFor, ComesFor, GoesOut}
+use Rattle.dq_growing.specs.Store.{StoreState, RemovesIfDueFor, StandsFor, HasFor, HasOneValue, NoneStandsFor, ComesFor, GoesOut}
 use Rattle.dq_growing.specs.declared.moving.NextDeadline.{NextDeadline}
 use Rattle.dq_growing.specs.declared.moving.NextDeadline.TheVariants.{Same, At, SameIfAfter}
 use Rattle.dq_growing.proofs.Pairing.{one_or_two}
 use Rattle.dq_growing.proofs.Standing.{some_is}
 use Rattle.dq_growing.proofs.Stored.{stored}
 use Rattle.dq_words.specs.Seats.{Sat}
-use Rattle.dq_queue.specs.Calls.{IsStoreCall, StoreTakesIn, StoreResets, StoreRelocates, HasOnly, ComesNew}
+use Rattle.dq_queue.specs.Calls.{IsStoreCall, StoreRemovesIfDue, StoreTakesIn, StoreResets, StoreRelocates, HasOnly, ComesNew}
 use Rattle.dq_queue.specs.Runs.{ByCall, ByEach, WasGivenIn, KeepsGivenIds, StandsOn, LeavesWith, StaysEnded, LeftOnce, SetsDeadline, SetsNone, LeavesNoSooner, StaysDue, EntriesLeaveOnceIn, EndedStaysEndedIn, DeadlinesHoldIn}
 use Rattle.dq_queue.specs.Shards.{Held, IsAsLeft, IsStoreHistory}
 
@@ -48,6 +48,19 @@ module _ {T : Type 0} where
       → IfOk r (λ x. GoesOut s u x.value t)
   went_out s t u (Ok x) left = (left.was, left.gone)
   went_out s t u (Err e) left = tt {0}
+
+  pub due_out : (s t : StoreState T Sat) (u : EntryId) (tick : ℕ) (r : Result (Option (Removed T)) CoreError) → RemovesIfDueFor true s u tick r t → KeepsIds s t
+      → IfOk r (λ found. IfSome found (λ x. OneLeaves (StandsFor s) (StandsFor t) u x.value)) → HoldsDeadlines s t → IfOk r (λ found. IfSome found (λ x. LeavesInForce s u x.deadline))
+      → StoreRemovesIfDue u tick r s t
+  due_out s t u tick (Ok (Some x)) did keeps left holds in_force = (did.0, (did.1, keeps, (left.was, left.gone), holds, in_force))
+  due_out s t u tick (Ok None) did keeps left holds in_force = (did.0, did.1, (did.2, keeps, holds))
+  due_out s t u tick (Err e) did keeps left holds in_force = (did, keeps, tt {0}, holds, tt {0})
+
+  -- a removal of what is due is a removal, or a look
+  pub due_call : (s t : StoreState T Sat) (u : EntryId) (tick : ℕ) (r : Result (Option (Removed T)) CoreError) → StoreRemovesIfDue u tick r s t → IsStoreCall s t
+  due_call s t u tick (Ok (Some x)) did = inr (inl (u, Ok x, did.1))
+  due_call s t u tick (Ok None) did = inr (inr (inr (inl (u, Ok did.0, did.2))))
+  due_call s t u tick (Err e) did = inr (inl (u, Err e, did))
 
   pub moved_out : (s t : StoreState T Sat) (u : EntryId) (r : Result (Moved T) CoreError) → IfOk r (λ m. IfCameOut m (λ x. OneLeaves (StandsFor s) (StandsFor t) u x.value))
       → IfOk r (λ m. IfCameOut m (λ x. GoesOut s u x.value t))

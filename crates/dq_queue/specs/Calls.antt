@@ -1,6 +1,6 @@
 -- What one call does to what lies behind a shard's lock. Each keeps the ids that entries have had, and
 -- the deadline of each entry but one that it gives another.
-use Rattle.std.specs.Prelude.{◌≡◌, ◌⊎◌, ℕ, true, Option, Some, None, Result, IfOk, IfErr, IfSome, IfNone, OnOk, OnErr}
+use Rattle.std.specs.Prelude.{◌≡◌, ◌⊎◌, ◌<◌, ◌≤◌, ℕ, true, Option, Some, None, Result, Ok, Err, IfOk, IfErr, IfSome, IfNone, OnOk, OnErr}
 use Rattle.dq_ticks.specs.declared.keys.Key.{Key}
 use Rattle.dq_ticks.specs.declared.keys.EntryId.{EntryId}
 use Rattle.dq_core.specs.declared.errors.CoreError.{CoreError}
@@ -69,16 +69,23 @@ module _ {T : Type 0} where
       RemovesFor true s id r t × KeepsIds s t × IfOk r (λ x. GoesOut s id x.value t)
       × HoldsDeadlines s t × IfOk r (λ x. LeavesInForce s id x.deadline)
 
+  -- an entry's deadline is told
+  abbrev pub StoreTells : EntryId → Result ℕ CoreError → StoreState T Sat → StoreState T Sat → Type 0
+  StoreTells id r s t = TellsFor true s id r t × KeepsIds s t × HoldsDeadlines s t
+
+  -- what is due by a tick is removed; of what is due later the deadline is told, and it stays
+  abbrev pub StoreRemovesIfDue : EntryId → ℕ → Result (Option (Removed T)) CoreError →
+      StoreState T Sat → StoreState T Sat → Type 0
+  StoreRemovesIfDue id tick (Ok (Some x)) s t = (x.deadline ≤ tick) × StoreRemoves id (Ok x) s t
+  StoreRemovesIfDue id tick (Ok None) s t = (d : ℕ) × (tick < d) × StoreTells id (Ok d) s t
+  StoreRemovesIfDue id tick (Err e) s t = StoreRemoves id (Err e) s t
+
   -- an entry gets another deadline, and none leaves; refused, no deadline falls
   abbrev pub StoreResets : EntryId → ℕ → Result Key CoreError × Option T → StoreState T Sat →
       StoreState T Sat → Type 0
   StoreResets id when r s t =
       ResetsFor true s id when r t × KeepsIds s t × HoldsOtherDeadlines id s t
       × OnErr r.0 (HoldsDeadlines s t) × OnOk r.0 (NotDueBefore t id when) × NoneLeft s t
-
-  -- an entry's deadline is told
-  abbrev pub StoreTells : EntryId → Result ℕ CoreError → StoreState T Sat → StoreState T Sat → Type 0
-  StoreTells id r s t = TellsFor true s id r t × KeepsIds s t × HoldsDeadlines s t
 
   -- what a poll does in a core: at most so many steps of it, or all where no number is told
   abbrev pub DoesSteps : Option ℕ → ℕ → Piece T → Core T Sat → Core T Sat → Type 0
@@ -140,7 +147,7 @@ module _ {T : Type 0} where
   StoreReaps id r s t =
       ReapsFor true s id r t × KeepsIds s t × HoldsDeadlines s t × KeepsNumbers s t
 
-  -- one call took a store from one state to another
+  -- one call took a store from one state to another; a removal of what is due is a removal or a look
   abbrev pub IsStoreCall : StoreState T Sat → StoreState T Sat → Type 0
   IsStoreCall s t =
       ((v : T) × (when : ℕ) × (r : Result Key (CoreError × T) × Option T)

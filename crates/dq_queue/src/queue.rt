@@ -2,7 +2,7 @@
 ghost use Rattle.std.specs.Prelude.{◌≡◌, ◌<◌, ◌≤◌, ◌^◌, vec_len, Some, None, IfOk, IfErr, IfSome};
 ghost use Rattle.std.specs.Sync.Mutex.{mutex_guard_value};
 ghost use Rattle.dq_queue.specs.declared.queue.QueueError.TheVariants.{Unknown};
-ghost use Rattle.dq_queue.specs.Calls.{StoreInserts, StoreRemoves, StoreResets, StoreTells, StorePolls, StorePollsBeside};
+ghost use Rattle.dq_queue.specs.Calls.{StoreInserts, StoreRemoves, StoreRemovesIfDue, StoreResets, StoreTells, StorePolls, StorePollsBeside};
 ghost use Rattle.dq_queue.specs.Shards.{MadeOnce};
 
 use crate::shard::{Caller, Rooms, Shard};
@@ -174,6 +174,29 @@ impl<T, J: Rooms, A: Allocator + Clone> GrowingQueue<T, J, A> {
     {
         let mut shard = self.locked_for(rt, me);
         let answer = shard.remove(me, entry);
+        drop(shard);
+        answer
+    }
+
+    /// Takes the lock of the caller's shard, and takes a live entry out if its current deadline isn't after `tick`, of one
+    /// millisecond, and returns its value with its key and that deadline. It returns none if the deadline is later: then
+    /// the entry stays where it is, with its key. Constant time, and no memory is taken.
+    ///
+    /// # Errors
+    /// In this order:
+    /// - `Missing` if the entry isn't in the shard any more, or never was.
+    /// - `WasCancelled` if the entry was cancelled.
+    pub fn remove_if_due<R: Wait>(
+        &self,
+        rt: &R,
+        me: &mut Caller<T, J, A>,
+        entry: &EntryId,
+        tick: u64,
+    ) -> Result<Option<Removed<T>>, CoreError>
+        ensures once { MadeOnce me.old (λ s t. StoreRemovesIfDue entry.now tick result s t) me.new }
+    {
+        let mut shard = self.locked_for(rt, me);
+        let answer = shard.remove_if_due(me, entry, tick);
         drop(shard);
         answer
     }

@@ -6,7 +6,7 @@ ghost use Rattle.dq_growing.specs.Cores.{HasNo};
 ghost use Rattle.dq_growing.specs.Polls.{IfPieceOut};
 ghost use Rattle.dq_growing.specs.Store.{IsStore};
 ghost use Rattle.dq_directory.specs.Claims.{IsOf};
-ghost use Rattle.dq_queue.specs.Calls.{StoreInserts, StoreRemoves, StoreResets, StoreTells, StorePolls};
+ghost use Rattle.dq_queue.specs.Calls.{StoreInserts, StoreRemoves, StoreRemovesIfDue, StoreResets, StoreTells, StorePolls};
 ghost use Rattle.dq_queue.specs.Calls.{KeepsPromise, StorePollsBeside};
 ghost use Rattle.dq_queue.specs.Calls.{StoreTakesIn, StoreRefuses, StoreGives, StoreRelocates, StoreReaps};
 ghost use Rattle.dq_queue.specs.Claims.{AreClaimed, AreClaimsOf, BringsNoCore, ClaimsWords, HasClaim, IsOfItsWords, RefusedAsNew};
@@ -101,6 +101,18 @@ impl<T, A: Allocator + Clone> Held<T, A> {
     {
         self.store.law();
         let answer = self.store.remove(entry);
+        self.store.law();
+        answer
+    }
+
+    fn remove_if_due(&mut self, entry: &EntryId, tick: u64) -> Result<Option<Removed<T>>, CoreError>
+        ensures number { self.new.number ≡ self.old.number }
+        ensures stores { IsStore self.old.store × IsStore self.new.store }
+        ensures cores { BringsNoCore self.old.store self.new.store }
+        ensures removes { StoreRemovesIfDue entry.now tick result self.old.store self.new.store }
+    {
+        self.store.law();
+        let answer = self.store.remove_if_due(entry, tick);
         self.store.law();
         answer
     }
@@ -463,6 +475,33 @@ impl<T, J: Rooms, A: Allocator + Clone> Shard<T, J, A> {
         ensures claims { self.new.claims ≡ self.old.claims }
     {
         let answer = self.held.remove(entry);
+        self.history.enter_for(&mut me.history, &self.held);
+        answer
+    }
+
+    /// Takes a live entry out if its current deadline isn't after `tick`, of one millisecond, and returns its value with its
+    /// key and that deadline. It returns none if the deadline is later: then the entry stays where it is, with its key.
+    /// Constant time, and no memory is taken.
+    ///
+    /// # Errors
+    /// In this order:
+    /// - `Missing` if the entry isn't in the shard any more, or never was.
+    /// - `WasCancelled` if the entry was cancelled.
+    pub fn remove_if_due(
+        &mut self,
+        me: &mut Caller<T, J, A>,
+        entry: &EntryId,
+        tick: u64,
+    ) -> Result<Option<Removed<T>>, CoreError>
+        requires { me.old.shard ≡ self.old.held.number }
+        ensures once { MadeOnce me.old (λ s t. StoreRemovesIfDue entry.now tick result s t) me.new }
+        ensures one_more { OneMore self.old me.old self.new }
+        ensures removes { StoreRemovesIfDue entry.now tick result
+            self.old.held.store self.new.held.store }
+        ensures number { self.new.held.number ≡ self.old.held.number }
+        ensures claims { self.new.claims ≡ self.old.claims }
+    {
+        let answer = self.held.remove_if_due(entry, tick);
         self.history.enter_for(&mut me.history, &self.held);
         answer
     }
