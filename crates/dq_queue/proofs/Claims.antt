@@ -22,7 +22,7 @@ use Rattle.dq_growing.specs.Cores.{AreCores, CoreRow, HasNo, IsCoreAt, OnCore, O
 use Rattle.dq_growing.specs.Moving.{GoesTo, Relocates}
 use Rattle.dq_growing.specs.Polls.{PollsRow}
 use Rattle.dq_growing.specs.Stands.{KeepsWords}
-use Rattle.dq_growing.specs.Store.{StoreState, AfterReset, PollsFor, ReapsFor, RelocatesFor, RemovesAt, RemovesFor, RemovesIfDueFor, ResetsFor, TellsFor}
+use Rattle.dq_growing.specs.Store.{StoreState, AfterReset, PollsFor, ReapsFor, RelocatesFor, RemovesAt, RemovesFor, RemovesIfDueFor, ResetsFor, ResetsThere, TellsFor}
 use Rattle.dq_growing.proofs.Rows.{one_at, at_snoc, removed_at, snoc_long, snoc_before, snoc_last}
 use Rattle.dq_words.specs.KeeperCalls.{HasBegun}
 use Rattle.dq_words.specs.OpenCalls.{Open}
@@ -147,6 +147,10 @@ module _ {T : Type 0} where
   pub resets_long : (s t : StoreState T Sat) (u : EntryId) (when : ℕ) (r : Result Key CoreError) (beside : Option T) → ResetsFor true s u when (r, beside) t → SameLength s.cores t.cores
   resets_long s t u when r beside (inl (p, meant, (made, m, on, after))) = after_long _ t u when made r beside after ∙ or_long s.cores m p.shard _ _ on
   resets_long s t u when r beside (inr y) = same_store s t y.1.1
+
+  pub resets_there_long : (s t : StoreState T Sat) (u : EntryId) (when : ℕ) (r : Result Key CoreError) → ResetsThere true s u when r t → SameLength s.cores t.cores
+  resets_there_long s t u when r (inl y) = or_long s.cores t.cores _ _ _ y.2.1
+  resets_there_long s t u when r (inr y) = same_store s t y.1.1
 
   -- each core after a call has the number and the words of the one that stood there before
   came_from : (s t : CoreRow T Sat) → KeepsWords table_by HasBegun s t → SameLength s t → (i : ℕ) (c : Core T Sat) → IsCoreAt t.cores i c

@@ -45,7 +45,7 @@ use Rattle.dq_growing.specs.Moving.{IfTo, IsTakenOut, Relocates}
 use Rattle.dq_growing.specs.Notes.{Book, IsNoted, LosesNote, SameNotes, meant_place, or_own, place_by, user_at, with_id}
 use Rattle.dq_growing.specs.Polls.{PollsCore, PollsRow, noting_in, told}
 use Rattle.dq_growing.specs.Stands.{HasEntry, IsThere, KeepsWords}
-use Rattle.dq_growing.specs.Store.{StoreState, IsStore, StandsFor, NoneStandsFor, GoesOnFor, GoesOut, NotesAfter, NotesAnswered, NotesReaped, ReapsFor, RelocatesFor, RemovesFor, ResetsFor, TellsFor, AfterReset, answer_as, expired_as, piece_as, removed_as}
+use Rattle.dq_growing.specs.Store.{StoreState, IsStore, StandsFor, NoneStandsFor, GoesOnFor, GoesOut, NotesAfter, NotesAnswered, NotesReaped, ReapsFor, RelocatesFor, RemovesFor, ResetsFor, TellsFor, AfterReset, answer_as, expired_as, piece_as, removed_as, ResetsThere}
 use Rattle.dq_growing.proofs.Holding.{CoreRaises, pieces_raise, polls_raise}
 use Rattle.dq_growing.proofs.Keeping.{piece_gone, poll_gone, way_stood}
 use Rattle.dq_growing.proofs.Leasts.{some_not_none}
@@ -703,6 +703,10 @@ module _ {T : Type 0} where
   after_left m t id when (Err e) r beside law cores (inl y) = relocates_left m t id when (y.1.0, beside) law cores y.1.1
   after_left m t id when (Err e) r beside law cores (inr y) = same_none_left m t y.3
 
+  pub there_left : (s t : StoreState T Sat) (id : EntryId) (when : ℕ) (r : Result Key CoreError) → ResetsThere true s id when r t → NoneLeft s t
+  there_left s t id when r (inl (p0, meant, (made, on, is, notes))) = still s t (or_stays s.cores t.cores p0.shard _ _ on (λ b c did. resets_stay b c p0 when made did)) (same_users s.notes t.notes notes)
+  there_left s t id when r (inr (nowhere, (is, same))) = same_none_left s t same
+
   pub resets_left : (s t : StoreState T Sat) (id : EntryId) (when : ℕ) (r : Result Key CoreError) (beside : Option T) → IsStore s → AreCores s.cores → ResetsFor true s id when (r, beside) t → NoneLeft s t
   resets_left s t id when r beside law cores (inl (p0, meant, (made, m, on, after))) =
       let mid = stored m s.notes in
@@ -715,13 +719,14 @@ module _ {T : Type 0} where
 pub loses_none : (T : Type 0) → StoreLosesNone T
 loses_none T s t (inl y) = let did = y.3 in none_lost s t (still s t (inserts_row s.cores t.cores y.0 y.1 y.2 did.0) (same_users s.notes t.notes did.1))
 loses_none T s t (inr (inl y)) = let did = y.2 in removes_lose s t y.0 y.1 did did.0
-loses_none T s t (inr (inr (inl y))) = let did = y.3 in none_lost s t did.5
+loses_none T s t (inr (inr (inl y))) = let did = y.3 in none_lost s t did.1.4
 loses_none T s t (inr (inr (inr (inl y)))) = let did = y.2 in none_lost s t (tells_left s t y.0 y.1 did.0)
 loses_none T s t (inr (inr (inr (inr (inl y))))) = let did = y.3 in polls_lose s t y.0 y.1 y.2 did did.0.0 did.0.1 did.0.2 did.0.3
 loses_none T s t (inr (inr (inr (inr (inr (inl y)))))) = none_lost s t (takes_left s t y.0 y.1 y.2)
 loses_none T s t (inr (inr (inr (inr (inr (inr (inl y))))))) = none_lost s t (gives_left s t y.0 y.1)
 loses_none T s t (inr (inr (inr (inr (inr (inr (inr (inl y)))))))) = let did = y.3 in relocates_lose s t y.0 y.1 y.2.0 y.2.1 did did.0
-loses_none T s t (inr (inr (inr (inr (inr (inr (inr (inr y)))))))) = let did = y.2 in reaps_lose s t y.0 y.1 did.0 did.3
+loses_none T s t (inr (inr (inr (inr (inr (inr (inr (inr (inl y))))))))) = let did = y.2 in reaps_lose s t y.0 y.1 did.0 did.3
+loses_none T s t (inr (inr (inr (inr (inr (inr (inr (inr (inr y))))))))) = let did = y.3 in none_lost s t did.1.4
 
 -- over a history
 each_loses_none : {T : Type 0} (log : List (Call (Held T))) (history : IsStoreHistory log) → EachLosesNone log history

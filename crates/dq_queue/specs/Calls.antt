@@ -17,7 +17,7 @@ use Rattle.dq_growing.specs.Runs.{IsUsedId, KeepsIds, KeepsIdsBeside, GivesId, H
 use Rattle.dq_core.specs.declared.errors.ReapError.{ReapError}
 use Rattle.dq_growing.specs.declared.moving.Moved.{Moved}
 use Rattle.dq_growing.specs.declared.moving.NextDeadline.{NextDeadline}
-use Rattle.dq_growing.specs.Store.{StoreState, RemovesFor, TellsFor, ResetsFor, RelocatesFor, ReapsFor, PollsFor, HasFor, HasOneValue, NoneStandsFor, GoesOut, TakeRefusedFor}
+use Rattle.dq_growing.specs.Store.{StoreState, RemovesFor, TellsFor, ResetsFor, ResetsThere, RelocatesFor, ReapsFor, PollsFor, HasFor, HasOneValue, NoneStandsFor, GoesOut, TakeRefusedFor}
 use Rattle.dq_words.specs.Plays.{Covers}
 use Rattle.dq_words.specs.Seats.{Sat}
 use Rattle.dq_queue.specs.Words.{PromiseView}
@@ -80,12 +80,22 @@ module _ {T : Type 0} where
   StoreRemovesIfDue id tick (Ok None) s t = (d : ℕ) × (tick < d) × StoreTells id (Ok d) s t
   StoreRemovesIfDue id tick (Err e) s t = StoreRemoves id (Err e) s t
 
-  -- an entry gets another deadline, and none leaves; refused, no deadline falls
+  -- what a reset keeps: none leaves; no other deadline falls, and none where it is refused
+  abbrev pub KeepsByReset : EntryId → ℕ → Result Key CoreError → StoreState T Sat →
+      StoreState T Sat → Type 0
+  KeepsByReset id when r s t =
+      KeepsIds s t × HoldsOtherDeadlines id s t
+      × OnErr r (HoldsDeadlines s t) × OnOk r (NotDueBefore t id when) × NoneLeft s t
+
+  -- an entry gets another deadline
   abbrev pub StoreResets : EntryId → ℕ → Result Key CoreError × Option T → StoreState T Sat →
       StoreState T Sat → Type 0
-  StoreResets id when r s t =
-      ResetsFor true s id when r t × KeepsIds s t × HoldsOtherDeadlines id s t
-      × OnErr r.0 (HoldsDeadlines s t) × OnOk r.0 (NotDueBefore t id when) × NoneLeft s t
+  StoreResets id when r s t = ResetsFor true s id when r t × KeepsByReset id when r.0 s t
+
+  -- so where it stays at its place; one that is refused for its slot's stamps is no reset as above
+  abbrev pub StoreResetsThere : EntryId → ℕ → Result Key CoreError → StoreState T Sat →
+      StoreState T Sat → Type 0
+  StoreResetsThere id when r s t = ResetsThere true s id when r t × KeepsByReset id when r s t
 
   -- what a poll does in a core: at most so many steps of it, or all where no number is told
   abbrev pub DoesSteps : Option ℕ → ℕ → Piece T → Core T Sat → Core T Sat → Type 0
@@ -163,4 +173,6 @@ module _ {T : Type 0} where
       ⊎ (((r : Option (Core T Sat)) × StoreGives r s t)
       ⊎ (((id : EntryId) × (next : NextDeadline) × (r : Result (Moved T) CoreError × Option T)
       × StoreRelocates id next r s t)
-      ⊎ ((id : EntryId) × (r : Result (Unit {0}) ReapError) × StoreReaps id r s t))))))))
+      ⊎ (((id : EntryId) × (r : Result (Unit {0}) ReapError) × StoreReaps id r s t)
+      ⊎ ((id : EntryId) × (when : ℕ) × (r : Result Key CoreError)
+      × StoreResetsThere id when r s t)))))))))

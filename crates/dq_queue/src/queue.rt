@@ -2,7 +2,7 @@
 ghost use Rattle.std.specs.Prelude.{◌≡◌, ◌<◌, ◌≤◌, ◌^◌, vec_len, Some, None, IfOk, IfErr, IfSome};
 ghost use Rattle.std.specs.Sync.Mutex.{mutex_guard_value};
 ghost use Rattle.dq_queue.specs.declared.queue.QueueError.TheVariants.{Unknown};
-ghost use Rattle.dq_queue.specs.Calls.{StoreInserts, StoreRemoves, StoreRemovesIfDue, StoreResets, StoreTells, StorePolls, StorePollsBeside};
+ghost use Rattle.dq_queue.specs.Calls.{StoreInserts, StoreRemoves, StoreRemovesIfDue, StoreResets, StoreResetsThere, StoreTells, StorePolls, StorePollsBeside};
 ghost use Rattle.dq_queue.specs.Shards.{MadeOnce};
 
 use crate::shard::{Caller, Rooms, Shard};
@@ -224,6 +224,29 @@ impl<T, J: Rooms, A: Allocator + Clone> GrowingQueue<T, J, A> {
     {
         let mut shard = self.locked_for(rt, me);
         let answer = shard.reset(me, entry, when);
+        drop(shard);
+        answer
+    }
+
+    /// The same of an entry that stays where it is. No memory is taken.
+    ///
+    /// # Errors
+    /// In this order:
+    /// - `TooFar` if `when` is beyond the last tick.
+    /// - `Missing` if the entry isn't in the shard any more, or never was.
+    /// - `WasCancelled` if the entry was cancelled.
+    /// - `Worn` if the entry's slot has no stamp left for another key.
+    pub fn reset_in_place<R: Wait>(
+        &self,
+        rt: &R,
+        me: &mut Caller<T, J, A>,
+        entry: &EntryId,
+        when: u64,
+    ) -> Result<Key, CoreError>
+        ensures once { MadeOnce me.old (λ s t. StoreResetsThere entry.now when result s t) me.new }
+    {
+        let mut shard = self.locked_for(rt, me);
+        let answer = shard.reset_in_place(me, entry, when);
         drop(shard);
         answer
     }

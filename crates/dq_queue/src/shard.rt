@@ -6,7 +6,7 @@ ghost use Rattle.dq_growing.specs.Cores.{HasNo};
 ghost use Rattle.dq_growing.specs.Polls.{IfPieceOut};
 ghost use Rattle.dq_growing.specs.Store.{IsStore};
 ghost use Rattle.dq_directory.specs.Claims.{IsOf};
-ghost use Rattle.dq_queue.specs.Calls.{StoreInserts, StoreRemoves, StoreRemovesIfDue, StoreResets, StoreTells, StorePolls};
+ghost use Rattle.dq_queue.specs.Calls.{StoreInserts, StoreRemoves, StoreRemovesIfDue, StoreResets, StoreResetsThere, StoreTells, StorePolls};
 ghost use Rattle.dq_queue.specs.Calls.{KeepsPromise, StorePollsBeside};
 ghost use Rattle.dq_queue.specs.Calls.{StoreTakesIn, StoreRefuses, StoreGives, StoreRelocates, StoreReaps};
 ghost use Rattle.dq_queue.specs.Claims.{AreClaimed, AreClaimsOf, BringsNoCore, ClaimsWords, HasClaim, IsOfItsWords, RefusedAsNew};
@@ -126,6 +126,18 @@ impl<T, A: Allocator + Clone> Held<T, A> {
         self.store.law();
         self.store.cores().law();
         let answer = self.store.reset(entry, when);
+        self.store.law();
+        answer
+    }
+
+    fn reset_in_place(&mut self, entry: &EntryId, when: u64) -> Result<Key, CoreError>
+        ensures number { self.new.number ≡ self.old.number }
+        ensures stores { IsStore self.old.store × IsStore self.new.store }
+        ensures cores { BringsNoCore self.old.store self.new.store }
+        ensures resets { StoreResetsThere entry.now when result self.old.store self.new.store }
+    {
+        self.store.law();
+        let answer = self.store.reset_in_place(entry, when);
         self.store.law();
         answer
     }
@@ -531,6 +543,33 @@ impl<T, J: Rooms, A: Allocator + Clone> Shard<T, J, A> {
         ensures claims { self.new.claims ≡ self.old.claims }
     {
         let answer = self.held.reset(entry, when);
+        self.history.enter_for(&mut me.history, &self.held);
+        answer
+    }
+
+    /// The same of an entry that stays where it is. No memory is taken.
+    ///
+    /// # Errors
+    /// In this order:
+    /// - `TooFar` if `when` is beyond the last tick.
+    /// - `Missing` if the entry isn't in the shard any more, or never was.
+    /// - `WasCancelled` if the entry was cancelled.
+    /// - `Worn` if the entry's slot has no stamp left for another key.
+    pub fn reset_in_place(
+        &mut self,
+        me: &mut Caller<T, J, A>,
+        entry: &EntryId,
+        when: u64,
+    ) -> Result<Key, CoreError>
+        requires { me.old.shard ≡ self.old.held.number }
+        ensures once { MadeOnce me.old (λ s t. StoreResetsThere entry.now when result s t) me.new }
+        ensures one_more { OneMore self.old me.old self.new }
+        ensures resets { StoreResetsThere entry.now when result
+            self.old.held.store self.new.held.store }
+        ensures number { self.new.held.number ≡ self.old.held.number }
+        ensures claims { self.new.claims ≡ self.old.claims }
+    {
+        let answer = self.held.reset_in_place(entry, when);
         self.history.enter_for(&mut me.history, &self.held);
         answer
     }
