@@ -20,10 +20,10 @@ use Rattle.dq_growing.specs.declared.moving.NextDeadline.{NextDeadline}
 use Rattle.dq_growing.specs.declared.moving.NextDeadline.TheVariants.{At}
 use Rattle.dq_growing.specs.Cores.{AreCores, CoreRow, HasNo, IsCoreAt, OnCore, OnCoreAt, OnCoreOr, InsertsIn, GivesDrained, TakesIn}
 use Rattle.dq_growing.specs.Moving.{GoesTo, Relocates}
-use Rattle.dq_growing.specs.Polls.{PollsRow}
+use Rattle.dq_growing.specs.Polls.{PollsRow, TakesDeferredAt, TakesDeferredIn}
 use Rattle.dq_growing.specs.Stands.{KeepsWords}
 use Rattle.dq_growing.specs.Store.{StoreState, AfterReset, PollsFor, ReapsFor, RelocatesFor, RemovesAt, RemovesFor, RemovesIfDueFor, ResetsFor, ResetsThere, TellsFor}
-use Rattle.dq_growing.proofs.Rows.{one_at, at_snoc, removed_at, snoc_long, snoc_before, snoc_last}
+use Rattle.dq_growing.proofs.Rows.{at_after, one_at, at_snoc, removed_at, snoc_long, snoc_before, snoc_last}
 use Rattle.dq_words.specs.KeeperCalls.{HasBegun}
 use Rattle.dq_words.specs.OpenCalls.{Open}
 use Rattle.dq_words.specs.Seats.{Sat}
@@ -217,6 +217,20 @@ module _ {T : Type 0} where
   pub gives_none : (s t : StoreState T Sat) (r : Option (Core T Sat)) → StoreGives r s t → BringsNoCore s t
   gives_none s t (Some c) y = gone s t c y.0
   gives_none s t None y = same_cores s t y.1.1
+
+  -- a value that waited is taken out of a core, whose number and words stay
+  deferred_at : (s t : StoreState T Sat) (v : T) (i : ℕ) → OnCoreAt i (TakesDeferredAt v) s.cores t.cores → BringsNoCore s t
+  deferred_at s t v i on j c at =
+      let P : CoreRow T Sat → Type 0 = λ r. IsCoreAt r.cores j c in
+      ⊎_elim
+      (λ y. let is : c ≡ record on.before { deferred = on.after.deferred } = y.1 ∙ on.did.1 in
+      (i, on.before, on.at, ap (λ (k : Core T Sat). k.shard) is, ap (λ (k : Core T Sat). k.words.table) is))
+      (λ y. (j, c, y.1, refl, refl))
+      (at_after s.cores.cores i j on.after c on.at.0 (subst P on.rest at))
+
+  pub deferred_none : (s t : StoreState T Sat) (r : Option T) → TakesDeferredIn s.cores r t.cores → BringsNoCore s t
+  deferred_none s t (Some v) (i, on) = deferred_at s t v i on
+  deferred_none s t None (none, is) = same_cores s t is
 
   -- a core comes in, whose words are claimed
   pub comes_claimed : (s t : StoreState T Sat) (c : Core T Sat) (claims : List (Claimed Open)) → TakesIn s.cores c t.cores → AreClaimed s.cores.cores claims → IsClaimed claims c

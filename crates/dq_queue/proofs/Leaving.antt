@@ -43,7 +43,7 @@ use Rattle.dq_growing.specs.declared.moving.NextDeadline.TheVariants.{At}
 use Rattle.dq_growing.specs.Cores.{AreCores, CoreRow, GivesDrained, InsertsIn, IsCoreAt, OnCore, OnCoreAt, OnCoreOr, TakesIn}
 use Rattle.dq_growing.specs.Moving.{IfTo, IsTakenOut, Relocates}
 use Rattle.dq_growing.specs.Notes.{Book, IsNoted, LosesNote, SameNotes, meant_place, or_own, place_by, user_at, with_id}
-use Rattle.dq_growing.specs.Polls.{PollsCore, PollsRow, noting_in, told}
+use Rattle.dq_growing.specs.Polls.{PollsCore, PollsRow, TakesDeferredIn, noting_in, told}
 use Rattle.dq_growing.specs.Stands.{HasEntry, IsThere, KeepsWords}
 use Rattle.dq_growing.specs.Store.{StoreState, IsStore, StandsFor, NoneStandsFor, GoesOnFor, GoesOut, NotesAfter, NotesAnswered, NotesReaped, ReapsFor, RelocatesFor, RemovesFor, ResetsFor, TellsFor, AfterReset, answer_as, expired_as, piece_as, removed_as, ResetsThere}
 use Rattle.dq_growing.proofs.Holding.{CoreRaises, pieces_raise, polls_raise}
@@ -574,6 +574,13 @@ module _ {T : Type 0} where
   gives_left s t (Some c) did = still s t (gives_row s.cores t.cores c did.0) (same_users s.notes t.notes did.2)
   gives_left s t None did = still s t (same_row s.cores t.cores (ap (λ (k : CoreRow T Sat). k.cores) did.1.1)) (same_users s.notes t.notes did.2)
 
+  -- a value that waited is taken out
+  deferred_row : (s t : CoreRow T Sat) (r : Option T) → TakesDeferredIn s r t → RowStays s t
+  deferred_row s t (Some v) (i, on) =
+      let P : Core T Sat → Type 0 = λ k. Stays on.before k in
+      at_stays s t i _ on (subst P (sym on.did.1) (λ p e x. (e, record { shard = x.shard; linked = x.linked; born = x.born })))
+  deferred_row s t None (none, is) = same_row s t (ap (λ (k : CoreRow T Sat). k.cores) is)
+
   -- a reap
   live_stays : (b c : Core T Sat) (id : EntryId) → c.shard ≡ b.shard → Reaps true b id (Err Live) c → Stays b c
   live_stays b c id same did p e x =
@@ -726,7 +733,8 @@ loses_none T s t (inr (inr (inr (inr (inr (inl y)))))) = none_lost s t (takes_le
 loses_none T s t (inr (inr (inr (inr (inr (inr (inl y))))))) = none_lost s t (gives_left s t y.0 y.1)
 loses_none T s t (inr (inr (inr (inr (inr (inr (inr (inl y)))))))) = let did = y.3 in relocates_lose s t y.0 y.1 y.2.0 y.2.1 did did.0
 loses_none T s t (inr (inr (inr (inr (inr (inr (inr (inr (inl y))))))))) = let did = y.2 in reaps_lose s t y.0 y.1 did.0 did.3
-loses_none T s t (inr (inr (inr (inr (inr (inr (inr (inr (inr y))))))))) = let did = y.3 in none_lost s t did.1.4
+loses_none T s t (inr (inr (inr (inr (inr (inr (inr (inr (inr (inl y)))))))))) = let did = y.3 in none_lost s t did.1.4
+loses_none T s t (inr (inr (inr (inr (inr (inr (inr (inr (inr (inr y)))))))))) = let did = y.1 in none_lost s t (still s t (deferred_row s.cores t.cores y.0 did.0) (same_users s.notes t.notes did.1))
 
 -- over a history
 each_loses_none : {T : Type 0} (log : List (Call (Held T))) (history : IsStoreHistory log) → EachLosesNone log history

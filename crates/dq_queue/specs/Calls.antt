@@ -12,7 +12,7 @@ use Rattle.dq_growing.specs.declared.cores.TakeError.{TakeError}
 use Rattle.dq_growing.specs.Cores.{HasAt, InsertsIn, IsCoreAt, TakesIn, GivesDrained, NoneDrained}
 use Rattle.dq_growing.specs.Notes.{Book, meant_place}
 use Rattle.dq_growing.specs.Moving.{IfTo, IfCameOut, UnlessTo}
-use Rattle.dq_growing.specs.Polls.{DoesPiece, DoesPoll, IfPieceOut}
+use Rattle.dq_growing.specs.Polls.{DoesPiece, DoesPoll, IfPieceOut, TakesDeferredIn}
 use Rattle.dq_growing.specs.Runs.{IsUsedId, KeepsIds, KeepsIdsBeside, GivesId, HoldsDeadlines, HoldsOtherDeadlines, KeepsItsDeadline, LeavesInForce, NotDueBefore}
 use Rattle.dq_core.specs.declared.errors.ReapError.{ReapError}
 use Rattle.dq_growing.specs.declared.moving.Moved.{Moved}
@@ -157,6 +157,11 @@ module _ {T : Type 0} where
   StoreReaps id r s t =
       ReapsFor true s id r t × KeepsIds s t × HoldsDeadlines s t × KeepsNumbers s t
 
+  -- a freed value that waits for its drop is taken out; no entry changes
+  abbrev pub StoreTakesDeferred : Option T → StoreState T Sat → StoreState T Sat → Type 0
+  StoreTakesDeferred r s t =
+      TakesDeferredIn s.cores r t.cores × (t.notes ≡ s.notes) × KeepsIds s t × HoldsDeadlines s t
+
   -- one call took a store from one state to another; a removal of what is due is a removal or a look
   abbrev pub IsStoreCall : StoreState T Sat → StoreState T Sat → Type 0
   IsStoreCall s t =
@@ -174,5 +179,6 @@ module _ {T : Type 0} where
       ⊎ (((id : EntryId) × (next : NextDeadline) × (r : Result (Moved T) CoreError × Option T)
       × StoreRelocates id next r s t)
       ⊎ (((id : EntryId) × (r : Result (Unit {0}) ReapError) × StoreReaps id r s t)
-      ⊎ ((id : EntryId) × (when : ℕ) × (r : Result Key CoreError)
-      × StoreResetsThere id when r s t)))))))))
+      ⊎ (((id : EntryId) × (when : ℕ) × (r : Result Key CoreError)
+      × StoreResetsThere id when r s t)
+      ⊎ ((r : Option T) × StoreTakesDeferred r s t))))))))))

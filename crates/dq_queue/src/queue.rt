@@ -2,7 +2,7 @@
 ghost use Rattle.std.specs.Prelude.{◌≡◌, ◌<◌, ◌≤◌, ◌^◌, vec_len, Some, None, IfOk, IfErr, IfSome};
 ghost use Rattle.std.specs.Sync.Mutex.{mutex_guard_value};
 ghost use Rattle.dq_queue.specs.declared.queue.QueueError.TheVariants.{Unknown};
-ghost use Rattle.dq_queue.specs.Calls.{StoreInserts, StoreRemoves, StoreRemovesIfDue, StoreResets, StoreResetsThere, StoreTells, StorePolls, StorePollsBeside};
+ghost use Rattle.dq_queue.specs.Calls.{StoreInserts, StoreRemoves, StoreRemovesIfDue, StoreResets, StoreResetsThere, StoreTells, StorePolls, StorePollsBeside, StoreTakesDeferred};
 ghost use Rattle.dq_queue.specs.Shards.{MadeOnce};
 
 use crate::shard::{Caller, Rooms, Shard};
@@ -330,6 +330,17 @@ impl<T, J: Rooms, A: Allocator + Clone> GrowingQueue<T, J, A> {
     {
         let mut shard = self.locked_for(rt, me);
         let answer = shard.poll_beside(me, &self.words, promise, tick, most);
+        drop(shard);
+        answer
+    }
+
+    /// Takes the lock of the caller's shard, and takes out a freed value that waits for its drop. It returns none if no value
+    /// waits.
+    pub fn take_deferred<R: Wait>(&self, rt: &R, me: &mut Caller<T, J, A>) -> Option<T>
+        ensures once { MadeOnce me.old (λ s t. StoreTakesDeferred result s t) me.new }
+    {
+        let mut shard = self.locked_for(rt, me);
+        let answer = shard.take_deferred(me);
         drop(shard);
         answer
     }

@@ -7,7 +7,7 @@ ghost use Rattle.dq_growing.specs.Polls.{IfPieceOut};
 ghost use Rattle.dq_growing.specs.Store.{IsStore};
 ghost use Rattle.dq_directory.specs.Claims.{IsOf};
 ghost use Rattle.dq_queue.specs.Calls.{StoreInserts, StoreRemoves, StoreRemovesIfDue, StoreResets, StoreResetsThere, StoreTells, StorePolls};
-ghost use Rattle.dq_queue.specs.Calls.{KeepsPromise, StorePollsBeside};
+ghost use Rattle.dq_queue.specs.Calls.{KeepsPromise, StorePollsBeside, StoreTakesDeferred};
 ghost use Rattle.dq_queue.specs.Calls.{StoreTakesIn, StoreRefuses, StoreGives, StoreRelocates, StoreReaps};
 ghost use Rattle.dq_queue.specs.Claims.{AreClaimed, AreClaimsOf, BringsNoCore, ClaimsWords, HasClaim, IsOfItsWords, RefusedAsNew};
 ghost use Rattle.dq_queue.specs.Leaving.{NoneIsLostIn};
@@ -199,6 +199,18 @@ impl<T, A: Allocator + Clone> Held<T, A> {
         self.store.beside(number, &mut promise.receipt);
         self.store.law();
         endings::outs_are_in_force::<T>();
+        answer
+    }
+
+    fn take_deferred(&mut self) -> Option<T>
+        ensures number { self.new.number ≡ self.old.number }
+        ensures stores { IsStore self.old.store × IsStore self.new.store }
+        ensures cores { BringsNoCore self.old.store self.new.store }
+        ensures takes { StoreTakesDeferred result self.old.store self.new.store }
+    {
+        self.store.law();
+        let answer = self.store.take_deferred();
+        self.store.law();
         answer
     }
 
@@ -658,6 +670,20 @@ impl<T, J: Rooms, A: Allocator + Clone> Shard<T, J, A> {
     {
         let _ = words.knows(self.claims.as_slice(), &promise.claim);
         let answer = self.held.poll_beside(promise, tick, most);
+        self.history.enter_for(&mut me.history, &self.held);
+        answer
+    }
+
+    /// Takes out a freed value that waits for its drop. It returns none if no value waits.
+    pub fn take_deferred(&mut self, me: &mut Caller<T, J, A>) -> Option<T>
+        requires { me.old.shard ≡ self.old.held.number }
+        ensures once { MadeOnce me.old (λ s t. StoreTakesDeferred result s t) me.new }
+        ensures one_more { OneMore self.old me.old self.new }
+        ensures takes { StoreTakesDeferred result self.old.held.store self.new.held.store }
+        ensures number { self.new.held.number ≡ self.old.held.number }
+        ensures claims { self.new.claims ≡ self.old.claims }
+    {
+        let answer = self.held.take_deferred();
         self.history.enter_for(&mut me.history, &self.held);
         answer
     }
