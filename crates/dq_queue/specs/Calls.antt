@@ -92,7 +92,7 @@ module _ {T : Type 0} where
       StoreState T Sat → Type 0
   StoreResets id when r s t = ResetsFor true s id when r t × KeepsByReset id when r.0 s t
 
-  -- so where it stays at its place; one that is refused for its slot's stamps is no reset as above
+  -- so where it is: if its slot has no stamp left, it is refused, and doesn't move
   abbrev pub StoreResetsThere : EntryId → ℕ → Result Key CoreError → StoreState T Sat →
       StoreState T Sat → Type 0
   StoreResetsThere id when r s t = ResetsThere true s id when r t × KeepsByReset id when r s t
@@ -102,8 +102,8 @@ module _ {T : Type 0} where
   DoesSteps (Some most) = DoesPiece true most
   DoesSteps None = DoesPoll true
 
-  -- a tick is noted, and a poll is made, whole or a piece of it; what comes out leaves with its value,
-  -- at no deadline before the one that it had
+  -- a tick is noted, and a poll is made, whole or a piece of it; what comes out leaves with its
+  -- value, at no deadline before the one that it had
   abbrev pub StorePolls : ℕ → Option ℕ → Result (Piece T) CoreError → StoreState T Sat →
       StoreState T Sat → Type 0
   StorePolls tick most r s t =
@@ -162,7 +162,8 @@ module _ {T : Type 0} where
   StoreTakesDeferred r s t =
       TakesDeferredIn s.cores r t.cores × (t.notes ≡ s.notes) × KeepsIds s t × HoldsDeadlines s t
 
-  -- one call took a store from one state to another; a removal of what is due is a removal or a look
+  -- one call took a store from one state to another; a removal of what is due is a removal, or a
+  -- look at a deadline
   abbrev pub IsStoreCall : StoreState T Sat → StoreState T Sat → Type 0
   IsStoreCall s t =
       ((v : T) × (when : ℕ) × (r : Result Key (CoreError × T) × Option T)
