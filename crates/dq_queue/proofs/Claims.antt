@@ -20,14 +20,14 @@ use Rattle.dq_growing.specs.declared.moving.NextDeadline.{NextDeadline}
 use Rattle.dq_growing.specs.declared.moving.NextDeadline.TheVariants.{At}
 use Rattle.dq_growing.specs.Cores.{AreCores, CoreRow, HasNo, IsCoreAt, OnCore, OnCoreAt, OnCoreOr, InsertsIn, GivesDrained, TakesIn}
 use Rattle.dq_growing.specs.Moving.{GoesTo, Relocates}
-use Rattle.dq_growing.specs.Polls.{PollsRow, DoesPiece}
+use Rattle.dq_growing.specs.Polls.{PollsRow, TakesDeferredAt, TakesDeferredIn}
 use Rattle.dq_growing.specs.Stands.{KeepsWords}
-use Rattle.dq_growing.specs.Store.{StoreState, AfterReset, PollsFor, ReapsFor, RelocatesFor, RemovesAt, RemovesFor, ResetsFor, TellsFor}
-use Rattle.dq_growing.proofs.Rows.{one_at, at_snoc, removed_at, snoc_long, snoc_before, snoc_last}
+use Rattle.dq_growing.specs.Store.{StoreState, AfterReset, PollsFor, ReapsFor, RelocatesFor, RemovesAt, RemovesFor, RemovesIfDueFor, ResetsFor, ResetsThere, TellsFor}
+use Rattle.dq_growing.proofs.Rows.{at_after, one_at, at_snoc, removed_at, snoc_long, snoc_before, snoc_last}
 use Rattle.dq_words.specs.KeeperCalls.{HasBegun}
 use Rattle.dq_words.specs.OpenCalls.{Open}
 use Rattle.dq_words.specs.Seats.{Sat}
-use Rattle.dq_queue.specs.Calls.{StoreGives}
+use Rattle.dq_queue.specs.Calls.{DoesSteps, StoreGives}
 use Rattle.dq_queue.specs.Claims.{IsClaimAt, AreClaimsOf, AgreeWith, AreClaimed, BringsNoCore, IsClaimed, IsOfItsWords}
 use Rattle.dq_queue.specs.Words.{PromiseView, IsPromiseOf}
 
@@ -100,16 +100,21 @@ module _ {T : Type 0} where
   tells_long s t u r (inl y) = or_long s.cores t.cores _ _ _ y.2.0
   tells_long s t u r (inr y) = same_store s t y.1.1
 
+  pub removes_if_due_long : (s t : StoreState T Sat) (u : EntryId) (tick : ℕ) (r : Result (Option (Removed T)) CoreError) → RemovesIfDueFor true s u tick r t → SameLength s.cores t.cores
+  removes_if_due_long s t u tick (Ok (Some x)) y = removes_long s t u (Ok x) y.1
+  removes_if_due_long s t u tick (Ok None) y = tells_long s t u (Ok y.0) y.2
+  removes_if_due_long s t u tick (Err e) y = removes_long s t u (Err e) y
+
   pub reaps_long : (s t : StoreState T Sat) (u : EntryId) (r : Result (Unit {0}) ReapError) → ReapsFor true s u r t → SameLength s.cores t.cores
   reaps_long s t u r (inl y) = or_long s.cores t.cores _ _ _ y.2.0
   reaps_long s t u r (inr y) = same_store s t y.1.1
 
-  polls_row : (s t : CoreRow T Sat) (tick most : ℕ) (r : Result (Piece T) CoreError) → PollsRow (DoesPiece true most) s tick r t → SameLength s t
+  polls_row : (s t : CoreRow T Sat) (tick : ℕ) (most : Option ℕ) (r : Result (Piece T) CoreError) → PollsRow (DoesSteps most) s tick r t → SameLength s t
   polls_row s t tick most (Ok p) (small, inl y) = same_row _ t y.1
   polls_row s t tick most (Ok p) (small, inr core) = at_long _ t core.place _ core.did
   polls_row s t tick most (Err e) y = same_row s t y.2
 
-  pub polls_long : (s t : StoreState T Sat) (tick most : ℕ) (r : Result (Piece T) CoreError) → PollsFor (DoesPiece true most) s tick r t → SameLength s.cores t.cores
+  pub polls_long : (s t : StoreState T Sat) (tick : ℕ) (most : Option ℕ) (r : Result (Piece T) CoreError) → PollsFor (DoesSteps most) s tick r t → SameLength s.cores t.cores
   polls_long s t tick most r y = polls_row s.cores t.cores tick most y.0 y.1
 
   goes_long : (m t : CoreRow T Sat) (x : Removed T) (next : NextDeadline) (moved : Moved T) (beside : Option T) → GoesTo m x next moved beside t → SameLength m t
@@ -142,6 +147,10 @@ module _ {T : Type 0} where
   pub resets_long : (s t : StoreState T Sat) (u : EntryId) (when : ℕ) (r : Result Key CoreError) (beside : Option T) → ResetsFor true s u when (r, beside) t → SameLength s.cores t.cores
   resets_long s t u when r beside (inl (p, meant, (made, m, on, after))) = after_long _ t u when made r beside after ∙ or_long s.cores m p.shard _ _ on
   resets_long s t u when r beside (inr y) = same_store s t y.1.1
+
+  pub resets_there_long : (s t : StoreState T Sat) (u : EntryId) (when : ℕ) (r : Result Key CoreError) → ResetsThere true s u when r t → SameLength s.cores t.cores
+  resets_there_long s t u when r (inl y) = or_long s.cores t.cores _ _ _ y.2.1
+  resets_there_long s t u when r (inr y) = same_store s t y.1.1
 
   -- each core after a call has the number and the words of the one that stood there before
   came_from : (s t : CoreRow T Sat) → KeepsWords table_by HasBegun s t → SameLength s t → (i : ℕ) (c : Core T Sat) → IsCoreAt t.cores i c
@@ -208,6 +217,20 @@ module _ {T : Type 0} where
   pub gives_none : (s t : StoreState T Sat) (r : Option (Core T Sat)) → StoreGives r s t → BringsNoCore s t
   gives_none s t (Some c) y = gone s t c y.0
   gives_none s t None y = same_cores s t y.1.1
+
+  -- a value that waited is taken out of a core, whose number and words stay
+  deferred_at : (s t : StoreState T Sat) (v : T) (i : ℕ) → OnCoreAt i (TakesDeferredAt v) s.cores t.cores → BringsNoCore s t
+  deferred_at s t v i on j c at =
+      let P : CoreRow T Sat → Type 0 = λ r. IsCoreAt r.cores j c in
+      ⊎_elim
+      (λ y. let is : c ≡ record on.before { deferred = on.after.deferred } = y.1 ∙ on.did.1 in
+      (i, on.before, on.at, ap (λ (k : Core T Sat). k.shard) is, ap (λ (k : Core T Sat). k.words.table) is))
+      (λ y. (j, c, y.1, refl, refl))
+      (at_after s.cores.cores i j on.after c on.at.0 (subst P on.rest at))
+
+  pub deferred_none : (s t : StoreState T Sat) (r : Option T) → TakesDeferredIn s.cores r t.cores → BringsNoCore s t
+  deferred_none s t (Some v) (i, on) = deferred_at s t v i on
+  deferred_none s t None (none, is) = same_cores s t is
 
   -- a core comes in, whose words are claimed
   pub comes_claimed : (s t : StoreState T Sat) (c : Core T Sat) (claims : List (Claimed Open)) → TakesIn s.cores c t.cores → AreClaimed s.cores.cores claims → IsClaimed claims c

@@ -15,6 +15,7 @@ use Rattle.dq_core.specs.declared.errors.CoreError.{CoreError}
 use Rattle.dq_core.specs.declared.errors.CoreError.TheVariants.{TooFar, Full, Missing, WasCancelled, Worn, TickTooLarge, BadConfig, NoMemory}
 use Rattle.dq_core.specs.declared.errors.ReapError.{ReapError}
 use Rattle.dq_core.specs.declared.errors.ReapError.TheVariants.{Missing as NotThere, Live}
+use Rattle.dq_core.specs.declared.outcomes.Expired.{Expired}
 use Rattle.dq_core.specs.declared.outcomes.Removed.{Removed}
 use Rattle.dq_core.specs.declared.outcomes.Turn.TheVariants.{Out as CameOut, Waiting, Idle}
 use Rattle.dq_core.specs.declared.outcomes.Piece.{Piece}
@@ -42,11 +43,11 @@ use Rattle.dq_growing.specs.declared.moving.NextDeadline.TheVariants.{At}
 use Rattle.dq_growing.specs.Cores.{AreCores, CoreRow, GivesDrained, InsertsIn, IsCoreAt, OnCore, OnCoreAt, OnCoreOr, TakesIn}
 use Rattle.dq_growing.specs.Moving.{IfTo, IsTakenOut, Relocates}
 use Rattle.dq_growing.specs.Notes.{Book, IsNoted, LosesNote, SameNotes, meant_place, or_own, place_by, user_at, with_id}
-use Rattle.dq_growing.specs.Polls.{DoesPiece, PollsCore, PollsRow, noting_in, told}
+use Rattle.dq_growing.specs.Polls.{PollsCore, PollsRow, TakesDeferredIn, noting_in, told}
 use Rattle.dq_growing.specs.Stands.{HasEntry, IsThere, KeepsWords}
-use Rattle.dq_growing.specs.Store.{StoreState, IsStore, StandsFor, NoneStandsFor, GoesOnFor, GoesOut, NotesAfter, NotesAnswered, NotesReaped, ReapsFor, RelocatesFor, RemovesFor, ResetsFor, TellsFor, AfterReset, answer_as, expired_as, piece_as, removed_as}
-use Rattle.dq_growing.proofs.Holding.{pieces_raise}
-use Rattle.dq_growing.proofs.Keeping.{piece_gone, way_stood}
+use Rattle.dq_growing.specs.Store.{StoreState, IsStore, StandsFor, NoneStandsFor, GoesOnFor, GoesOut, NotesAfter, NotesAnswered, NotesReaped, ReapsFor, RelocatesFor, RemovesFor, ResetsFor, TellsFor, AfterReset, answer_as, expired_as, piece_as, removed_as, ResetsThere}
+use Rattle.dq_growing.proofs.Holding.{CoreRaises, pieces_raise, polls_raise}
+use Rattle.dq_growing.proofs.Keeping.{piece_gone, poll_gone, way_stood}
 use Rattle.dq_growing.proofs.Leasts.{some_not_none}
 use Rattle.dq_growing.proofs.Pairing.{one_or_two}
 use Rattle.dq_growing.proofs.Rows.{keeps_law, one_at, removed_from, snoc_before, snoc_long}
@@ -59,12 +60,12 @@ use Rattle.dq_words.specs.Files.{Among, file, IsIn}
 use Rattle.dq_words.specs.KeeperCalls.{HasBegun}
 use Rattle.dq_words.specs.Rule.{Had, HadAt, Ruled}
 use Rattle.dq_words.specs.Seats.{Sat}
-use Rattle.dq_queue.specs.Calls.{KeepsNumbers, NoneLeft, StoreGives, StorePollsSome, StoreRelocates, StoreRemoves, StoreTakesIn}
+use Rattle.dq_queue.specs.Calls.{DoesSteps, KeepsNumbers, NoneLeft, StoreGives, StorePolls, StoreRelocates, StoreRemoves, StoreTakesIn}
 use Rattle.dq_queue.specs.Endings.{InEachTable, IsKeptCore, present_key}
 use Rattle.dq_queue.specs.Leaving.{EachLosesNone, LosesNone, NoneIsLostIn, StoreLosesNone, WasCancelledIn, WasCancelledOnce}
 use Rattle.dq_queue.specs.Shards.{Held, IsStoreHistory}
 use Rattle.dq_queue.proofs.Claims.{table_by}
-use Rattle.dq_queue.proofs.Outs.{length_row, ok_not_err, on_core, seen_word}
+use Rattle.dq_queue.proofs.Outs.{answer_way, length_row, ok_not_err, on_core, seen_word}
 
 -- machines
 
@@ -270,7 +271,7 @@ module _ {T : Type 0} where
       let is = some_is e f (sym (subst P here x.linked) ∙ y.linked) in
       same_id p q (x.shard ∙ sym y.shard) here (sym x.born ∙ (ap (λ (z : Entry T). z.born) is ∙ y.born))
 
-  -- a piece of a poll
+  -- a poll
 
   -- what comes out is the entry of that place
   abbrev Comes : Piece T → EntryId → Type 0
@@ -291,27 +292,36 @@ module _ {T : Type 0} where
       let row = ap (λ r. r.entry) (table_row_is c.slots.rows c.known kept.core.as_known p.index) in
       cancelled_at b c p (found_there b p e x) (unheld (row_at c.slots.rows p.index).held (word_at c.known p.index) (sym row ∙ none)) long learned law kept
 
-  gone_by : (most tick : ℕ) (piece : Piece T) (b c : Core T Sat) → DoesPiece true most tick piece b c → (p : EntryId) (e : Entry T) → IsThere b p e
+  out_of : (most : Option ℕ) (tick : ℕ) (b c : Core T Sat) (x : Expired T) → DoesSteps most tick (Answer (CameOut x)) b c → (e : Entry T) × IsThere b x.key.entry e
+  out_of (Some most) tick b c x did = let out = piece_gone true most tick b c x did in (out.2.0, out.2.1)
+  out_of None tick b c x did = let out = poll_gone true tick b c x did in (out.2.0, out.2.1)
+
+  steps_raise : (most : Option ℕ) (tick : ℕ) (piece : Piece T) (b c : Core T Sat) → DoesSteps most tick piece b c → CoreRaises b c
+  steps_raise (Some most) tick piece b c did = pieces_raise true most tick piece b c did
+  steps_raise None tick piece b c did = polls_raise true tick piece b c did
+
+  gone_by : (most : Option ℕ) (tick : ℕ) (piece : Piece T) (b c : Core T Sat) → DoesSteps most tick piece b c → (p : EntryId) (e : Entry T) → IsThere b p e
       → (table_at (machine c) p.index).entry ≡ None → Cancelled b c p ⊎ Comes piece p
-  gone_by most tick Working b c did p e x none = let looks = did.2.0.looks in inl (vanished b c p e x none looks.0 (looks.1 p.index))
-  gone_by most tick (Answer (Waiting next)) b c did p e x none = let looks = did.2.row in inl (vanished b c p e x none looks.0 (looks.1 p.index))
-  gone_by most tick (Answer Idle) b c did p e x none = let looks = did.2.row in inl (vanished b c p e x none looks.0 (looks.1 p.index))
+  gone_by None tick Working b c did p e x none = absurd did
+  gone_by (Some most) tick Working b c did p e x none = let looks = did.2.0.looks in inl (vanished b c p e x none looks.0 (looks.1 p.index))
+  gone_by most tick (Answer (Waiting next)) b c did p e x none = let looks = (answer_way most tick (Waiting next) b c did).1 in inl (vanished b c p e x none looks.0 (looks.1 p.index))
+  gone_by most tick (Answer Idle) b c did p e x none = let looks = (answer_way most tick Idle b c did).1 in inl (vanished b c p e x none looks.0 (looks.1 p.index))
   gone_by most tick (Answer (CameOut y)) b c did p e x none =
-      let row = did.2.row in
+      let row = (answer_way most tick (CameOut y) b c did).1 in
       let j = y.key.entry.index in
       let mid = row.0 in
-      let out = piece_gone true most tick b c y did in
+      let out = out_of most tick b c y did in
       dite (ℕ_discrete p.index j)
-      (λ here. inr (one_there b p y.key.entry e out.2.0 x out.2.1 here))
+      (λ here. inr (one_there b p y.key.entry e out.0 x out.1 here))
       (λ ne. let word_is : word_at c.known p.index ≡ word_at mid p.index = ap (λ (ws : List Parts). word_at ws p.index) row.3 ∙ get_or-set_other mid j p.index _ never ne in
       let P : Parts → Type 0 = λ w. Learned true (word_at b.known p.index) w in
       inl (vanished b c p e x none (ap length row.3 ∙ (length-set mid j _ ∙ row.1.0)) (subst P (sym word_is) (row.1.1 p.index))))
 
-  fate : (most tick : ℕ) (piece : Piece T) (b c : Core T Sat) → DoesPiece true most tick piece b c → c.shard ≡ b.shard → (p : EntryId) (e : Entry T) → IsThere b p e
+  fate : (most : Option ℕ) (tick : ℕ) (piece : Piece T) (b c : Core T Sat) → DoesSteps most tick piece b c → c.shard ≡ b.shard → (p : EntryId) (e : Entry T) → IsThere b p e
       → (o : Option (Entry T)) → (table_at (machine c) p.index).entry ≡ o → ((f : Entry T) × IsThere c p f) ⊎ (Cancelled b c p ⊎ Comes piece p)
   fate most tick piece b c did same p e x None at = inr (gone_by most tick piece b c did p e x at)
   fate most tick piece b c did same p e x (Some f) at =
-      let g = pieces_raise true most tick piece b c did p.index f at in
+      let g = steps_raise most tick piece b c did p.index f at in
       let is = some_is g.0 e (sym g.1 ∙ x.linked) in
       inl (f, record { shard = x.shard ∙ sym same; linked = at; born = sym g.2 ∙ (ap (λ (z : Entry T). z.born) is ∙ x.born) })
 
@@ -445,11 +455,11 @@ module _ {T : Type 0} where
     stayed : (f : Entry T) × HasEntry t.cores p f → ⊥
     stayed f = none f.0 (p, user ∙ named, f.1)
 
-    -- a piece of a poll by which it doesn't come out
-    piece_lost : (tick most : ℕ) (piece : Piece T) → PollsRow (DoesPiece true most) s.cores tick (Ok piece) t.cores → KeepsNumbers s t → (Comes piece p → ⊥) → WasCancelledIn u s t
+    -- a poll by which it doesn't come out
+    piece_lost : (tick : ℕ) (most : Option ℕ) (piece : Piece T) → PollsRow (DoesSteps most) s.cores tick (Ok piece) t.cores → KeepsNumbers s t → (Comes piece p → ⊥) → WasCancelledIn u s t
     piece_lost tick most piece polled numbers never_out = ⊎_elim
         (λ rests. absurd (stayed (same_row s.cores t.cores (ap (λ (r : CoreRow T Sat). r.cores) rests.1) p e there)))
-        (λ (k : PollsCore (DoesPiece true most) (noting_in s.cores tick) piece t.cores).
+        (λ (k : PollsCore (DoesSteps most) (noting_in s.cores tick) piece t.cores).
         let on = k.did in
         let b = on.before in
         let c = on.after in
@@ -466,9 +476,9 @@ module _ {T : Type 0} where
         (at_or (noting_in s.cores tick) t.cores k.place _ on p e there))
         polled.1
 
-  -- polls, by what the piece of the cores' poll made
-  polls_lose : (s t : StoreState T Sat) (tick most : ℕ) (r : Result (Piece T) CoreError) → StorePollsSome tick most r s t → (made : Result (Piece T) CoreError)
-      → PollsRow (DoesPiece true most) s.cores tick made t.cores → r ≡ piece_as s.notes made → NotesAfter s.notes made t.notes → LosesNone s t
+  -- polls, by what the cores' poll made
+  polls_lose : (s t : StoreState T Sat) (tick : ℕ) (most : Option ℕ) (r : Result (Piece T) CoreError) → StorePolls tick most r s t → (made : Result (Piece T) CoreError)
+      → PollsRow (DoesSteps most) s.cores tick made t.cores → r ≡ piece_as s.notes made → NotesAfter s.notes made t.notes → LosesNone s t
   polls_lose s t tick most r did (Err e) polled is notes u v has none =
       none_lost s t (still s t (same_row s.cores t.cores (ap (λ (k : CoreRow T Sat). k.cores) polled.2)) (same_users s.notes t.notes notes)) u v has none
   polls_lose s t tick most r did (Ok Working) polled is notes u v has none =
@@ -482,7 +492,7 @@ module _ {T : Type 0} where
       let q = y.key.entry in
       ⊎_elim
       (λ (same : z.0 ≡ q).
-      let P : Result (Piece T) CoreError → Type 0 = λ k. StorePollsSome tick most k s t in
+      let P : Result (Piece T) CoreError → Type 0 = λ k. StorePolls tick most k s t in
       inl (inr (inr (tick, most, expired_as (user_at s.notes q) y, ap (λ k. user_at s.notes k) (sym same) ∙ z.1, subst P is did))))
       (λ (ne : z.0 ≢ q). inr (piece_lost s t u z.0 has.0 z.1 z.2 none (forgets_user s.notes t.notes q notes.0 notes.1 z.0 ne) tick most (Answer (CameOut y)) polled did.5 ne))
       (one_or_two z.0 q)
@@ -563,6 +573,13 @@ module _ {T : Type 0} where
   gives_left : (s t : StoreState T Sat) (r : Option (Core T Sat)) → StoreGives r s t → NoneLeft s t
   gives_left s t (Some c) did = still s t (gives_row s.cores t.cores c did.0) (same_users s.notes t.notes did.2)
   gives_left s t None did = still s t (same_row s.cores t.cores (ap (λ (k : CoreRow T Sat). k.cores) did.1.1)) (same_users s.notes t.notes did.2)
+
+  -- a value that waited is taken out
+  deferred_row : (s t : CoreRow T Sat) (r : Option T) → TakesDeferredIn s r t → RowStays s t
+  deferred_row s t (Some v) (i, on) =
+      let P : Core T Sat → Type 0 = λ k. Stays on.before k in
+      at_stays s t i _ on (subst P (sym on.did.1) (λ p e x. (e, record { shard = x.shard; linked = x.linked; born = x.born })))
+  deferred_row s t None (none, is) = same_row s t (ap (λ (k : CoreRow T Sat). k.cores) is)
 
   -- a reap
   live_stays : (b c : Core T Sat) (id : EntryId) → c.shard ≡ b.shard → Reaps true b id (Err Live) c → Stays b c
@@ -693,6 +710,10 @@ module _ {T : Type 0} where
   after_left m t id when (Err e) r beside law cores (inl y) = relocates_left m t id when (y.1.0, beside) law cores y.1.1
   after_left m t id when (Err e) r beside law cores (inr y) = same_none_left m t y.3
 
+  pub there_left : (s t : StoreState T Sat) (id : EntryId) (when : ℕ) (r : Result Key CoreError) → ResetsThere true s id when r t → NoneLeft s t
+  there_left s t id when r (inl (p0, meant, (made, on, is, notes))) = still s t (or_stays s.cores t.cores p0.shard _ _ on (λ b c did. resets_stay b c p0 when made did)) (same_users s.notes t.notes notes)
+  there_left s t id when r (inr (nowhere, (is, same))) = same_none_left s t same
+
   pub resets_left : (s t : StoreState T Sat) (id : EntryId) (when : ℕ) (r : Result Key CoreError) (beside : Option T) → IsStore s → AreCores s.cores → ResetsFor true s id when (r, beside) t → NoneLeft s t
   resets_left s t id when r beside law cores (inl (p0, meant, (made, m, on, after))) =
       let mid = stored m s.notes in
@@ -705,13 +726,15 @@ module _ {T : Type 0} where
 pub loses_none : (T : Type 0) → StoreLosesNone T
 loses_none T s t (inl y) = let did = y.3 in none_lost s t (still s t (inserts_row s.cores t.cores y.0 y.1 y.2 did.0) (same_users s.notes t.notes did.1))
 loses_none T s t (inr (inl y)) = let did = y.2 in removes_lose s t y.0 y.1 did did.0
-loses_none T s t (inr (inr (inl y))) = let did = y.3 in none_lost s t did.5
+loses_none T s t (inr (inr (inl y))) = let did = y.3 in none_lost s t did.1.4
 loses_none T s t (inr (inr (inr (inl y)))) = let did = y.2 in none_lost s t (tells_left s t y.0 y.1 did.0)
 loses_none T s t (inr (inr (inr (inr (inl y))))) = let did = y.3 in polls_lose s t y.0 y.1 y.2 did did.0.0 did.0.1 did.0.2 did.0.3
 loses_none T s t (inr (inr (inr (inr (inr (inl y)))))) = none_lost s t (takes_left s t y.0 y.1 y.2)
 loses_none T s t (inr (inr (inr (inr (inr (inr (inl y))))))) = none_lost s t (gives_left s t y.0 y.1)
 loses_none T s t (inr (inr (inr (inr (inr (inr (inr (inl y)))))))) = let did = y.3 in relocates_lose s t y.0 y.1 y.2.0 y.2.1 did did.0
-loses_none T s t (inr (inr (inr (inr (inr (inr (inr (inr y)))))))) = let did = y.2 in reaps_lose s t y.0 y.1 did.0 did.3
+loses_none T s t (inr (inr (inr (inr (inr (inr (inr (inr (inl y))))))))) = let did = y.2 in reaps_lose s t y.0 y.1 did.0 did.3
+loses_none T s t (inr (inr (inr (inr (inr (inr (inr (inr (inr (inl y)))))))))) = let did = y.3 in none_lost s t did.1.4
+loses_none T s t (inr (inr (inr (inr (inr (inr (inr (inr (inr (inr y)))))))))) = let did = y.1 in none_lost s t (still s t (deferred_row s.cores t.cores y.0 did.0) (same_users s.notes t.notes did.1))
 
 -- over a history
 each_loses_none : {T : Type 0} (log : List (Call (Held T))) (history : IsStoreHistory log) → EachLosesNone log history

@@ -15,6 +15,7 @@ use Rattle.dq_core.specs.declared.errors.CoreError.{CoreError}
 use Rattle.dq_core.specs.declared.errors.CoreError.TheVariants.{Missing}
 use Rattle.dq_core.specs.declared.outcomes.Expired.{Expired}
 use Rattle.dq_core.specs.declared.outcomes.Removed.{Removed}
+use Rattle.dq_core.specs.declared.outcomes.Turn.{Turn}
 use Rattle.dq_core.specs.declared.outcomes.Turn.TheVariants.{Out, Waiting, Idle}
 use Rattle.dq_core.specs.declared.outcomes.Piece.{Piece}
 use Rattle.dq_core.specs.declared.outcomes.Piece.TheVariants.{Answer, Working}
@@ -29,7 +30,7 @@ use Rattle.dq_growing.specs.Moving.{IfTo, IfCameOut, IsTakenOut, Relocates}
 use Rattle.dq_growing.specs.Runs.{KeepsItsDeadline}
 use Rattle.dq_growing.specs.Notes.{with_id, or_own, user_at, place_by, meant_place}
 use Rattle.dq_growing.specs.Stands.{HasEntry, KeepsWords}
-use Rattle.dq_growing.specs.Polls.{PollsRow, PollsCore, DoesPiece, IfPieceOut, noting_in}
+use Rattle.dq_growing.specs.Polls.{PollsRow, PollsCore, IfPieceOut, noting_in}
 use Rattle.dq_growing.specs.Store.{StoreState, IsStore, PollsFor, answer_as, expired_as, piece_as}
 use Rattle.dq_growing.proofs.Holding.{next_same}
 use Rattle.dq_growing.proofs.Keeping.{told_out, way_stood}
@@ -45,7 +46,7 @@ use Rattle.dq_words.specs.KeeperCalls.{HasBegun}
 use Rattle.dq_words.specs.Plays.{Covers}
 use Rattle.dq_words.specs.Seats.{Sat}
 use Rattle.dq_words.specs.Together.{IsBeside}
-use Rattle.dq_queue.specs.Calls.{KeepsPromise}
+use Rattle.dq_queue.specs.Calls.{DoesSteps, KeepsPromise}
 use Rattle.dq_queue.specs.Endings.{InEachTable, EndsInForce, WasGivenOnce, IsKeptCore, CameInForce, KeepsWhatItShowed, CameOutOf, IsOutsideOpen, present_key, TakenOutOf, LeavesAsTold, MovesInForce, StoreOutsAreInForce, StoreInsertsAreGiven, StoreMovesAreInForce, StoreRemovalsAreInForce}
 use Rattle.dq_queue.specs.Words.{PromiseView}
 use Rattle.dq_queue.proofs.Claims.{table_by}
@@ -167,10 +168,17 @@ module _ {T : Type 0} where
       let P : List Write → Type 0 = λ ws. IsIn (ends_at k.entry.index k.stamp ws) (mark_number mark, d) in
       beside.0 k.entry.index k.stamp (mark_number mark, d) (subst P (writes_first stood.0.views c.words.view stood.2) ended)
 
-  -- the piece of a core that took an entry out
+  -- the way of a poll of a core to its answer, be it whole or a piece
+  pub answer_way : (most : Option ℕ) (tick : ℕ) (turn : Turn T) (b c : Core T Sat) → DoesSteps most tick (Answer turn) b c
+      → ((m : Machine T) × RunOf (IsOnTheWay true) b.slots.last_stamp (machine (noting b tick)) m × IsTurn b.shard b.slots.last_stamp m turn (machine c) c.wheel.filing)
+      × TurnRow true b.known turn c.known
+  answer_way (Some most) tick turn b c did = (did.2.run, did.2.row)
+  answer_way None tick turn b c did = (did.2.run, did.2.row)
 
-  piece_of : (s t : CoreRow T Sat) (tick most : ℕ) (y : Expired T) → PollsRow (DoesPiece true most) s tick (Ok (Answer (Out y))) t
-      → PollsCore (DoesPiece true most) (noting_in s tick) (Answer (Out y)) t
+  -- the poll of a core that took an entry out
+
+  piece_of : (s t : CoreRow T Sat) (tick : ℕ) (most : Option ℕ) (y : Expired T) → PollsRow (DoesSteps most) s tick (Ok (Answer (Out y))) t
+      → PollsCore (DoesSteps most) (noting_in s tick) (Answer (Out y)) t
   piece_of s t tick most y polled = ⊎_elim (λ rests. absurd rests.0) (λ core. core) polled.1
 
   at_set : (cores : List (Core T Sat)) (i : ℕ) (b c : Core T Sat) → IsCoreAt cores i b → IsCoreAt (set cores i c) i c
@@ -181,15 +189,15 @@ module _ {T : Type 0} where
       let Q : CoreRow T Sat → Type 0 = λ r. IsCoreAt r.cores i on.after in
       subst Q (sym on.rest) (at_set s.cores i on.before on.after on.at)
 
-  comes_out : EndsAreInForce → (s t : StoreState T Sat) (tick most : ℕ) (y : Expired T) → PollsRow (DoesPiece true most) s.cores tick (Ok (Answer (Out y))) t.cores
+  comes_out : EndsAreInForce → (s t : StoreState T Sat) (tick : ℕ) (most : Option ℕ) (y : Expired T) → PollsRow (DoesSteps most) s.cores tick (Ok (Answer (Out y))) t.cores
       → CameOutOf s (expired_as (user_at s.notes y.key.entry) y) t
   comes_out in_force s t tick most y polled =
       let core = piece_of s.cores t.cores tick most y polled in
       let on = core.did in
-      let P : Piece T → Type 0 = λ p. DoesPiece true most (min (noting_in s.cores tick).noted core.others) p on.before on.after in
+      let P : Piece T → Type 0 = λ p. DoesSteps most (min (noting_in s.cores tick).noted core.others) p on.before on.after in
       let did = subst P (told_out (noting_in s.cores tick).noted core.others core.made y core.tells) on.did in
-      let answered = did.2 in
-      let out : IsKeptCore on.after → CameInForce on.after y = λ law. out_of in_force (noting on.before (min (noting_in s.cores tick).noted core.others)) on.after y law answered.run answered.row in
+      let answered = answer_way most (min (noting_in s.cores tick).noted core.others) (Out y) on.before on.after did in
+      let out : IsKeptCore on.after → CameInForce on.after y = λ law. out_of in_force (noting on.before (min (noting_in s.cores tick).noted core.others)) on.after y law answered.0 answered.1 in
       record {
         place = core.place;
         before = on.before;
@@ -197,18 +205,18 @@ module _ {T : Type 0} where
         was = on.at;
         is = on_core (noting_in s.cores tick) t.cores core.place _ on;
         out = y;
-        number = answered.run.2.1;
+        number = answered.0.2.1;
         told = refl;
         stood =
-            let m = answered.run.0 in
-            let f = way_stood true on.before.slots.last_stamp _ m answered.run.1.0 answered.run.1.1 answered.run.1.2 y.key.entry.index _ answered.run.2.0.1.1 in
-            (f.0, (core.place, on.before, on.at, record { shard = answered.run.2.1; linked = f.1; born = f.2 }));
+            let m = answered.0.0 in
+            let f = way_stood true on.before.slots.last_stamp _ m answered.0.1.0 answered.0.1.1 answered.0.1.2 y.key.entry.index _ answered.0.2.0.1.1 in
+            (f.0, (core.place, on.before, on.at, record { shard = answered.0.2.1; linked = f.1; born = f.2 }));
         in_force = out;
         kept = λ law. keeps on.after ExpiredMark y.key y.deadline (out law).0;
       }
 
   -- by what the piece of the cores' poll made
-  by_made : EndsAreInForce → (s t : StoreState T Sat) (tick most : ℕ) (made : Result (Piece T) CoreError) → PollsRow (DoesPiece true most) s.cores tick made t.cores
+  by_made : EndsAreInForce → (s t : StoreState T Sat) (tick : ℕ) (most : Option ℕ) (made : Result (Piece T) CoreError) → PollsRow (DoesSteps most) s.cores tick made t.cores
       → IfPieceOut (piece_as s.notes made) (λ x. CameOutOf s x t)
   by_made in_force s t tick most (Ok (Answer (Out y))) polled = comes_out in_force s t tick most y polled
   by_made in_force s t tick most (Ok (Answer (Waiting next))) polled = tt
@@ -226,8 +234,8 @@ module _ {T : Type 0} where
   meant_is s p e law there = meant_by s p e (with_id s.notes.places p) (with_id s.notes.users p) law there refl refl
 
   -- what came out of a core that the promise's words are of keeps the promise
-  pub keeps_promise : StoreOutsAreInForce T → (s t : StoreState T Sat) (tick most : ℕ) (r : Result (Piece T) CoreError) (p : PromiseView)
-      → IsStore s → PollsFor (DoesPiece true most) s tick r t → KeepsWords table_by HasBegun s.cores t.cores → EachOf t.cores p.claim.number (λ c. IsBeside c.words p.receipt)
+  pub keeps_promise : StoreOutsAreInForce T → (s t : StoreState T Sat) (tick : ℕ) (most : Option ℕ) (r : Result (Piece T) CoreError) (p : PromiseView)
+      → IsStore s → PollsFor (DoesSteps most) s tick r t → KeepsWords table_by HasBegun s.cores t.cores → EachOf t.cores p.claim.number (λ c. IsBeside c.words p.receipt)
       → EachOf t.cores p.claim.number (λ c. IsLawfulCore c × (c.known ≡ parts_row c.words.view.seen)) → IfPieceOut r (KeepsPromise s.notes p)
   keeps_promise outs s t tick most (Ok (Answer (Out x))) p law polled words beside lawful = λ place meant number.
       let o = outs s t tick most (Ok (Answer (Out x))) polled in

@@ -1,5 +1,5 @@
 -- What a shard's calls leave of the ids that entries have had, and what follows over its history.
-use Rattle.std.proofs.Common.{◌≡◌, ◌≢◌, ◌⊎◌, ℕ, List, [], ◌∷◌, ◌++◌, arith, set, length-set, Option, Some, Result, Ok, Err, IfOk, refl, sym, ap, ◌∙◌, subst, inl, inr, ⊎_elim, append_assoc}
+use Rattle.std.proofs.Common.{true, ◌≡◌, ◌≢◌, ◌⊎◌, ℕ, List, [], ◌∷◌, ◌++◌, arith, set, length-set, Option, Some, None, Result, Ok, Err, IfOk, IfSome, refl, sym, ap, ◌∙◌, subst, inl, inr, ⊎_elim, append_assoc}
 use Rattle.dq_ticks.specs.declared.keys.Key.{Key}
 use Rattle.dq_ticks.specs.declared.keys.EntryId.{EntryId}
 use Rattle.dq_core.specs.declared.errors.CoreError.{CoreError}
@@ -10,19 +10,19 @@ use Rattle.dq_growing.specs.declared.cores.TakeError.{TakeError}
 use Rattle.dq_growing.specs.declared.moving.Moved.{Moved}
 use Rattle.dq_growing.specs.declared.moving.Moved.TheVariants.{To, Out}
 use Rattle.std.proofs.lemmas.List.{get_or-set_same}
-use Rattle.dq_growing.specs.Cores.{CoreRow, HasAt, InsertsIn, IsCoreAt, TakesIn, closed_error}
+use Rattle.dq_growing.specs.Cores.{CoreRow, HasAt, InsertsIn, IsCoreAt, TakesIn, closed_error, missing_error}
 use Rattle.dq_growing.specs.Moving.{IfCameOut}
 use Rattle.dq_growing.specs.Notes.{ArePastBy, Book, numbers_of}
-use Rattle.dq_growing.specs.Runs.{IsUsedId, KeepsId, GivesId, KeepsItsDeadline, NotDueBefore, HoldsDeadline}
+use Rattle.dq_growing.specs.Runs.{IsUsedId, KeepsId, KeepsIds, GivesId, KeepsItsDeadline, NotDueBefore, HoldsDeadline, HoldsDeadlines, LeavesInForce}
 use Rattle.dq_growing.specs.Stands.{OneLeaves}
-use Rattle.dq_growing.specs.Store.{StoreState, StandsFor, HasFor, HasOneValue, NoneStandsFor, ComesFor, GoesOut}
+use Rattle.dq_growing.specs.Store.{StoreState, AfterReset, RemovesIfDueFor, reset_as, StandsFor, HasFor, HasOneValue, NoneStandsFor, ComesFor, GoesOut}
 use Rattle.dq_growing.specs.declared.moving.NextDeadline.{NextDeadline}
 use Rattle.dq_growing.specs.declared.moving.NextDeadline.TheVariants.{Same, At, SameIfAfter}
 use Rattle.dq_growing.proofs.Pairing.{one_or_two}
 use Rattle.dq_growing.proofs.Standing.{some_is}
 use Rattle.dq_growing.proofs.Stored.{stored}
 use Rattle.dq_words.specs.Seats.{Sat}
-use Rattle.dq_queue.specs.Calls.{IsStoreCall, StoreTakesIn, StoreResets, StoreRelocates, HasOnly, ComesNew}
+use Rattle.dq_queue.specs.Calls.{IsStoreCall, StoreRemovesIfDue, StoreTakesIn, StoreResets, StoreResetsThere, StoreRelocates, HasOnly, ComesNew}
 use Rattle.dq_queue.specs.Runs.{ByCall, ByEach, WasGivenIn, KeepsGivenIds, StandsOn, LeavesWith, StaysEnded, LeftOnce, SetsDeadline, SetsNone, LeavesNoSooner, StaysDue, EntriesLeaveOnceIn, EndedStaysEndedIn, DeadlinesHoldIn}
 use Rattle.dq_queue.specs.Shards.{Held, IsAsLeft, IsStoreHistory}
 
@@ -48,6 +48,19 @@ module _ {T : Type 0} where
       → IfOk r (λ x. GoesOut s u x.value t)
   went_out s t u (Ok x) left = (left.was, left.gone)
   went_out s t u (Err e) left = tt {0}
+
+  pub due_out : (s t : StoreState T Sat) (u : EntryId) (tick : ℕ) (r : Result (Option (Removed T)) CoreError) → RemovesIfDueFor true s u tick r t → KeepsIds s t
+      → IfOk r (λ found. IfSome found (λ x. OneLeaves (StandsFor s) (StandsFor t) u x.value)) → HoldsDeadlines s t → IfOk r (λ found. IfSome found (λ x. LeavesInForce s u x.deadline))
+      → StoreRemovesIfDue u tick r s t
+  due_out s t u tick (Ok (Some x)) did keeps left holds in_force = (did.0, (did.1, keeps, (left.was, left.gone), holds, in_force))
+  due_out s t u tick (Ok None) did keeps left holds in_force = (did.0, did.1, (did.2, keeps, holds))
+  due_out s t u tick (Err e) did keeps left holds in_force = (did, keeps, tt {0}, holds, tt {0})
+
+  -- a removal of what is due is a removal, or a look
+  pub due_call : (s t : StoreState T Sat) (u : EntryId) (tick : ℕ) (r : Result (Option (Removed T)) CoreError) → StoreRemovesIfDue u tick r s t → IsStoreCall s t
+  due_call s t u tick (Ok (Some x)) did = inr (inl (u, Ok x, did.1))
+  due_call s t u tick (Ok None) did = inr (inr (inr (inl (u, Ok did.0, did.2))))
+  due_call s t u tick (Err e) did = inr (inl (u, Err e, did))
 
   pub moved_out : (s t : StoreState T Sat) (u : EntryId) (r : Result (Moved T) CoreError) → IfOk r (λ m. IfCameOut m (λ x. OneLeaves (StandsFor s) (StandsFor t) u x.value))
       → IfOk r (λ m. IfCameOut m (λ x. GoesOut s u x.value t))
@@ -93,22 +106,39 @@ module _ {T : Type 0} where
   pub keeps_id : (u : EntryId) (s t : StoreState T Sat) → IsStoreCall s t → BringsNone u s t → IsUsedId s u → KeepsId s t u
   keeps_id u s t (inl y) brings used = let did = y.3 in did.2 u used
   keeps_id u s t (inr (inl y)) brings used = let did = y.2 in did.1 u used
-  keeps_id u s t (inr (inr (inl y))) brings used = let did = y.3 in did.1 u used
+  keeps_id u s t (inr (inr (inl y))) brings used = let did = y.3 in did.1.0 u used
   keeps_id u s t (inr (inr (inr (inl y)))) brings used = let did = y.2 in did.1 u used
   keeps_id u s t (inr (inr (inr (inr (inl y))))) brings used = let did = y.3 in did.1 u used
   keeps_id u s t (inr (inr (inr (inr (inr (inl y)))))) brings used = takes_keep u s t y.0 y.1 y.2 brings used
   keeps_id u s t (inr (inr (inr (inr (inr (inr (inl y))))))) brings used = let did = y.1 in did.3 u used
   keeps_id u s t (inr (inr (inr (inr (inr (inr (inr (inl y)))))))) brings used = let did = y.3 in did.1 u used
-  keeps_id u s t (inr (inr (inr (inr (inr (inr (inr (inr y)))))))) brings used = let did = y.2 in did.1 u used
+  keeps_id u s t (inr (inr (inr (inr (inr (inr (inr (inr (inl y))))))))) brings used = let did = y.2 in did.1 u used
+  keeps_id u s t (inr (inr (inr (inr (inr (inr (inr (inr (inr (inl y)))))))))) brings used = let did = y.3 in did.1.0 u used
+  keeps_id u s t (inr (inr (inr (inr (inr (inr (inr (inr (inr (inr y)))))))))) brings used = let did = y.1 in did.2 u used
 
   reset_holds : (u : EntryId) (s t : StoreState T Sat) (id : EntryId) (when : ℕ) (r : Result Key CoreError × Option T) → StoreResets id when r s t → (¬ SetsDeadline u s t) → IsUsedId s u
       → HoldsDeadline s t u
   reset_holds u s t id when (Ok k, beside) did sets used =
       ⊎_elim
       (λ (is : u ≡ id). let P : EntryId → Type 0 = λ e. StoreResets e when (Ok k, beside) s t in absurd (sets (inl (when, k, beside, subst P (sym is) did))))
-      (λ (ne : u ≢ id). did.2 u ne used)
+      (λ (ne : u ≢ id). did.1.1 u ne used)
       (one_or_two u id)
-  reset_holds u s t id when (Err e, beside) did sets used = did.3 u used
+  reset_holds u s t id when (Err e, beside) did sets used = did.1.2 u used
+
+  -- a reset that was accepted at its place is a reset
+  there_after : (s t : StoreState T Sat) (u : EntryId) (when : ℕ) (k : Key) (made : Result Key CoreError) → Ok k ≡ reset_as u made → t.notes ≡ s.notes
+      → AfterReset true (stored t.cores s.notes) u when made (Ok k, None) t
+  there_after s t u when k (Ok l) is notes = (is, refl, ap (λ n. stored t.cores n) notes)
+  there_after s t u when k (Err e) is notes = absurd (not_ok k e is)
+
+  there_resets : (s t : StoreState T Sat) (u : EntryId) (when : ℕ) (k : Key) → StoreResetsThere u when (Ok k) s t → StoreResets u when (Ok k, None) s t
+  there_resets s t u when k (inl (p, meant, (made, on, is, notes)), kept) = (inl (p, meant, (made, t.cores, on, there_after s t u when k made is notes)), kept)
+  there_resets s t u when k (inr (none, (is, same)), kept) = absurd (not_ok k (missing_error when) is)
+
+  there_holds : (u : EntryId) (s t : StoreState T Sat) (id : EntryId) (when : ℕ) (r : Result Key CoreError) → StoreResetsThere id when r s t → (¬ SetsDeadline u s t) → IsUsedId s u
+      → HoldsDeadline s t u
+  there_holds u s t id when (Ok k) did sets used = reset_holds u s t id when (Ok k, None) (there_resets s t id when k did) sets used
+  there_holds u s t id when (Err e) did sets used = did.1.2 u used
 
   move_holds : (u : EntryId) (s t : StoreState T Sat) (id : EntryId) (next : NextDeadline) (r : Result (Moved T) CoreError × Option T) → StoreRelocates id next r s t → (¬ SetsDeadline u s t)
       → IsUsedId s u → HoldsDeadline s t u
@@ -133,7 +163,9 @@ module _ {T : Type 0} where
   none_set u s t (inr (inr (inr (inr (inr (inl y)))))) sets used = let did = y.2 in did.4 u used
   none_set u s t (inr (inr (inr (inr (inr (inr (inl y))))))) sets used = let did = y.1 in did.4 u used
   none_set u s t (inr (inr (inr (inr (inr (inr (inr (inl y)))))))) sets used = move_holds u s t y.0 y.1 y.2 y.3 sets used
-  none_set u s t (inr (inr (inr (inr (inr (inr (inr (inr y)))))))) sets used = let did = y.2 in did.2 u used
+  none_set u s t (inr (inr (inr (inr (inr (inr (inr (inr (inl y))))))))) sets used = let did = y.2 in did.2 u used
+  none_set u s t (inr (inr (inr (inr (inr (inr (inr (inr (inr (inl y)))))))))) sets used = there_holds u s t y.0 y.1 y.2 y.3 sets used
+  none_set u s t (inr (inr (inr (inr (inr (inr (inr (inr (inr (inr y)))))))))) sets used = let did = y.1 in did.3 u used
 
   pub holds_due : (u : EntryId) (s t : StoreState T Sat) → IsStoreCall s t → SetsNone u s t → IsUsedId s u → HoldsDeadline s t u
   holds_due u s t did (inl moves) used = let m = moves.5 in m.5 moves.4 u used

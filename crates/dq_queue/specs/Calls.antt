@@ -1,6 +1,6 @@
 -- What one call does to what lies behind a shard's lock. Each keeps the ids that entries have had, and
 -- the deadline of each entry but one that it gives another.
-use Rattle.std.specs.Prelude.{◌≡◌, ◌⊎◌, ℕ, true, Option, Some, Result, IfOk, IfErr, IfSome, IfNone, OnOk, OnErr}
+use Rattle.std.specs.Prelude.{◌≡◌, ◌⊎◌, ◌<◌, ◌≤◌, ℕ, true, Option, Some, None, Result, Ok, Err, IfOk, IfErr, IfSome, IfNone, OnOk, OnErr}
 use Rattle.dq_ticks.specs.declared.keys.Key.{Key}
 use Rattle.dq_ticks.specs.declared.keys.EntryId.{EntryId}
 use Rattle.dq_core.specs.declared.errors.CoreError.{CoreError}
@@ -12,12 +12,12 @@ use Rattle.dq_growing.specs.declared.cores.TakeError.{TakeError}
 use Rattle.dq_growing.specs.Cores.{HasAt, InsertsIn, IsCoreAt, TakesIn, GivesDrained, NoneDrained}
 use Rattle.dq_growing.specs.Notes.{Book, meant_place}
 use Rattle.dq_growing.specs.Moving.{IfTo, IfCameOut, UnlessTo}
-use Rattle.dq_growing.specs.Polls.{DoesPiece, IfPieceOut}
+use Rattle.dq_growing.specs.Polls.{DoesPiece, DoesPoll, IfPieceOut, TakesDeferredIn}
 use Rattle.dq_growing.specs.Runs.{IsUsedId, KeepsIds, KeepsIdsBeside, GivesId, HoldsDeadlines, HoldsOtherDeadlines, KeepsItsDeadline, LeavesInForce, NotDueBefore}
 use Rattle.dq_core.specs.declared.errors.ReapError.{ReapError}
 use Rattle.dq_growing.specs.declared.moving.Moved.{Moved}
 use Rattle.dq_growing.specs.declared.moving.NextDeadline.{NextDeadline}
-use Rattle.dq_growing.specs.Store.{StoreState, RemovesFor, TellsFor, ResetsFor, RelocatesFor, ReapsFor, PollsFor, HasFor, HasOneValue, NoneStandsFor, GoesOut, TakeRefusedFor}
+use Rattle.dq_growing.specs.Store.{StoreState, RemovesFor, TellsFor, ResetsFor, ResetsThere, RelocatesFor, ReapsFor, PollsFor, HasFor, HasOneValue, NoneStandsFor, GoesOut, TakeRefusedFor}
 use Rattle.dq_words.specs.Plays.{Covers}
 use Rattle.dq_words.specs.Seats.{Sat}
 use Rattle.dq_queue.specs.Words.{PromiseView}
@@ -69,31 +69,53 @@ module _ {T : Type 0} where
       RemovesFor true s id r t × KeepsIds s t × IfOk r (λ x. GoesOut s id x.value t)
       × HoldsDeadlines s t × IfOk r (λ x. LeavesInForce s id x.deadline)
 
-  -- an entry gets another deadline, and none leaves; refused, no deadline falls
-  abbrev pub StoreResets : EntryId → ℕ → Result Key CoreError × Option T → StoreState T Sat →
-      StoreState T Sat → Type 0
-  StoreResets id when r s t =
-      ResetsFor true s id when r t × KeepsIds s t × HoldsOtherDeadlines id s t
-      × OnErr r.0 (HoldsDeadlines s t) × OnOk r.0 (NotDueBefore t id when) × NoneLeft s t
-
   -- an entry's deadline is told
   abbrev pub StoreTells : EntryId → Result ℕ CoreError → StoreState T Sat → StoreState T Sat → Type 0
   StoreTells id r s t = TellsFor true s id r t × KeepsIds s t × HoldsDeadlines s t
 
-  -- a tick is noted, and a piece of a poll is done; what comes out leaves with its value, at no
-  -- deadline before the one that it had
-  abbrev pub StorePollsSome : ℕ → ℕ → Result (Piece T) CoreError → StoreState T Sat →
+  -- what is due by a tick is removed; of what is due later the deadline is told, and it stays
+  abbrev pub StoreRemovesIfDue : EntryId → ℕ → Result (Option (Removed T)) CoreError →
+      StoreState T Sat → StoreState T Sat → Type 0
+  StoreRemovesIfDue id tick (Ok (Some x)) s t = (x.deadline ≤ tick) × StoreRemoves id (Ok x) s t
+  StoreRemovesIfDue id tick (Ok None) s t = (d : ℕ) × (tick < d) × StoreTells id (Ok d) s t
+  StoreRemovesIfDue id tick (Err e) s t = StoreRemoves id (Err e) s t
+
+  -- what a reset keeps: none leaves; no other deadline falls, and none where it is refused
+  abbrev pub KeepsByReset : EntryId → ℕ → Result Key CoreError → StoreState T Sat →
       StoreState T Sat → Type 0
-  StorePollsSome tick most r s t =
-      PollsFor (DoesPiece true most) s tick r t × KeepsIds s t
+  KeepsByReset id when r s t =
+      KeepsIds s t × HoldsOtherDeadlines id s t
+      × OnErr r (HoldsDeadlines s t) × OnOk r (NotDueBefore t id when) × NoneLeft s t
+
+  -- an entry gets another deadline
+  abbrev pub StoreResets : EntryId → ℕ → Result Key CoreError × Option T → StoreState T Sat →
+      StoreState T Sat → Type 0
+  StoreResets id when r s t = ResetsFor true s id when r t × KeepsByReset id when r.0 s t
+
+  -- so where it is: if its slot has no stamp left, it is refused, and doesn't move
+  abbrev pub StoreResetsThere : EntryId → ℕ → Result Key CoreError → StoreState T Sat →
+      StoreState T Sat → Type 0
+  StoreResetsThere id when r s t = ResetsThere true s id when r t × KeepsByReset id when r s t
+
+  -- what a poll does in a core: at most so many steps of it, or all where no number is told
+  abbrev pub DoesSteps : Option ℕ → ℕ → Piece T → Core T Sat → Core T Sat → Type 0
+  DoesSteps (Some most) = DoesPiece true most
+  DoesSteps None = DoesPoll true
+
+  -- a tick is noted, and a poll is made, whole or a piece of it; what comes out leaves with its
+  -- value, at no deadline before the one that it had
+  abbrev pub StorePolls : ℕ → Option ℕ → Result (Piece T) CoreError → StoreState T Sat →
+      StoreState T Sat → Type 0
+  StorePolls tick most r s t =
+      PollsFor (DoesSteps most) s tick r t × KeepsIds s t
       × IfPieceOut r (λ x. GoesOut s x.key.entry x.value t) × HoldsDeadlines s t
       × IfPieceOut r (λ x. LeavesInForce s x.key.entry x.deadline) × KeepsNumbers s t
 
-  -- a piece of a poll, of which what comes out keeps what a call promised
-  abbrev pub StorePollsBeside : PromiseView → ℕ → ℕ → Result (Piece T) CoreError →
+  -- such a poll, of which what comes out keeps what a call promised
+  abbrev pub StorePollsBeside : PromiseView → ℕ → Option ℕ → Result (Piece T) CoreError →
       StoreState T Sat → StoreState T Sat → Type 0
   StorePollsBeside p tick most r s t =
-      StorePollsSome tick most r s t × IfPieceOut r (KeepsPromise s.notes p)
+      StorePolls tick most r s t × IfPieceOut r (KeepsPromise s.notes p)
 
   -- a core comes in, which is open from then on; or it comes back, and the store stays. It keeps the
   -- ids that it doesn't give anew
@@ -135,7 +157,13 @@ module _ {T : Type 0} where
   StoreReaps id r s t =
       ReapsFor true s id r t × KeepsIds s t × HoldsDeadlines s t × KeepsNumbers s t
 
-  -- one call took a store from one state to another
+  -- a freed value that waits for its drop is taken out; no entry changes
+  abbrev pub StoreTakesDeferred : Option T → StoreState T Sat → StoreState T Sat → Type 0
+  StoreTakesDeferred r s t =
+      TakesDeferredIn s.cores r t.cores × (t.notes ≡ s.notes) × KeepsIds s t × HoldsDeadlines s t
+
+  -- one call took a store from one state to another; a removal of what is due is a removal, or a
+  -- look at a deadline
   abbrev pub IsStoreCall : StoreState T Sat → StoreState T Sat → Type 0
   IsStoreCall s t =
       ((v : T) × (when : ℕ) × (r : Result Key (CoreError × T) × Option T)
@@ -144,11 +172,14 @@ module _ {T : Type 0} where
       ⊎ (((id : EntryId) × (when : ℕ) × (r : Result Key CoreError × Option T)
       × StoreResets id when r s t)
       ⊎ (((id : EntryId) × (r : Result ℕ CoreError) × StoreTells id r s t)
-      ⊎ (((tick : ℕ) × (most : ℕ) × (r : Result (Piece T) CoreError)
-      × StorePollsSome tick most r s t)
+      ⊎ (((tick : ℕ) × (most : Option ℕ) × (r : Result (Piece T) CoreError)
+      × StorePolls tick most r s t)
       ⊎ (((c : Core T Sat) × (r : Result (Unit {0}) (TakeError × Core T Sat))
       × StoreTakesIn c r s t)
       ⊎ (((r : Option (Core T Sat)) × StoreGives r s t)
       ⊎ (((id : EntryId) × (next : NextDeadline) × (r : Result (Moved T) CoreError × Option T)
       × StoreRelocates id next r s t)
-      ⊎ ((id : EntryId) × (r : Result (Unit {0}) ReapError) × StoreReaps id r s t))))))))
+      ⊎ (((id : EntryId) × (r : Result (Unit {0}) ReapError) × StoreReaps id r s t)
+      ⊎ (((id : EntryId) × (when : ℕ) × (r : Result Key CoreError)
+      × StoreResetsThere id when r s t)
+      ⊎ ((r : Option T) × StoreTakesDeferred r s t))))))))))

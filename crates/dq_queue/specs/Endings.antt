@@ -20,7 +20,7 @@ use Rattle.dq_growing.specs.declared.moving.NextDeadline.{NextDeadline}
 use Rattle.dq_growing.specs.Cores.{CoreRow, IsCoreAt, InsertsIn}
 use Rattle.dq_growing.specs.Moving.{IfTo, IfCameOut}
 use Rattle.dq_growing.specs.Notes.{meant_place, user_at}
-use Rattle.dq_growing.specs.Polls.{DoesPiece, IfPieceOut}
+use Rattle.dq_growing.specs.Polls.{IfPieceOut}
 use Rattle.dq_growing.specs.Stands.{HasEntry}
 use Rattle.dq_growing.specs.Runs.{KeepsItsDeadline}
 use Rattle.dq_growing.specs.Store.{StoreState, PollsFor, RelocatesFor, RemovesFor, expired_as}
@@ -31,6 +31,7 @@ use Rattle.dq_words.specs.Plays.{Covers}
 use Rattle.dq_words.specs.Rule.{Ruled}
 use Rattle.dq_words.specs.Seats.{Sat}
 use Rattle.dq_words.specs.Together.{IsBeside}
+use Rattle.dq_queue.specs.Calls.{DoesSteps}
 use Rattle.dq_words.specs.Word.{parts_row}
 
 -- It holds whatever the table of the words is, where it meets the rule and the keeper has this
@@ -128,11 +129,11 @@ module _ {T : Type 0} where
       (place : EntryId) → meant_place s.notes u ≡ Some place → IsOutsideOpen s.cores place →
       TakenOutOf s place deadline t
 
--- whatever a piece of a poll of a store gives out is so
+-- whatever a poll of a store gives out is so
 abbrev pub StoreOutsAreInForce : Type 0 → Type 0
 StoreOutsAreInForce T =
-    (s t : StoreState T Sat) (tick most : ℕ) (r : Result (Piece T) CoreError)
-    → PollsFor (DoesPiece true most) s tick r t → IfPieceOut r (λ x. CameOutOf s x t)
+    (s t : StoreState T Sat) (tick : ℕ) (most : Option ℕ) (r : Result (Piece T) CoreError)
+    → PollsFor (DoesSteps most) s tick r t → IfPieceOut r (λ x. CameOutOf s x t)
 
 -- Whatever key an insert into a store answers is of its open core, and its stamp was given once, by
 -- what that core keeps.

@@ -19,7 +19,7 @@ use Rattle.dq_growing.specs.declared.moving.NextDeadline.{NextDeadline}
 use Rattle.dq_journal.specs.declared.views.Entry.{Entry as Call}
 use Rattle.dq_words.specs.declared.views.View.{View}
 use Rattle.dq_words.specs.Seats.{Sat}
-use Rattle.dq_queue.specs.Calls.{IsStoreCall, StoreRemoves, StoreRelocates, StorePollsSome}
+use Rattle.dq_queue.specs.Calls.{IsStoreCall, StoreRemoves, StoreRelocates, StorePolls}
 use Rattle.dq_queue.specs.Endings.{InEachTable, IsKeptCore, file_under, present_key}
 use Rattle.dq_queue.specs.Shards.{Held, IsStoreHistory}
 
@@ -29,14 +29,14 @@ WasCancelledOnce k t =
     (length (file_under k t).cancels ≡ 1) × (length (file_under k t).ends ≡ 0)
 
 module _ {T : Type 0} where
-  -- a call gave an entry out: a removal did, or a move, or a piece of a poll
+  -- a call gave an entry out: a removal did, or a move, or a poll
   abbrev pub GivesOut : EntryId → StoreState T Sat → StoreState T Sat → Type 0
   GivesOut u s t =
       ((x : Removed T) × StoreRemoves u (Ok x) s t)
       ⊎ (((next : NextDeadline) × (x : Removed T) × (beside : Option T)
       × StoreRelocates u next (Ok (Out x), beside) s t)
-      ⊎ ((at : ℕ) × (most : ℕ) × (x : Expired T) × (x.key.entry ≡ u)
-      × StorePollsSome at most (Ok (Answer (CameOut x))) s t))
+      ⊎ ((at : ℕ) × (most : Option ℕ) × (x : Expired T) × (x.key.entry ≡ u)
+      × StorePolls at most (Ok (Answer (CameOut x))) s t))
 
   -- An entry had been cancelled. It stood at a place, whose user knew it by the id that the notes
   -- tell, and one core held it there. By what that core keeps, its key there was cancelled, once.

@@ -12,7 +12,7 @@ use Rattle.dq_growing.specs.Store.{StoreState, NoneStandsFor, GoesOut}
 use Rattle.dq_growing.specs.declared.moving.Moved.TheVariants.{To, Out}
 use Rattle.dq_growing.specs.declared.moving.NextDeadline.{NextDeadline}
 use Rattle.dq_words.specs.Seats.{Sat}
-use Rattle.dq_queue.specs.Calls.{HasGiven, HasOnly, StoreRemoves, StoreResets, StoreRelocates, StorePollsSome}
+use Rattle.dq_queue.specs.Calls.{HasGiven, HasOnly, StoreRemoves, StoreResets, StoreRelocates, StorePolls}
 use Rattle.dq_queue.specs.Shards.{Held, IsAsLeft}
 
 module _ {T : Type 0} where
@@ -121,8 +121,8 @@ module _ {T : Type 0} where
         (next : NextDeadline) (x : Removed T) (beside : Option T) →
         StoreRelocates u next (Ok (Out x), beside) s t → tick ≤ x.deadline
     pub polled :
-        (at most : ℕ) (x : Expired T) → StorePollsSome at most (Ok (Answer (CameOut x))) s t →
-        x.key.entry ≡ u → tick ≤ x.deadline
+        (at : ℕ) (most : Option ℕ) (x : Expired T) →
+        StorePolls at most (Ok (Answer (CameOut x))) s t → x.key.entry ≡ u → tick ≤ x.deadline
 
   -- an entry isn't due before a tick, and if the call took it out, then at no deadline before that
   abbrev pub StaysDue : EntryId → ℕ → StoreState T Sat → StoreState T Sat → Type 0

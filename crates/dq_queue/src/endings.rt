@@ -5,8 +5,8 @@ ghost use Rattle.dq_queue.specs.Leaving.{StoreLosesNone};
 
 use dq_words::endings;
 
-/// Whatever a piece of a poll of a store gives out came out of one core, as expired at its deadline in force, at a tick
-/// already noted; at no deadline before one that a call by open words promised.
+/// Whatever a poll of a store gives out, whole or a piece, came out of one core, as expired at its deadline in force, at a
+/// tick already noted; at no deadline before one that a call by open words promised.
 pub fn outs_are_in_force<T>()
     ensures { StoreOutsAreInForce T }
 {

@@ -1,8 +1,8 @@
 //! A row of shards, each behind a lock of its own, and the calls by name of their callers.
-ghost use Rattle.std.specs.Prelude.{◌≡◌, ◌<◌, ◌≤◌, ◌^◌, vec_len, IfOk, IfErr, IfSome};
+ghost use Rattle.std.specs.Prelude.{◌≡◌, ◌<◌, ◌≤◌, ◌^◌, vec_len, Some, None, IfOk, IfErr, IfSome};
 ghost use Rattle.std.specs.Sync.Mutex.{mutex_guard_value};
 ghost use Rattle.dq_queue.specs.declared.queue.QueueError.TheVariants.{Unknown};
-ghost use Rattle.dq_queue.specs.Calls.{StoreInserts, StoreRemoves, StoreResets, StoreTells, StorePollsSome, StorePollsBeside};
+ghost use Rattle.dq_queue.specs.Calls.{StoreInserts, StoreRemoves, StoreRemovesIfDue, StoreResets, StoreResetsThere, StoreTells, StorePolls, StorePollsBeside, StoreTakesDeferred};
 ghost use Rattle.dq_queue.specs.Shards.{MadeOnce};
 
 use crate::shard::{Caller, Rooms, Shard};
@@ -178,6 +178,29 @@ impl<T, J: Rooms, A: Allocator + Clone> GrowingQueue<T, J, A> {
         answer
     }
 
+    /// Takes the lock of the caller's shard, and takes a live entry out if its current deadline isn't after `tick`, of one
+    /// millisecond, and returns its value with its key and that deadline. It returns none if the deadline is later: then
+    /// the entry stays where it is, with its key. Constant time, and no memory is taken.
+    ///
+    /// # Errors
+    /// In this order:
+    /// - `Missing` if the entry isn't in the shard any more, or never was.
+    /// - `WasCancelled` if the entry was cancelled.
+    pub fn remove_if_due<R: Wait>(
+        &self,
+        rt: &R,
+        me: &mut Caller<T, J, A>,
+        entry: &EntryId,
+        tick: u64,
+    ) -> Result<Option<Removed<T>>, CoreError>
+        ensures once { MadeOnce me.old (λ s t. StoreRemovesIfDue entry.now tick result s t) me.new }
+    {
+        let mut shard = self.locked_for(rt, me);
+        let answer = shard.remove_if_due(me, entry, tick);
+        drop(shard);
+        answer
+    }
+
     /// Takes the lock of the caller's shard, and gives a live entry the deadline `when`, a tick of one millisecond,
     /// sooner or later than the one that it has, and returns its new key. No value is dropped: one that waits for its
     /// drop in the slot that the entry goes on in comes out beside the key. Constant time. No memory is taken, but for a
@@ -205,6 +228,29 @@ impl<T, J: Rooms, A: Allocator + Clone> GrowingQueue<T, J, A> {
         answer
     }
 
+    /// The same of an entry that stays where it is. No memory is taken.
+    ///
+    /// # Errors
+    /// In this order:
+    /// - `TooFar` if `when` is beyond the last tick.
+    /// - `Missing` if the entry isn't in the shard any more, or never was.
+    /// - `WasCancelled` if the entry was cancelled.
+    /// - `Worn` if the entry's slot has no stamp left for another key.
+    pub fn reset_in_place<R: Wait>(
+        &self,
+        rt: &R,
+        me: &mut Caller<T, J, A>,
+        entry: &EntryId,
+        when: u64,
+    ) -> Result<Key, CoreError>
+        ensures once { MadeOnce me.old (λ s t. StoreResetsThere entry.now when result s t) me.new }
+    {
+        let mut shard = self.locked_for(rt, me);
+        let answer = shard.reset_in_place(me, entry, when);
+        drop(shard);
+        answer
+    }
+
     /// Takes the lock of the caller's shard, and returns the current deadline of a live entry, a tick of one
     /// millisecond. Constant time.
     ///
@@ -226,10 +272,27 @@ impl<T, J: Rooms, A: Allocator + Clone> GrowingQueue<T, J, A> {
         answer
     }
 
-    /// Takes the lock of the caller's shard, and notes a tick, of one millisecond, and makes at most `most` steps of a
-    /// poll: it takes out one entry whose deadline in force is reached by the greatest tick noted, or tells when to come
-    /// again, or has more to do. No value is dropped: that of each cancelled entry which it reaps waits until it is
-    /// taken out.
+    /// Takes the lock of the caller's shard, and notes a tick, of one millisecond, and polls: it takes out one entry whose
+    /// deadline in force is reached by the greatest tick noted, or tells when to come again, or that there may be more. No
+    /// value is dropped: that of each cancelled entry which it reaps waits until it is taken out.
+    ///
+    /// # Errors
+    /// `TickTooLarge` beyond the last tick, which is not noted then.
+    pub fn poll<R: Wait>(
+        &self,
+        rt: &R,
+        me: &mut Caller<T, J, A>,
+        tick: u64,
+    ) -> Result<Piece<T>, CoreError>
+        ensures once { MadeOnce me.old (λ s t. StorePolls tick None result s t) me.new }
+    {
+        let mut shard = self.locked_for(rt, me);
+        let answer = shard.poll(me, tick);
+        drop(shard);
+        answer
+    }
+
+    /// The same by at most `most` steps. So it also tells where it made them all, and more may be left.
     ///
     /// # Errors
     /// `TickTooLarge` beyond the last tick, which is not noted then.
@@ -240,7 +303,7 @@ impl<T, J: Rooms, A: Allocator + Clone> GrowingQueue<T, J, A> {
         tick: u64,
         most: u32,
     ) -> Result<Piece<T>, CoreError>
-        ensures once { MadeOnce me.old (λ s t. StorePollsSome tick most result s t) me.new }
+        ensures once { MadeOnce me.old (λ s t. StorePolls tick (Some most) result s t) me.new }
     {
         let mut shard = self.locked_for(rt, me);
         let answer = shard.poll_some(me, tick, most);
@@ -262,11 +325,22 @@ impl<T, J: Rooms, A: Allocator + Clone> GrowingQueue<T, J, A> {
         most: u32,
     ) -> Result<Piece<T>, CoreError>
         ensures once { MadeOnce me.old
-            (λ s t. StorePollsBeside promise.old tick most result s t) me.new }
+            (λ s t. StorePollsBeside promise.old tick (Some most) result s t) me.new }
         ensures same { promise.new ≡ promise.old }
     {
         let mut shard = self.locked_for(rt, me);
         let answer = shard.poll_beside(me, &self.words, promise, tick, most);
+        drop(shard);
+        answer
+    }
+
+    /// Takes the lock of the caller's shard, and takes out a freed value that waits for its drop. It returns none if no value
+    /// waits.
+    pub fn take_deferred<R: Wait>(&self, rt: &R, me: &mut Caller<T, J, A>) -> Option<T>
+        ensures once { MadeOnce me.old (λ s t. StoreTakesDeferred result s t) me.new }
+    {
+        let mut shard = self.locked_for(rt, me);
+        let answer = shard.take_deferred(me);
         drop(shard);
         answer
     }

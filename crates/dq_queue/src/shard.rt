@@ -1,13 +1,13 @@
 //! What lies behind a shard's lock, and the calls that callers make of it there: each is entered once in the shard's history.
-ghost use Rattle.std.specs.Prelude.{◌≡◌, ◌<◌, ◌+◌, ◌++◌, ◌∷◌, true, [], IfOk, IfErr, IfSome, IfNone, OnOk, OnErr};
+ghost use Rattle.std.specs.Prelude.{◌≡◌, ◌<◌, ◌+◌, ◌++◌, ◌∷◌, true, [], Some, None, IfOk, IfErr, IfSome, IfNone, OnOk, OnErr};
 ghost use Rattle.dq_journal.specs.Once.{IsTold, IsWithNumber};
 ghost use Rattle.dq_journal.specs.Views.{first_witness, new_witness};
 ghost use Rattle.dq_growing.specs.Cores.{HasNo};
 ghost use Rattle.dq_growing.specs.Polls.{IfPieceOut};
 ghost use Rattle.dq_growing.specs.Store.{IsStore};
 ghost use Rattle.dq_directory.specs.Claims.{IsOf};
-ghost use Rattle.dq_queue.specs.Calls.{StoreInserts, StoreRemoves, StoreResets, StoreTells, StorePollsSome};
-ghost use Rattle.dq_queue.specs.Calls.{KeepsPromise, StorePollsBeside};
+ghost use Rattle.dq_queue.specs.Calls.{StoreInserts, StoreRemoves, StoreRemovesIfDue, StoreResets, StoreResetsThere, StoreTells, StorePolls};
+ghost use Rattle.dq_queue.specs.Calls.{KeepsPromise, StorePollsBeside, StoreTakesDeferred};
 ghost use Rattle.dq_queue.specs.Calls.{StoreTakesIn, StoreRefuses, StoreGives, StoreRelocates, StoreReaps};
 ghost use Rattle.dq_queue.specs.Claims.{AreClaimed, AreClaimsOf, BringsNoCore, ClaimsWords, HasClaim, IsOfItsWords, RefusedAsNew};
 ghost use Rattle.dq_queue.specs.Leaving.{NoneIsLostIn};
@@ -105,6 +105,18 @@ impl<T, A: Allocator + Clone> Held<T, A> {
         answer
     }
 
+    fn remove_if_due(&mut self, entry: &EntryId, tick: u64) -> Result<Option<Removed<T>>, CoreError>
+        ensures number { self.new.number ≡ self.old.number }
+        ensures stores { IsStore self.old.store × IsStore self.new.store }
+        ensures cores { BringsNoCore self.old.store self.new.store }
+        ensures removes { StoreRemovesIfDue entry.now tick result self.old.store self.new.store }
+    {
+        self.store.law();
+        let answer = self.store.remove_if_due(entry, tick);
+        self.store.law();
+        answer
+    }
+
     fn reset(&mut self, entry: &EntryId, when: u64) -> (Result<Key, CoreError>, Option<T>)
         ensures number { self.new.number ≡ self.old.number }
         ensures stores { IsStore self.old.store × IsStore self.new.store }
@@ -114,6 +126,18 @@ impl<T, A: Allocator + Clone> Held<T, A> {
         self.store.law();
         self.store.cores().law();
         let answer = self.store.reset(entry, when);
+        self.store.law();
+        answer
+    }
+
+    fn reset_in_place(&mut self, entry: &EntryId, when: u64) -> Result<Key, CoreError>
+        ensures number { self.new.number ≡ self.old.number }
+        ensures stores { IsStore self.old.store × IsStore self.new.store }
+        ensures cores { BringsNoCore self.old.store self.new.store }
+        ensures resets { StoreResetsThere entry.now when result self.old.store self.new.store }
+    {
+        self.store.law();
+        let answer = self.store.reset_in_place(entry, when);
         self.store.law();
         answer
     }
@@ -130,11 +154,23 @@ impl<T, A: Allocator + Clone> Held<T, A> {
         answer
     }
 
+    fn poll(&mut self, tick: u64) -> Result<Piece<T>, CoreError>
+        ensures number { self.new.number ≡ self.old.number }
+        ensures stores { IsStore self.old.store × IsStore self.new.store }
+        ensures cores { BringsNoCore self.old.store self.new.store }
+        ensures polls { StorePolls tick None result self.old.store self.new.store }
+    {
+        self.store.law();
+        let answer = self.store.poll(tick);
+        self.store.law();
+        answer
+    }
+
     fn poll_some(&mut self, tick: u64, most: u32) -> Result<Piece<T>, CoreError>
         ensures number { self.new.number ≡ self.old.number }
         ensures stores { IsStore self.old.store × IsStore self.new.store }
         ensures cores { BringsNoCore self.old.store self.new.store }
-        ensures polls { StorePollsSome tick most result self.old.store self.new.store }
+        ensures polls { StorePolls tick (Some most) result self.old.store self.new.store }
     {
         self.store.law();
         let answer = self.store.poll_some(tick, most);
@@ -153,7 +189,7 @@ impl<T, A: Allocator + Clone> Held<T, A> {
         ensures number { self.new.number ≡ self.old.number }
         ensures stores { IsStore self.old.store × IsStore self.new.store }
         ensures cores { BringsNoCore self.old.store self.new.store }
-        ensures polls { StorePollsSome tick most result self.old.store self.new.store }
+        ensures polls { StorePolls tick (Some most) result self.old.store self.new.store }
         ensures kept { IfPieceOut result (KeepsPromise self.old.store.notes promise.old) }
         ensures same { promise.new ≡ promise.old }
     {
@@ -163,6 +199,18 @@ impl<T, A: Allocator + Clone> Held<T, A> {
         self.store.beside(number, &mut promise.receipt);
         self.store.law();
         endings::outs_are_in_force::<T>();
+        answer
+    }
+
+    fn take_deferred(&mut self) -> Option<T>
+        ensures number { self.new.number ≡ self.old.number }
+        ensures stores { IsStore self.old.store × IsStore self.new.store }
+        ensures cores { BringsNoCore self.old.store self.new.store }
+        ensures takes { StoreTakesDeferred result self.old.store self.new.store }
+    {
+        self.store.law();
+        let answer = self.store.take_deferred();
+        self.store.law();
         answer
     }
 
@@ -455,6 +503,33 @@ impl<T, J: Rooms, A: Allocator + Clone> Shard<T, J, A> {
         answer
     }
 
+    /// Takes a live entry out if its current deadline isn't after `tick`, of one millisecond, and returns its value with its
+    /// key and that deadline. It returns none if the deadline is later: then the entry stays where it is, with its key.
+    /// Constant time, and no memory is taken.
+    ///
+    /// # Errors
+    /// In this order:
+    /// - `Missing` if the entry isn't in the shard any more, or never was.
+    /// - `WasCancelled` if the entry was cancelled.
+    pub fn remove_if_due(
+        &mut self,
+        me: &mut Caller<T, J, A>,
+        entry: &EntryId,
+        tick: u64,
+    ) -> Result<Option<Removed<T>>, CoreError>
+        requires { me.old.shard ≡ self.old.held.number }
+        ensures once { MadeOnce me.old (λ s t. StoreRemovesIfDue entry.now tick result s t) me.new }
+        ensures one_more { OneMore self.old me.old self.new }
+        ensures removes { StoreRemovesIfDue entry.now tick result
+            self.old.held.store self.new.held.store }
+        ensures number { self.new.held.number ≡ self.old.held.number }
+        ensures claims { self.new.claims ≡ self.old.claims }
+    {
+        let answer = self.held.remove_if_due(entry, tick);
+        self.history.enter_for(&mut me.history, &self.held);
+        answer
+    }
+
     /// Gives a live entry the deadline `when`, a tick of one millisecond, sooner or later than the one that it has, and
     /// returns its new key. No value is dropped: one that waits for its drop in the slot that the entry goes on in comes
     /// out beside the key. Constant time. No memory is taken, but for a note where the entry goes on in another core.
@@ -484,6 +559,33 @@ impl<T, J: Rooms, A: Allocator + Clone> Shard<T, J, A> {
         answer
     }
 
+    /// The same of an entry that stays where it is. No memory is taken.
+    ///
+    /// # Errors
+    /// In this order:
+    /// - `TooFar` if `when` is beyond the last tick.
+    /// - `Missing` if the entry isn't in the shard any more, or never was.
+    /// - `WasCancelled` if the entry was cancelled.
+    /// - `Worn` if the entry's slot has no stamp left for another key.
+    pub fn reset_in_place(
+        &mut self,
+        me: &mut Caller<T, J, A>,
+        entry: &EntryId,
+        when: u64,
+    ) -> Result<Key, CoreError>
+        requires { me.old.shard ≡ self.old.held.number }
+        ensures once { MadeOnce me.old (λ s t. StoreResetsThere entry.now when result s t) me.new }
+        ensures one_more { OneMore self.old me.old self.new }
+        ensures resets { StoreResetsThere entry.now when result
+            self.old.held.store self.new.held.store }
+        ensures number { self.new.held.number ≡ self.old.held.number }
+        ensures claims { self.new.claims ≡ self.old.claims }
+    {
+        let answer = self.held.reset_in_place(entry, when);
+        self.history.enter_for(&mut me.history, &self.held);
+        answer
+    }
+
     /// Returns the current deadline of a live entry, a tick of one millisecond. Constant time.
     ///
     /// # Errors
@@ -503,9 +605,26 @@ impl<T, J: Rooms, A: Allocator + Clone> Shard<T, J, A> {
         answer
     }
 
-    /// Notes a tick, of one millisecond, and makes at most `most` steps of a poll: it takes out one entry whose deadline
-    /// in force is reached by the greatest tick noted, or tells when to come again, or has more to do. No value is
-    /// dropped: that of each cancelled entry which it reaps waits until it is taken out.
+    /// Notes a tick, of one millisecond, and polls: it takes out one entry whose deadline in force is reached by the
+    /// greatest tick noted, or tells when to come again, or that there may be more. No value is dropped: that of each
+    /// cancelled entry which it reaps waits until it is taken out.
+    ///
+    /// # Errors
+    /// `TickTooLarge` beyond the last tick, which is not noted then.
+    pub fn poll(&mut self, me: &mut Caller<T, J, A>, tick: u64) -> Result<Piece<T>, CoreError>
+        requires { me.old.shard ≡ self.old.held.number }
+        ensures once { MadeOnce me.old (λ s t. StorePolls tick None result s t) me.new }
+        ensures one_more { OneMore self.old me.old self.new }
+        ensures polls { StorePolls tick None result self.old.held.store self.new.held.store }
+        ensures number { self.new.held.number ≡ self.old.held.number }
+        ensures claims { self.new.claims ≡ self.old.claims }
+    {
+        let answer = self.held.poll(tick);
+        self.history.enter_for(&mut me.history, &self.held);
+        answer
+    }
+
+    /// The same by at most `most` steps. So it also tells where it made them all, and more may be left.
     ///
     /// # Errors
     /// `TickTooLarge` beyond the last tick, which is not noted then.
@@ -516,9 +635,9 @@ impl<T, J: Rooms, A: Allocator + Clone> Shard<T, J, A> {
         most: u32,
     ) -> Result<Piece<T>, CoreError>
         requires { me.old.shard ≡ self.old.held.number }
-        ensures once { MadeOnce me.old (λ s t. StorePollsSome tick most result s t) me.new }
+        ensures once { MadeOnce me.old (λ s t. StorePolls tick (Some most) result s t) me.new }
         ensures one_more { OneMore self.old me.old self.new }
-        ensures polls { StorePollsSome tick most result self.old.held.store self.new.held.store }
+        ensures polls { StorePolls tick (Some most) result self.old.held.store self.new.held.store }
         ensures number { self.new.held.number ≡ self.old.held.number }
         ensures claims { self.new.claims ≡ self.old.claims }
     {
@@ -541,9 +660,9 @@ impl<T, J: Rooms, A: Allocator + Clone> Shard<T, J, A> {
     ) -> Result<Piece<T>, CoreError>
         requires { me.old.shard ≡ self.old.held.number }
         ensures once { MadeOnce me.old
-            (λ s t. StorePollsBeside promise.old tick most result s t) me.new }
+            (λ s t. StorePollsBeside promise.old tick (Some most) result s t) me.new }
         ensures one_more { OneMore self.old me.old self.new }
-        ensures polls { StorePollsBeside promise.old tick most result
+        ensures polls { StorePollsBeside promise.old tick (Some most) result
             self.old.held.store self.new.held.store }
         ensures number { self.new.held.number ≡ self.old.held.number }
         ensures claims { self.new.claims ≡ self.old.claims }
@@ -551,6 +670,20 @@ impl<T, J: Rooms, A: Allocator + Clone> Shard<T, J, A> {
     {
         let _ = words.knows(self.claims.as_slice(), &promise.claim);
         let answer = self.held.poll_beside(promise, tick, most);
+        self.history.enter_for(&mut me.history, &self.held);
+        answer
+    }
+
+    /// Takes out a freed value that waits for its drop. It returns none if no value waits.
+    pub fn take_deferred(&mut self, me: &mut Caller<T, J, A>) -> Option<T>
+        requires { me.old.shard ≡ self.old.held.number }
+        ensures once { MadeOnce me.old (λ s t. StoreTakesDeferred result s t) me.new }
+        ensures one_more { OneMore self.old me.old self.new }
+        ensures takes { StoreTakesDeferred result self.old.held.store self.new.held.store }
+        ensures number { self.new.held.number ≡ self.old.held.number }
+        ensures claims { self.new.claims ≡ self.old.claims }
+    {
+        let answer = self.held.take_deferred();
         self.history.enter_for(&mut me.history, &self.held);
         answer
     }

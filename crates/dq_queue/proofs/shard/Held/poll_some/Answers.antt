@@ -1,5 +1,5 @@
-use Rattle.std.proofs.Common.{subst}
-use Rattle.dq_queue.specs.Calls.{StorePollsSome}
+use Rattle.std.proofs.Common.{Some, subst}
+use Rattle.dq_queue.specs.Calls.{StorePolls}
 use Rattle.dq_queue.specs.Claims.{BringsNoCore}
 use Rattle.dq_queue.specs.Shards.{Held}
 use Rattle.dq_queue.proofs.Claims.{brings_none, polls_long}
@@ -9,11 +9,11 @@ use Rattle.dq_queue.proofs.shard.Held.poll_some.Goals as goal
 pub returns-clause-polls : goal.returns-clause-polls
 returns-clause-polls g c =
     let made = c.poll_some-answer in
-    let P : Held _ → Type 0 = λ h. StorePollsSome c.args.tick c.args.most made.result h.store made.new.self in
+    let P : Held _ → Type 0 = λ h. StorePolls c.args.tick (Some c.args.most) made.result h.store made.new.self in
     subst P c.self.view_is (made.ensures.polls, made.ensures.keeps, made.ensures.goes_out, made.ensures.holds, made.ensures.in_force, numbers_kept c.self.inside.store made.new.self made.ensures.words)
 
 pub returns-clause-cores : goal.returns-clause-cores
 returns-clause-cores g c =
     let made = c.poll_some-answer in
     let P : Held _ → Type 0 = λ h. BringsNoCore h.store made.new.self in
-    subst P c.self.view_is (brings_none c.self.inside.store made.new.self made.ensures.words (polls_long c.self.inside.store made.new.self c.args.tick c.args.most made.result made.ensures.polls))
+    subst P c.self.view_is (brings_none c.self.inside.store made.new.self made.ensures.words (polls_long c.self.inside.store made.new.self c.args.tick (Some c.args.most) made.result made.ensures.polls))

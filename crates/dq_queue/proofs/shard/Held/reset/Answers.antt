@@ -20,4 +20,4 @@ returns-clause-resets g c =
     let C : CoreRow _ Sat → Type 0 = λ r. AreCores r in
     let cores = subst C c.cores.ensures c.law-2.ensures in
     let P : Held _ → Type 0 = λ h. StoreResets c.args.entry.now c.args.when made.result h.store made.new.self in
-    subst P c.self.view_is (made.ensures.resets, made.ensures.keeps, made.ensures.holds, made.ensures.stays, made.ensures.due, resets_left c.self.inside.store made.new.self c.args.entry.now c.args.when made.result.0 made.result.1 c.law.ensures.law cores made.ensures.resets)
+    subst P c.self.view_is (made.ensures.resets, (made.ensures.keeps, made.ensures.holds, made.ensures.stays, made.ensures.due, resets_left c.self.inside.store made.new.self c.args.entry.now c.args.when made.result.0 made.result.1 c.law.ensures.law cores made.ensures.resets))

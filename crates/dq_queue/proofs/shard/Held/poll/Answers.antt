@@ -1,0 +1,19 @@
+use Rattle.std.proofs.Common.{None, subst}
+use Rattle.dq_queue.specs.Calls.{StorePolls}
+use Rattle.dq_queue.specs.Claims.{BringsNoCore}
+use Rattle.dq_queue.specs.Shards.{Held}
+use Rattle.dq_queue.proofs.Claims.{brings_none, polls_long}
+use Rattle.dq_queue.proofs.Leaving.{numbers_kept}
+use Rattle.dq_queue.proofs.shard.Held.poll.Goals as goal
+
+pub returns-clause-polls : goal.returns-clause-polls
+returns-clause-polls g c =
+    let made = c.poll-answer in
+    let P : Held _ → Type 0 = λ h. StorePolls c.args.tick None made.result h.store made.new.self in
+    subst P c.self.view_is (made.ensures.polls, made.ensures.keeps, made.ensures.goes_out, made.ensures.holds, made.ensures.in_force, numbers_kept c.self.inside.store made.new.self made.ensures.words)
+
+pub returns-clause-cores : goal.returns-clause-cores
+returns-clause-cores g c =
+    let made = c.poll-answer in
+    let P : Held _ → Type 0 = λ h. BringsNoCore h.store made.new.self in
+    subst P c.self.view_is (brings_none c.self.inside.store made.new.self made.ensures.words (polls_long c.self.inside.store made.new.self c.args.tick None made.result made.ensures.polls))
