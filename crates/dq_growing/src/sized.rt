@@ -4,11 +4,12 @@
 //! may be due. It is never later than the deadline of a live entry: an insert and a reset lower it, and a poll that finds
 //! nothing due sets it anew.
 
-ghost use Rattle.std.specs.Prelude.{◌≡◌, ◌≤◌, ◌<◌, ◌↔◌, ◌⊎◌, max, min, true, false, length, [], IsTrue, IfSome, IfNone, IfErr, IfOk, OnOk, OnErr, OnSome, unwrap_or};
+ghost use Rattle.std.specs.Prelude.{◌≡◌, ◌≤◌, ◌<◌, ◌↔◌, ◌⊎◌, max, min, true, false, [], IsTrue, IfSome, IfNone, IfErr, IfOk, OnOk, OnErr, OnSome, unwrap_or};
 ghost use Rattle.std.specs.Fn.{FnOnceReturnsAtMut};
 ghost use Rattle.dq_ticks.specs.Keys.{EntryName};
 ghost use Rattle.dq_core.specs.Folds.{IsFoldable};
 ghost use Rattle.dq_growing.specs.Cores.{InsertsIn};
+ghost use Rattle.dq_growing.specs.declared.cores.TakeError.{TakeError};
 ghost use Rattle.dq_growing.specs.Moving.{HasBegunIn, HasOpenRoom, IfCameOut, IfTo};
 ghost use Rattle.dq_growing.specs.Notes.{HasNoteRoom, SameNotes, user_at};
 ghost use Rattle.dq_growing.specs.Polls.{DoesPoll, DoesPiece, IfPieceOut, IfPieceRests, NoneLiveIn, TakesDeferredIn};
@@ -16,7 +17,7 @@ ghost use Rattle.dq_growing.specs.Runs.{GivesId, HoldsDeadlines, HoldsOtherDeadl
 ghost use Rattle.dq_growing.specs.Sized.{hint_after, KeepsHint, NotesNext};
 ghost use Rattle.dq_growing.specs.Sizing.{anew, way_for, with_work, AllWere, ComesInto, HasClearAt, HasNoRoom, MayNoteWork, OnlyOpens, OpensOne, OpensWanted, StaysOpen, SweepsNext, TellsQuiet, WasBeside};
 ghost use Rattle.dq_growing.specs.Stands.{KeepsWords, OneLeaves, SameStand};
-ghost use Rattle.dq_growing.specs.Store.{ChangesFor, ChangesThere, ComesFor, GoesOnFor, GoesOut, HasBegunFor, PollsFor, ReapsFor, RelocatesFor, RemovesFor, RemovesIfDueFor, ResetsFor, ResetsThere, StandsFor, TellsFor};
+ghost use Rattle.dq_growing.specs.Store.{ChangesFor, ChangesThere, ComesFor, GoesOnFor, GoesOut, HasBegunFor, PollsFor, ReapsFor, RelocatesFor, RemovesFor, RemovesIfDueFor, ResetsFor, ResetsThere, StandsFor, TakeRefusedFor, TellsFor};
 
 use crate::NEVER;
 use crate::cores::Cores;
@@ -471,6 +472,8 @@ impl<T, W: Words, A: Allocator + Clone> SizedStore<T, W, A> {
         ensures back { IfErr result (λ c. (c ≡ core)
             × (self.new.store.cores ≡ self.old.store.cores)
             × (self.new.store.notes ≡ self.old.store.notes)) }
+        ensures refused { IfErr result
+            (λ _. (e : TakeError) × TakeRefusedFor self.old.store core e) }
         ensures notes { self.new.sizing ≡ with_work
             (record self.old.sizing { sweep = anew self.old.sizing.sweep self.new.store.cores }) }
         ensures hint { self.new.hint ≡ self.old.hint }
