@@ -1,6 +1,6 @@
 -- A tick before which no live entry of a store has a deadline stays such a one, but by an insert or a reset to an earlier
 -- deadline; and a poll that finds nothing due tells such a tick.
-use Rattle.std.specs.Prelude.{unwrap_or, OnOk, IfOk, IfErr, ◌+◌}
+use Rattle.std.specs.Prelude.{unwrap_or, OnOk, IfOk, IfErr, ◌+◌, ◌<◌}
 use Rattle.std.proofs.lemmas.Bool.{both_ways, lt-ltb, le-ltb}
 use Rattle.dq_wheel.proofs.Links.{nat_le_or_lt}
 use Rattle.std.proofs.Common.{◌≡◌, ◌≢◌, ◌⊎◌, ℕ, ◌≤◌, Bool, true, false, List, length, min, is_ok, Option, Some, None, Result, Ok, Err, refl, sym, ap, ◌∙◌, subst, inl, inr, ⊎_elim, arith}
@@ -29,7 +29,7 @@ use Rattle.dq_growing.specs.declared.sweeping.Sweep.{Sweep}
 use Rattle.dq_growing.specs.Cores.{CoreRow, IsClosed, closed_error, AreCores, IsCoreAt, OnCoreAt, OnCore, OnCoreOr, HasNo, InsertsBeside, InsertsIn, SweepsFrom, with_core, missing_error}
 use Rattle.dq_growing.specs.Moving.{IfTo, PutsIn, Relocates, GoesTo, IsTakenOut, next_of}
 use Rattle.dq_growing.specs.Polls.{NoneLiveIn, PollsRow, PollsCore, RestsIn, DoesPoll, DoesPiece, TakesDeferredAt, TakesDeferredIn, IfPieceRests, WakeBounds, noting_in}
-use Rattle.dq_growing.specs.Sized.{hint_after}
+use Rattle.dq_growing.specs.Sized.{hint_after, hint_asked}
 use Rattle.dq_growing.specs.Sizing.{AllWere, GoesOnBehind, ComesInto, OnlyOpens, SweepsNext}
 use Rattle.dq_growing.specs.Notes.{Book, user_at, meant_place}
 use Rattle.dq_growing.specs.Store.{StoreState, IsStore, StandsFor, AtPlace, RemovesAt, RemovesFor, RemovesIfDueFor, TellsFor, ChangesFor, RelocatesAt, RelocatesFor, HasNoMemory, AfterReset, ResetsFor, ResetsThere, PollsFor, ReapsFor, NotesReaped, reset_as, answer_as, key_told, piece_as}
@@ -73,10 +73,26 @@ module _ {T : Type 0} where
   moved_after t u next (Err e) r is after = tt {0}
 
   -- a move with the deadline that the entry has asks for none
-  pub stays_after : (t : ℕ) (r : Result (Moved T) CoreError) → IfOk r (λ moved. IfTo moved (λ key d. IsAfter t Same))
+  stays_after : (t : ℕ) (r : Result (Moved T) CoreError) → IfOk r (λ moved. IfTo moved (λ key d. IsAfter t Same))
   stays_after t (Ok (To k d)) = tt {0}
   stays_after t (Ok (Out x)) = tt {0}
   stays_after t (Err e) = tt {0}
+
+  -- a move that asks for a deadline lowers the tick to it
+  asked_after : (t : ℕ) (next : NextDeadline) (r : Result (Moved T) CoreError) → IfOk r (λ moved. IfTo moved (λ key d. IsAfter (hint_asked next r t) next))
+  asked_after t (At when) (Ok (To k d)) = omega arith
+  asked_after t (At when) (Ok (Out x)) = tt {0}
+  asked_after t (At when) (Err e) = tt {0}
+  asked_after t Same r = stays_after t r
+  asked_after t (SameIfAfter when) (Ok (To k d)) = tt {0}
+  asked_after t (SameIfAfter when) (Ok (Out x)) = tt {0}
+  asked_after t (SameIfAfter when) (Err e) = tt {0}
+
+  asked_least : (t : ℕ) (next : NextDeadline) (r : Result (Moved T) CoreError) → hint_asked next r t ≤ t
+  asked_least t (At when) (Ok moved) = omega arith
+  asked_least t (At when) (Err e) = omega arith
+  asked_least t Same r = omega arith
+  asked_least t (SameIfAfter when) r = omega arith
 
   told_after : (t when : ℕ) (moved : Result (Moved T) CoreError) (r : Result Key CoreError) → r ≡ key_told moved → OnOk r (t ≤ when)
       → IfOk moved (λ x. IfTo x (λ key d. IsAfter t (At when)))
@@ -255,6 +271,11 @@ module _ {T W : Type 0} where
       at)
       did late
 
+  pub asked_for : (shared : Bool) (s k : StoreState T W) (t : ℕ) (u : EntryId) (next : NextDeadline) (r : Result (Moved T) CoreError × Option T) → RelocatesFor shared s u next r k
+      → NoneLiveIn s.cores t → NoneLiveIn k.cores (hint_asked next r.0 t)
+  asked_for shared s k t u next r did late =
+      relocates_for shared s k (hint_asked next r.0 t) u next r (asked_after t next r.0) did (sooner s.cores t (hint_asked next r.0 t) (asked_least t next r.0) late)
+
   -- a reset, after which the entry may be in the open core
   after_late : (shared : Bool) (m k : StoreState T W) (t : ℕ) (u : EntryId) (when : ℕ) (made r : Result Key CoreError) (beside : Option T) → OnOk r (t ≤ when)
       → AfterReset shared m u when made (r, beside) k → NoneLiveIn m.cores t → NoneLiveIn k.cores t
@@ -354,6 +375,11 @@ module _ {T W : Type 0} where
   -- cores come, go and are opened
   pub opens_late : (s k : StoreState T W) (t : ℕ) → OnlyOpens s k → NoneLiveIn s.cores t → NoneLiveIn k.cores t
   opens_late s k t did late = same_late (record s.cores { opened = did.0.0 }) k.cores t did.0.1 late
+
+  pub opened_late : (s k : CoreRow T W) (r : Bool) (place t : ℕ) → (r ≡ true → (place < length s.cores) × (k ≡ record s { opened = place }))
+      → (r ≡ false → (length s.cores ≤ place) × (k ≡ s)) → NoneLiveIn s t → NoneLiveIn k t
+  opened_late s k true place t opens refused late = same_late (record s { opened = place }) k t (opens refl).1 late
+  opened_late s k false place t opens refused late = same_late s k t (refused refl).1 late
 
   pub comes_late : (s k : StoreState T W) (c : Core T W) (t : ℕ) → IsLawfulCore c → ComesInto s c k → NoneLiveIn s.cores t → NoneLiveIn k.cores t
   comes_late s k c t lawful comes late i d at =

@@ -1,5 +1,5 @@
 -- A store that keeps its own size, and its hint.
-use Rattle.std.specs.Prelude.{◌≡◌, ◌≢◌, ◌⊎◌, ℕ, Option, unwrap_or, length, Result, Ok}
+use Rattle.std.specs.Prelude.{◌≡◌, ◌≢◌, ◌⊎◌, ℕ, Option, unwrap_or, length, min, Result, Ok}
 use Rattle.dq_core.specs.declared.errors.CoreError.{CoreError}
 use Rattle.dq_core.specs.declared.outcomes.Turn.TheVariants.{Waiting, Idle}
 use Rattle.dq_core.specs.declared.outcomes.Piece.{Piece}
@@ -8,6 +8,9 @@ use Rattle.dq_core.specs.Calls.{TellsWake}
 use Rattle.dq_core.specs.Core.{Core}
 use Rattle.dq_growing.specs.Cores.{CoreRow, IsCoreAt}
 use Rattle.dq_growing.specs.declared.TheConstants.{NEVER}
+use Rattle.dq_growing.specs.declared.moving.Moved.{Moved}
+use Rattle.dq_growing.specs.declared.moving.NextDeadline.{NextDeadline}
+use Rattle.dq_growing.specs.declared.moving.NextDeadline.TheVariants.{At}
 use Rattle.dq_growing.specs.declared.sizing.Sizing.{Sizing}
 use Rattle.dq_growing.specs.Store.{StoreState}
 
@@ -26,6 +29,11 @@ hint_after r hint = hint
 -- what is known of the size stays, and the hint does
 abbrev pub KeepsHint : {T W : Type 0} → SizedState T W → SizedState T W → Type 0
 KeepsHint s t = (t.sizing ≡ s.sizing) × (t.hint ≡ s.hint)
+
+-- the hint after a move: not after the deadline that an accepted one asked for; else as before
+abbrev pub hint_asked : {T : Type 0} → NextDeadline → Result (Moved T) CoreError → ℕ → ℕ
+hint_asked (At when) (Ok moved) hint = min hint when
+hint_asked next r hint = hint
 
 -- the hint after a look at the only core: its next wake, none where nothing is linked there; where it
 -- isn't the only one, the hint stays

@@ -9,14 +9,15 @@ ghost use Rattle.std.specs.Fn.{FnOnceReturnsAtMut};
 ghost use Rattle.dq_ticks.specs.Keys.{EntryName};
 ghost use Rattle.dq_core.specs.Folds.{IsFoldable};
 ghost use Rattle.dq_growing.specs.Cores.{InsertsIn};
-ghost use Rattle.dq_growing.specs.Moving.{HasBegunIn, HasOpenRoom, IfCameOut, IfTo};
+ghost use Rattle.dq_growing.specs.declared.cores.TakeError.{TakeError};
+ghost use Rattle.dq_growing.specs.Moving.{HasBegunIn, HasOpenRoom, IfCameOut, IfTo, UnlessTo};
 ghost use Rattle.dq_growing.specs.Notes.{HasNoteRoom, SameNotes, user_at};
 ghost use Rattle.dq_growing.specs.Polls.{DoesPoll, DoesPiece, IfPieceOut, IfPieceRests, NoneLiveIn, TakesDeferredIn};
-ghost use Rattle.dq_growing.specs.Runs.{GivesId, HoldsDeadlines, HoldsOtherDeadlines, KeepsIds, KeepsIdsBeside, LeavesInForce, NotDueBefore};
-ghost use Rattle.dq_growing.specs.Sized.{hint_after, KeepsHint, NotesNext};
+ghost use Rattle.dq_growing.specs.Runs.{GivesId, HoldsDeadlines, HoldsOtherDeadlines, KeepsIds, KeepsIdsBeside, KeepsItsDeadline, LeavesInForce, NotDueBefore};
+ghost use Rattle.dq_growing.specs.Sized.{hint_after, hint_asked, KeepsHint, NotesNext};
 ghost use Rattle.dq_growing.specs.Sizing.{anew, way_for, with_work, AllWere, ComesInto, HasClearAt, HasNoRoom, MayNoteWork, OnlyOpens, OpensOne, OpensWanted, StaysOpen, SweepsNext, TellsQuiet, WasBeside};
 ghost use Rattle.dq_growing.specs.Stands.{KeepsWords, OneLeaves, SameStand};
-ghost use Rattle.dq_growing.specs.Store.{ChangesFor, ChangesThere, ComesFor, GoesOnFor, GoesOut, HasBegunFor, PollsFor, ReapsFor, RelocatesFor, RemovesFor, RemovesIfDueFor, ResetsFor, ResetsThere, StandsFor, TellsFor};
+ghost use Rattle.dq_growing.specs.Store.{ChangesFor, ChangesThere, ComesFor, GoesOnFor, GoesOut, HasBegunFor, PollsFor, ReapsFor, RelocatesFor, RemovesFor, RemovesIfDueFor, ResetsFor, ResetsThere, StandsFor, TakeRefusedFor, TellsFor};
 
 use crate::NEVER;
 use crate::cores::Cores;
@@ -58,6 +59,15 @@ fn note_hint<T>(hint: &mut u64, made: &Result<Piece<T>, CoreError>)
         Ok(Piece::Answer(Turn::Waiting { next })) => *hint = *next,
         Ok(Piece::Answer(Turn::Idle)) => *hint = NEVER,
         _ => {}
+    }
+}
+
+// Lowers the hint to the deadline that an accepted move asked for.
+fn note_asked<T>(hint: &mut u64, next: NextDeadline, made: &Result<Moved<T>, CoreError>)
+    ensures { hint.new ≡ hint_asked next made.now hint.old }
+{
+    if let (NextDeadline::At(when), Ok(_)) = (next, made) {
+        *hint = (*hint).min(when);
     }
 }
 
@@ -271,12 +281,18 @@ impl<T, W: Words, A: Allocator + Clone> SizedStore<T, W, A> {
         answer
     }
 
-    /// Takes an entry on into the open core with the deadline that it has, as [`Store::relocate`] does. The hint stays: it
-    /// is due when it was.
+    /// Takes an entry on into the open core with the deadline that `next` makes of the one that it has, as
+    /// [`Store::relocate`] does. The hint is not after a deadline that is asked for; else it stays, since the entry is due no
+    /// sooner than it was.
     ///
     /// # Errors
     /// As there.
-    pub fn relocate(&mut self, entry: &EntryId) -> (Result<Moved<T>, CoreError>, Option<T>)
+    #[inline]
+    pub fn relocate(
+        &mut self,
+        entry: &EntryId,
+        next: NextDeadline,
+    ) -> (Result<Moved<T>, CoreError>, Option<T>)
         ensures goes_on { IfOk result.0 (λ moved. IfTo moved (λ key deadline.
             (key.entry ≡ entry.now)
             × GoesOnFor self.old.store entry.now deadline self.new.store)) }
@@ -287,19 +303,23 @@ impl<T, W: Words, A: Allocator + Clone> SizedStore<T, W, A> {
         ensures refused { OnErr result.0
             (SameStand (StandsFor self.old.store) (StandsFor self.new.store)) }
         ensures relocates { RelocatesFor W.shared
-            self.old.store entry.now NextDeadline.Same result self.new.store }
+            self.old.store entry.now next result self.new.store }
         ensures words { KeepsWords W.origin W.begun self.old.store.cores self.new.store.cores }
         ensures keeps { KeepsIds self.old.store self.new.store }
-        ensures holds { HoldsDeadlines self.old.store self.new.store }
+        ensures holds { HoldsOtherDeadlines entry.now self.old.store self.new.store }
+        ensures same { KeepsItsDeadline next → HoldsDeadlines self.old.store self.new.store }
+        ensures unless { UnlessTo result.0 (HoldsDeadlines self.old.store self.new.store) }
         ensures due { IfOk result.0 (λ moved. IfTo moved
             (λ _ deadline. NotDueBefore self.new.store entry.now deadline)) }
-        ensures told { IfOk result.0 (λ moved. IfTo moved
+        ensures told { KeepsItsDeadline next → IfOk result.0 (λ moved. IfTo moved
             (λ _ deadline. LeavesInForce self.old.store entry.now deadline)) }
         ensures in_force { IfOk result.0 (λ moved. IfCameOut moved
             (λ x. LeavesInForce self.old.store entry.now x.deadline)) }
-        ensures rest { KeepsHint self.old self.new }
+        ensures hint { self.new.hint ≡ hint_asked next result.0 self.old.hint }
+        ensures sizing { self.new.sizing ≡ self.old.sizing }
     {
-        let answer = self.store.relocate(entry, NextDeadline::Same);
+        let answer = self.store.relocate(entry, next);
+        note_asked(&mut self.hint, next, &answer.0);
         answer
     }
 
@@ -442,6 +462,33 @@ impl<T, W: Words, A: Allocator + Clone> SizedStore<T, W, A> {
         self.sizing.finds_room(&mut self.store, any_will_do)
     }
 
+    /// Opens the core at a place, as [`Store::open`] does.
+    pub fn open(&mut self, place: usize) -> bool
+        ensures opens { result ≡ true → (place < length self.old.store.cores.cores)
+            × (self.new.store.cores ≡ record self.old.store.cores { opened = place }) }
+        ensures refused { result ≡ false → (length self.old.store.cores.cores ≤ place)
+            × (self.new.store.cores ≡ self.old.store.cores) }
+        ensures notes { self.new.store.notes ≡ self.old.store.notes }
+        ensures keeps { KeepsIds self.old.store self.new.store }
+        ensures holds { HoldsDeadlines self.old.store self.new.store }
+        ensures rest { KeepsHint self.old self.new }
+    {
+        let opens = self.store.open(place);
+        opens
+    }
+
+    /// Closes the open core, as [`Store::close`] does.
+    pub fn close(&mut self)
+        ensures closes { self.new.store.cores
+            ≡ record self.old.store.cores { opened = length self.old.store.cores.cores } }
+        ensures notes { self.new.store.notes ≡ self.old.store.notes }
+        ensures keeps { KeepsIds self.old.store self.new.store }
+        ensures holds { HoldsDeadlines self.old.store self.new.store }
+        ensures rest { KeepsHint self.old self.new }
+    {
+        self.store.close();
+    }
+
     /// Takes memory for `cores` more in the list of cores, and for one note.
     ///
     /// # Errors
@@ -471,6 +518,8 @@ impl<T, W: Words, A: Allocator + Clone> SizedStore<T, W, A> {
         ensures back { IfErr result (λ c. (c ≡ core)
             × (self.new.store.cores ≡ self.old.store.cores)
             × (self.new.store.notes ≡ self.old.store.notes)) }
+        ensures refused { IfErr result
+            (λ _. (e : TakeError) × TakeRefusedFor self.old.store core e) }
         ensures notes { self.new.sizing ≡ with_work
             (record self.old.sizing { sweep = anew self.old.sizing.sweep self.new.store.cores }) }
         ensures hint { self.new.hint ≡ self.old.hint }

@@ -15,10 +15,11 @@ ghost use Rattle.dq_growing.specs.Moving.{HasOpenRoom};
 ghost use Rattle.dq_growing.specs.Runs.{HoldsDeadlines, KeepsIds, KeepsIdsBeside};
 ghost use Rattle.dq_growing.specs.Sizing.{anew, clear_slots, slots_in, with_work, HasNoWork, MayNoteWork, HasClearAt, IsRoomier, IsRoomiest, HasNoneToOpen, HasNoRoom, OnlyOpens, ComesInto, OpensIf, OpensWanted, StaysOpen, WasBeside, AllWere, IsNearlyDrained, TellsStraggler, IsStraggler, NoStraggler, MayMake, MayOpen, OpensOne};
 ghost use Rattle.dq_growing.specs.declared.TheConstants.{NEVER};
+ghost use Rattle.dq_growing.specs.declared.cores.TakeError.{TakeError};
 ghost use Rattle.dq_growing.specs.declared.sizing.TheConstants.{CORES};
 ghost use Rattle.dq_ticks.specs.declared.TheConstants.{CAPACITY_LIMIT};
 ghost use Rattle.dq_growing.specs.Stands.{SameStand};
-ghost use Rattle.dq_growing.specs.Store.{StandsFor};
+ghost use Rattle.dq_growing.specs.Store.{StandsFor, TakeRefusedFor};
 
 use crate::NEVER;
 use crate::cores::Cores;
@@ -386,6 +387,7 @@ impl Sizing {
         ensures holds { HoldsDeadlines store.old store.new }
         ensures back { IfErr result (λ c. (c ≡ core) × (store.new.cores ≡ store.old.cores)
             × (store.new.notes ≡ store.old.notes)) }
+        ensures refused { IfErr result (λ _. (e : TakeError) × TakeRefusedFor store.old core e) }
 
         // The way of the sweeps begins anew, and it is noted that there may be something to do.
         ensures notes { self.new
@@ -604,6 +606,7 @@ fn take_in<T, W: Words, A: Allocator + Clone>(
     ensures keeps { KeepsIdsBeside core store.old store.new }
     ensures holds { HoldsDeadlines store.old store.new }
     ensures back { IfErr result (λ c. (c ≡ core) × (store.new.cores ≡ store.old.cores)) }
+    ensures refused { IfErr result (λ _. (e : TakeError) × TakeRefusedFor store.old core e) }
 {
     core.law();
     let opened = store.cores().opened();

@@ -32,6 +32,13 @@ fn note_hint<T>(hint: &mut u64, made: &Result<Piece<T>, CoreError>) {
     }
 }
 
+// Lowers the hint to the deadline that an accepted move asked for.
+fn note_asked<T>(hint: &mut u64, next: NextDeadline, made: &Result<Moved<T>, CoreError>) {
+    if let (NextDeadline::At(when), Ok(_)) = (next, made) {
+        *hint = (*hint).min(when);
+    }
+}
+
 impl<T, W: Words> SizedStore<T, W> {
     /// Returns the hint: a tick of one millisecond that is not after the deadline of any live entry.
     #[inline(always)]
@@ -144,13 +151,17 @@ impl<T, W: Words> SizedStore<T, W> {
         answer
     }
 
-    /// Takes an entry on into the open core with the deadline that it has, as [`Store::relocate`] does. The hint stays: it
-    /// is due when it was.
+    /// Takes an entry on into the open core with the deadline that `next` makes of the one that it has, as
+    /// [`Store::relocate`] does. The hint is not after a deadline that is asked for; else it stays, since the entry is due no
+    /// sooner than it was.
     ///
     /// # Errors
     /// As there.
-    pub fn relocate(&mut self, entry: &EntryId) -> (Result<Moved<T>, CoreError>, Option<T>) {
-        self.store.relocate(entry, NextDeadline::Same)
+    #[inline]
+    pub fn relocate(&mut self, entry: &EntryId, next: NextDeadline) -> (Result<Moved<T>, CoreError>, Option<T>) {
+        let answer = self.store.relocate(entry, next);
+        note_asked(&mut self.hint, next, &answer.0);
+        answer
     }
 
     /// Frees a cancelled entry, as [`Store::reap`] does.
