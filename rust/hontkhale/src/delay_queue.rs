@@ -17,7 +17,6 @@ mod receiver;
 mod shard;
 mod shared;
 mod stats;
-mod store;
 mod time;
 mod waking;
 
@@ -475,7 +474,7 @@ impl<T> DelayQueue<T> {
     /// # Ok::<(), Box<dyn std::error::Error>>(())
     /// ```
     pub fn recv(&self) -> Option<Expired<T>> {
-        self.shared.receive()
+        self.shared.receive(None).ok()
     }
 
     /// Takes an entry out that is due, and waits at most that long until one is: for ever where no clock reaches that moment,
@@ -508,7 +507,7 @@ impl<T> DelayQueue<T> {
     /// - `Timeout` if none came due in time.
     /// - `Closed` if the queue is closed and nothing is due.
     pub fn recv_deadline(&self, when: Instant) -> Result<Expired<T>, RecvTimeoutError> {
-        self.shared.receive_until(when)
+        self.shared.receive(Some(when))
     }
 
     /// Takes an entry out that is due now. It takes the locks of those shards alone in which something may be due.
@@ -784,7 +783,7 @@ impl<T> Drop for DelayQueue<T> {
         if self.shared.common.ends.leave_inserter() {
             let ended = self.shared.close_when_empty();
             if thread::panicking() {
-                waking::lose(ended);
+                dropping::lose(ended);
             } else {
                 ended.unwrap_or_else(|panic| resume_unwind(panic));
             }

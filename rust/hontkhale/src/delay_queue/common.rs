@@ -2,12 +2,13 @@
 
 use crate::bell::{Hint, Hints, Rung, NEVER};
 use crate::core::{CallError, Look};
+use crate::delay_queue::dropping::lose;
 use crate::delay_queue::ends::Ends;
 use crate::delay_queue::errors::KeyError;
 use crate::delay_queue::key::Key;
 use crate::delay_queue::shard::Seen;
 use crate::delay_queue::time::Time;
-use crate::delay_queue::waking::{lose, Seat, Waiting, Wakes};
+use crate::delay_queue::waking::{Seat, Waiting, Wakes};
 use crate::directory::Directory;
 use crate::memory::AllocError;
 use crate::ticks;

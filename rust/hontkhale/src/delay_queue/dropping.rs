@@ -1,10 +1,12 @@
 //! How values are dropped, of which each may call the queue: one after the other, so that no drop of a queue stands on
-//! another one's stack. Another queue's drop is made where it stands: the stack holds one for each queue.
+//! another one's stack. Another queue's drop is made where it stands: the stack holds one for each queue. And how panics are dropped.
 
 use std::cell::{Cell, RefCell};
-use std::mem::ManuallyDrop;
+use std::mem::{self, ManuallyDrop};
+use std::panic::{catch_unwind, AssertUnwindSafe};
 use std::sync::atomic::{AtomicUsize, Ordering::SeqCst};
 use std::sync::{Mutex, MutexGuard, PoisonError};
+use std::thread;
 
 // They have no destructors, so that those of a thread's other values may drop values of a queue.
 thread_local! {
@@ -162,5 +164,28 @@ impl<T> DropQueue<T> {
                 self.drop_rest(&dropping);
             }
         }
+    }
+}
+
+/// Makes all of some calls, and gives the first panic.
+pub(crate) fn first_panic(calls: impl Iterator<Item = thread::Result<()>>) -> thread::Result<()> {
+    let mut first = Ok(());
+    for called in calls {
+        if first.is_ok() {
+            first = called;
+        } else {
+            lose(called);
+        }
+    }
+    first
+}
+
+/// Drops what a call panicked with, where it did.
+#[inline]
+pub(crate) fn lose(called: thread::Result<()>) {
+    let Err(panic) = called else { return };
+    if let Err(within) = catch_unwind(AssertUnwindSafe(|| drop(panic))) {
+        // A panic's value may panic as it is dropped, and so may that of this panic.
+        mem::forget(within);
     }
 }

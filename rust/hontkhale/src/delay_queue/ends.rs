@@ -5,8 +5,8 @@
 //! end and takes its entry back: so what was put in comes out.
 
 use crate::delay_queue::common::Common;
+use crate::delay_queue::dropping::lose;
 use crate::delay_queue::shared::Shared;
-use crate::delay_queue::waking::lose;
 use crate::locks::is_in_closure_of;
 use std::sync::atomic::{fence, AtomicUsize, Ordering::SeqCst};
 use std::thread;

@@ -2,9 +2,8 @@
 
 use crate::core::{CoreConfig, DelayCore};
 use crate::delay_queue::errors::InsertErrorKind;
-use crate::delay_queue::shard::Seen;
+use crate::delay_queue::shard::{least, Core, Seen, Shard};
 use crate::delay_queue::shared::Shared;
-use crate::delay_queue::store::{least, Core, Shard};
 use crate::directory::Clerk;
 use crate::growing::CORES;
 use crate::memory::AllocError;

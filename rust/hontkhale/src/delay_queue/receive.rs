@@ -2,8 +2,8 @@
 
 use crate::delay_queue::errors::{RecvTimeoutError, TryRecvError};
 use crate::delay_queue::key::Key;
+use crate::delay_queue::shard::{Way, STEPS};
 use crate::delay_queue::shared::Shared;
-use crate::delay_queue::store::Way;
 use crate::delay_queue::waking::{Seat, Wakes};
 use crate::delay_queue::Expired;
 use std::fmt;
@@ -42,44 +42,36 @@ impl<T> Drop for Place<'_, T> {
 }
 
 impl<T> Shared<T> {
-    /// What `take` takes, as soon as it takes something, and why nothing from `until` on, or once the queue is closed. Values
-    /// that were freed are dropped here, before something is in hand and outside the line.
-    pub fn wait_for<R>(
+    /// What a first look or `take` takes, as soon as one takes something, and why nothing from `until` on, or once the queue is
+    /// closed. Values that were freed are dropped here, before something is in hand and outside the line.
+    fn wait_for<R>(
         &self,
         until: Option<Instant>,
+        mut step: Step<R>,
         mut take: impl FnMut() -> Step<R>,
     ) -> Result<R, RecvTimeoutError> {
+        let mut over = None;
         loop {
-            self.drop_deferred();
-            let step = take();
-            if let Step::Took(taken) = step {
-                return Ok(taken);
-            }
-            if let Some(over) = self.over(until) {
-                // What was put in before a close, or was due in time, comes out.
-                return self.taken_last(over, take);
-            }
-            if matches!(step, Step::Rests) {
-                self.maintain_all();
-                if let Some(taken) = self.wait_in_line(until, &mut take) {
-                    return Ok(taken);
+            match step {
+                Step::Took(taken) => return Ok(taken),
+                Step::Works => {}
+                Step::Rests => {
+                    if let Some(over) = over {
+                        self.drop_deferred();
+                        return Err(over);
+                    }
+                    // What was put in before a close, or was due in time, comes out by one look more.
+                    over = self.over(until);
+                    if over.is_none() {
+                        self.maintain_all();
+                        if let Some(taken) = self.wait_in_line(until, &mut take) {
+                            return Ok(taken);
+                        }
+                    }
                 }
             }
-        }
-    }
-
-    /// What is taken by a last look, and else why none. What was freed is dropped where nothing is taken.
-    #[cold]
-    fn taken_last<R, E>(&self, over: E, mut take: impl FnMut() -> Step<R>) -> Result<R, E> {
-        loop {
-            let step = take();
-            if let Step::Took(taken) = step {
-                return Ok(taken);
-            }
             self.drop_deferred();
-            if matches!(step, Step::Rests) {
-                return Err(over);
-            }
+            step = take();
         }
     }
 
@@ -132,8 +124,11 @@ impl<T> Shared<T> {
             return Step::Rests;
         };
         let mut shard = self.lock(at);
-        let is_whole = shard.is_small(whole);
-        let Step::Took((key, deadline, value)) = shard.poll(now, is_whole) else {
+        let piece = match shard.is_small(whole) {
+            true => shard.entries.poll(now),
+            false => shard.entries.poll_some(now, STEPS),
+        };
+        let Step::Took((key, deadline, value)) = shard.polled(piece, now) else {
             return Step::Works;
         };
         shard.entries.note_next();
@@ -187,7 +182,11 @@ impl<T> Shared<T> {
         let linked = shard.linked();
         let mut is_next = false;
         while row.len() < first + room {
-            match shard.poll(now, is_whole) {
+            let piece = match is_whole {
+                true => shard.entries.poll(now),
+                false => shard.entries.poll_some(now, STEPS),
+            };
+            match shard.polled(piece, now) {
                 Step::Took((key, tick, value)) => {
                     is_next = false;
                     let deadline = self.common.time.moment(tick);
@@ -210,24 +209,26 @@ impl<T> Shared<T> {
 }
 
 impl<T> Shared<T> {
-    pub fn receive(&self) -> Option<Expired<T>> {
-        self.wait_for(None, || self.take_one()).ok()
+    /// An entry that is due, once one is; none from a moment on.
+    pub fn receive(&self, until: Option<Instant>) -> Result<Expired<T>, RecvTimeoutError> {
+        self.drop_deferred();
+        match self.try_poll(POLLED_WHOLE) {
+            Step::Took(expired) => Ok(expired),
+            step => self.wait_for(until, step, || self.take_one()),
+        }
     }
 
     pub fn receive_within(&self, timeout: Duration) -> Result<Expired<T>, RecvTimeoutError> {
         // A moment that no clock reaches is waited for without end.
-        self.wait_for(self.common.time.now().checked_add(timeout), || self.take_one())
-    }
-
-    pub fn receive_until(&self, when: Instant) -> Result<Expired<T>, RecvTimeoutError> {
-        self.wait_for(Some(when), || self.take_one())
+        self.receive(self.common.time.now().checked_add(timeout))
     }
 
     pub fn receive_many(&self, row: &mut Vec<Expired<T>>, most: usize) -> usize {
         if most == 0 {
             return 0;
         }
-        self.wait_for(None, || self.take_some(row, most)).unwrap_or(0)
+        self.wait_for(None, Step::Works, || self.take_some(row, most))
+            .unwrap_or(0)
     }
 
     /// One call is all that a program makes of a receive: what is taken apart between two goes through memory twice.
@@ -280,7 +281,7 @@ impl<T> Iterator for Iter<'_, T> {
     type Item = Expired<T>;
 
     fn next(&mut self) -> Option<Expired<T>> {
-        self.shared.receive()
+        self.shared.receive(None).ok()
     }
 }
 
@@ -405,7 +406,9 @@ mod tests {
         let queue = DelayQueue::<String>::builder().shards(4).build();
         for (at, tick) in [(0, 7), (2, 5), (1, 6), (3, 5)] {
             queue.shared.grow(at).expect("room");
-            queue.shared.lock(at).insert("waits".to_string(), tick);
+            let mut shard = queue.shared.lock(at);
+            let inserted = shard.entries.insert("waits".to_string(), tick).0;
+            shard.came_in(inserted);
         }
         let found = [4, 5, 9].map(|now| queue.shared.common.most_due(now));
         assert_eq!(found, [None, Some(2), Some(2)]);
@@ -462,7 +465,7 @@ mod tests {
     fn what_was_put_in_just_before_the_close_comes_out() {
         let queue = DelayQueue::new();
         let mut is_first = true;
-        let received = queue.shared.wait_for(None, || {
+        let received = queue.shared.wait_for(None, Step::Works, || {
             let step = queue.shared.take_one();
             if std::mem::take(&mut is_first) {
                 queue.insert("due", Duration::ZERO).expect("room");
@@ -482,7 +485,9 @@ mod tests {
             let queue = DelayQueue::builder().clock(&clock).shards(2).build();
             for (at, tick) in [(first, 1), (1 - first, 2)] {
                 queue.shared.grow(at).expect("room");
-                queue.shared.lock(at).insert(tick.to_string(), tick);
+                let mut shard = queue.shared.lock(at);
+                let inserted = shard.entries.insert(tick.to_string(), tick).0;
+                shard.came_in(inserted);
             }
             clock.advance(Duration::from_millis(3));
             assert_eq!(queue.stats().late, Duration::from_millis(2));

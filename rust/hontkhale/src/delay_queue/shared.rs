@@ -3,12 +3,10 @@
 use crate::bell::Hint;
 use crate::core::{CallError, CoreError};
 use crate::delay_queue::common::{route, Common, Counted, Step};
-use crate::delay_queue::dropping::DropQueue;
+use crate::delay_queue::dropping::{lose, DropQueue};
 use crate::delay_queue::errors::{InsertError, InsertErrorKind, KeyError};
 use crate::delay_queue::key::Key;
-use crate::delay_queue::shard::Locked;
-use crate::delay_queue::store::Shard;
-use crate::delay_queue::waking::lose;
+use crate::delay_queue::shard::{Locked, Shard};
 use crate::directory::Clerk;
 use crate::locks::{with_lock, Mutex};
 use crate::ticks::{self, LAST_TICK};
@@ -129,7 +127,8 @@ impl<T> Shared<T> {
             Ok(room) => room,
             Err(kind) => return Err(InsertError::new(kind, value)),
         };
-        let key = shard.insert(value, tick);
+        let inserted = shard.entries.insert(value, tick).0;
+        let key = shard.came_in(inserted);
         mem::forget(counted);
         self.is_in(shard, key)
             .map_err(|value| InsertError::new(InsertErrorKind::Closed, value))
@@ -141,7 +140,8 @@ impl<T> Shared<T> {
         let (counted, mut shard) = self.room_for_one(tick)?;
         let next = shard.next_key();
         let value = with_lock(&mut *shard, self.common.id as usize, |_| make(next));
-        let key = shard.insert(value, tick);
+        let inserted = shard.entries.insert(value, tick).0;
+        let key = shard.came_in(inserted);
         // The contracts say that an insert may give that key. Which one it gives of several is the order of the free slots,
         // of which no contract speaks.
         assert!(next == key, "an insert takes the slot that is told as the next");
@@ -535,7 +535,8 @@ mod tests {
             close(&queue);
             assert_eq!(queue.drain().count(), 0);
             let mut store = queue.shared.lock(0);
-            let late = store.insert("late".to_string(), 5);
+            let inserted = store.entries.insert("late".to_string(), 5).0;
+            let late = store.came_in(inserted);
             assert_eq!(queue.shared.is_in(store, late), Err("late".to_string()));
             assert!(queue.is_empty() && queue.recv().is_none());
         }

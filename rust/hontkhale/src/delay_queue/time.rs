@@ -1,6 +1,6 @@
 //! From where a queue has the time.
 
-use crate::delay_queue::waking::first_panic;
+use crate::delay_queue::dropping::first_panic;
 use crate::ticks::LAST_TICK;
 use std::fmt;
 use std::hash::{Hash, Hasher};

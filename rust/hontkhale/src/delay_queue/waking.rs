@@ -8,11 +8,12 @@
 //! Each place in line has a number, so that one who has lost a place touches nobody else's.
 
 use crate::bell::{Call, Hint, Hints, Line, Rung, NEVER};
+use crate::delay_queue::dropping::{first_panic, lose};
 use crate::memory::AllocError;
 use std::alloc::{handle_alloc_error, Layout};
 use std::cell::{Cell, RefCell};
 use std::iter;
-use std::mem::{self, ManuallyDrop};
+use std::mem::ManuallyDrop;
 use std::panic::{catch_unwind, AssertUnwindSafe};
 use std::sync::{Mutex, MutexGuard, PoisonError};
 use std::task::Waker;
@@ -348,28 +349,5 @@ impl Waiting {
             }
             Some(sleeper)
         })
-    }
-}
-
-/// Makes all of some calls, and gives the first panic.
-pub(crate) fn first_panic(calls: impl Iterator<Item = thread::Result<()>>) -> thread::Result<()> {
-    let mut first = Ok(());
-    for called in calls {
-        if first.is_ok() {
-            first = called;
-        } else {
-            lose(called);
-        }
-    }
-    first
-}
-
-/// Drops what a call panicked with, where it did.
-#[inline]
-pub(crate) fn lose(called: thread::Result<()>) {
-    let Err(panic) = called else { return };
-    if let Err(within) = catch_unwind(AssertUnwindSafe(|| drop(panic))) {
-        // A panic's value may panic as it is dropped, and so may that of this panic.
-        mem::forget(within);
     }
 }
