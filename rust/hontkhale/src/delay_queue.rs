@@ -5,9 +5,7 @@
 //! share them, wait, and find their entries, is written by hand and tested.
 
 mod builder;
-mod common;
 mod dropping;
-mod ends;
 mod errors;
 mod growth;
 mod handle;
@@ -30,10 +28,11 @@ pub use stats::{Metrics, Stats};
 pub use time::ManualClock;
 
 use crate::bell::NEVER;
-use common::Step;
-use shared::Shared;
+use key::Step;
+use shared::{Shared, REFUSES};
 use std::fmt;
 use std::panic::resume_unwind;
+use std::sync::atomic::Ordering::SeqCst;
 use std::sync::Arc;
 use std::thread;
 use std::time::{Duration, Instant};
@@ -739,12 +738,12 @@ impl<T> DelayQueue<T> {
 
     /// Whether inserts are refused, since the queue was closed, at once or for when it is empty.
     pub fn is_closed(&self) -> bool {
-        self.shared.common.ends.refuses()
+        self.shared.common.is(REFUSES)
     }
 
     /// One clone more, which may insert.
     pub(crate) fn of(shared: &Arc<Shared<T>>) -> DelayQueue<T> {
-        shared.common.ends.add_inserter();
+        shared.common.inserters.fetch_add(1, SeqCst);
         DelayQueue {
             shared: Arc::clone(shared),
         }
@@ -780,7 +779,7 @@ impl<T> Clone for DelayQueue<T> {
 impl<T> Drop for DelayQueue<T> {
     /// With the last clone nobody inserts any more.
     fn drop(&mut self) {
-        if self.shared.common.ends.leave_inserter() {
+        if self.shared.common.inserters.fetch_sub(1, SeqCst) == 1 {
             let ended = self.shared.close_when_empty();
             if thread::panicking() {
                 dropping::lose(ended);

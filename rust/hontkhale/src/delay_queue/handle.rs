@@ -1,9 +1,8 @@
 //! What reaches entries from elsewhere: a handle, which knows nothing of the values, and a guard of one entry.
 
-use crate::delay_queue::common::{Common, Step};
 use crate::delay_queue::errors::KeyError;
-use crate::delay_queue::key::Key;
-use crate::delay_queue::shared::{Shared, Steps};
+use crate::delay_queue::key::{Key, Step, Steps};
+use crate::delay_queue::shared::{Common, Shared, IS_OVER};
 use std::fmt;
 use std::sync::{Arc, Weak};
 use std::time::{Duration, Instant};
@@ -31,7 +30,7 @@ impl Handle {
 
     #[inline]
     fn tick_of(&self, key: &Key, step: Step) -> Result<u64, KeyError> {
-        if self.common.ends.is_over() {
+        if self.common.is(IS_OVER) {
             return Err(KeyError::Closed);
         }
         let slowly = || self.queue()?.slow_step(key, step);

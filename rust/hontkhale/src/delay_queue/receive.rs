@@ -92,7 +92,8 @@ impl<T> Shared<T> {
         };
         loop {
             let thread = Wakes::Thread(thread::current());
-            if let Some(tick) = self.common.sleep(&mut place.seat, thread) {
+            let (until_due, now) = (self.common.least_hint(), self.common.time.tick());
+            if let Some(tick) = self.common.receivers.sleep(&mut place.seat, thread, until_due, now) {
                 self.park(self.common.time.moment_of(tick).into_iter().chain(until).min());
             }
             match take() {
