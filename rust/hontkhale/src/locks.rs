@@ -22,10 +22,14 @@ impl<K: Copy> Nest<K> {
     }
 
     /// Whether one of them is so.
-    #[inline]
+    #[inline(always)]
     pub(crate) fn has(&self, is_so: impl Fn(&K) -> bool) -> bool {
-        let innermost = self.innermost.get();
-        innermost.is_some_and(|it| is_so(&it) || self.around.borrow().iter().any(is_so))
+        self.innermost.get().is_some() && self.has_among(is_so)
+    }
+
+    #[cold]
+    fn has_among(&self, is_so: impl Fn(&K) -> bool) -> bool {
+        self.innermost.get().iter().chain(&*self.around.borrow()).any(is_so)
     }
 
     #[cold]

@@ -3,7 +3,7 @@
 
 use crate::locks::{Nest, Within};
 use std::mem;
-use std::panic::{catch_unwind, AssertUnwindSafe};
+use std::panic::{catch_unwind, resume_unwind, AssertUnwindSafe};
 use std::sync::atomic::{AtomicUsize, Ordering::SeqCst};
 use std::sync::{Mutex, MutexGuard, PoisonError};
 use std::thread;
@@ -126,6 +126,12 @@ pub(crate) fn first_panic(calls: impl Iterator<Item = thread::Result<()>>) -> th
         }
     }
     first
+}
+
+/// Goes on with what a call panicked with, where it did.
+#[inline(always)]
+pub(crate) fn go_on(called: thread::Result<()>) {
+    called.unwrap_or_else(|panic| resume_unwind(panic));
 }
 
 /// Drops what a call panicked with, where it did.

@@ -1,17 +1,16 @@
 //! The names of entries, and the calls by them. A step on an entry's words takes no lock, but where only its shard can tell.
 
 use crate::core::{CallError, CoreError, Look};
+use crate::delay_queue::dropping::go_on;
 use crate::delay_queue::errors::KeyError;
 use crate::delay_queue::shard::Locked;
 use crate::delay_queue::shared::{Common, Shared};
-use crate::locks::with_lock;
 use crate::ticks::{self, LAST_TICK};
 use crate::words::OpenWords;
 use std::any::Any;
 use std::cmp::Ordering;
 use std::fmt;
 use std::hash::{Hash, Hasher};
-use std::panic::resume_unwind;
 use std::sync::atomic::Ordering::SeqCst;
 use std::time::{Duration, Instant};
 /// The bits of a birth or of a stamp, of an index, and of a core's number in a key.
@@ -141,6 +140,9 @@ pub(crate) enum Step {
     Look,
 }
 
+/// What a step comes to: the deadline that is in force then, or that was given up.
+type Made = Result<u64, KeyError>;
+
 impl Step {
     /// Makes it, without a lock. It gives the deadline that is in force then, or that was given up.
     #[inline(always)]
@@ -160,7 +162,7 @@ impl Common {
     /// A step by the words of an entry's first place, without a lock; none where the shard is to tell: after a reset the key has
     /// an earlier stamp, and an entry that was moved is found as removed.
     #[inline(always)]
-    fn quick_step(&self, key: &Key, step: Step) -> Option<Result<u64, KeyError>> {
+    fn quick_step(&self, key: &Key, step: Step) -> Option<Made> {
         if key.queue() != self.id {
             return Some(Err(KeyError::WrongQueue));
         }
@@ -174,13 +176,7 @@ impl Common {
 
     /// Makes a step; `slowly` by its shard's lock, where that is to tell. Who asks for the queue's end is told by `note_end`.
     #[inline(always)]
-    pub fn step(
-        &self,
-        key: &Key,
-        step: Step,
-        slowly: impl FnOnce() -> Result<u64, KeyError>,
-        note_end: impl FnOnce(),
-    ) -> Result<u64, KeyError> {
+    pub fn step(&self, key: &Key, step: Step, slowly: impl FnOnce() -> Made, note_end: impl FnOnce()) -> Made {
         // Taken apart here, it comes in registers.
         let deadline = match self.quick_step(key, step) {
             Some(Ok(deadline)) => deadline,
@@ -251,7 +247,7 @@ impl<T> Drop for Lends<'_, T> {
 }
 
 /// Why a call by key isn't made: the entry has ended, or `NoMemory` where it is to be moved and no slot is free.
-fn refused(error: CoreError) -> KeyError {
+pub(crate) fn refused(error: CoreError) -> KeyError {
     match error {
         CoreError::NoMemory | CoreError::Full { .. } => KeyError::NoMemory,
         _ => KeyError::Ended,
@@ -262,7 +258,7 @@ fn refused(error: CoreError) -> KeyError {
 impl<T> Shared<T> {
     /// The shard of a key of this queue.
     #[inline(always)]
-    fn lock_of(&self, key: &Key) -> Result<Locked<'_, T>, KeyError> {
+    pub fn lock_of(&self, key: &Key) -> Result<Locked<'_, T>, KeyError> {
         if key.queue() != self.common.id {
             return Err(KeyError::WrongQueue);
         }
@@ -271,8 +267,8 @@ impl<T> Shared<T> {
 
     #[inline(always)]
     pub fn step(&self, key: &Key, step: Step) -> Result<u64, KeyError> {
-        self.common
-            .step(key, step, || self.step_slowly(key, step), || self.note_end())
+        let slowly = || self.step_slowly(key, step);
+        self.common.step(key, step, slowly, || self.note_end())
     }
 
     /// A step whose deadline is told as a moment.
@@ -314,17 +310,6 @@ impl<T> Shared<T> {
         made.map_err(|_| KeyError::Ended)
     }
 
-    /// What a program's closure makes of a live entry's value, under its shard's lock and no other one.
-    pub fn with_value<R>(&self, key: &Key, call: impl FnOnce(&mut T) -> R) -> Result<R, KeyError> {
-        let _lends = Lends(self);
-        let (mut shard, entry) = (self.lock_of(key)?, key.entry());
-        shard.entries.deadline(&entry).map_err(refused)?;
-        let made = with_lock(&mut *shard, self.common.id as usize, |shard| {
-            shard.entries.with_value(&entry, call)
-        });
-        Ok(made.expect("a live entry"))
-    }
-
     /// Gives an entry the deadline `tick`, and gives its key of the present stamp. One that isn't sooner is an extend, without a
     /// lock. It is inlined as the insert is.
     #[inline(always)]
@@ -347,7 +332,7 @@ impl<T> Shared<T> {
             if let Some(value) = beside {
                 self.deferred.drop_value(value);
             }
-            woken.unwrap_or_else(|panic| resume_unwind(panic));
+            go_on(woken);
             let Err(CoreError::Full { .. }) = renamed else {
                 return renamed.map_err(refused);
             };
@@ -364,21 +349,5 @@ impl<T> Shared<T> {
         let removed = shard.remove(&key.entry()).map_err(refused)?;
         self.leave(shard, 1);
         Ok(removed.value)
-    }
-
-    /// Takes a live entry out where its deadline isn't after the present tick.
-    pub fn remove_if_due(&self, key: &Key) -> Result<Option<T>, KeyError> {
-        let now = self.common.time.tick();
-        if self.step(key, Step::Look)? > now {
-            return Ok(None);
-        }
-        let mut shard = self.lock_of(key)?;
-        let due = shard.entries.remove_if_due(&key.entry(), now);
-        let Some(removed) = due.map_err(refused)? else {
-            return Ok(None);
-        };
-        shard.note_left();
-        self.leave(shard, 1);
-        Ok(Some(removed.value))
     }
 }

@@ -30,14 +30,11 @@ pub(crate) enum Step<R> {
 }
 
 /// A thread's place in the line of those that wait.
-struct Place<'q, T> {
-    shared: &'q Shared<T>,
-    seat: Option<Seat>,
-}
+struct Place<'q, T>(&'q Shared<T>, Option<Seat>);
 
 impl<T> Drop for Place<'_, T> {
     fn drop(&mut self) {
-        self.shared.common.leave(&mut self.seat);
+        self.0.common.leave(&mut self.1);
     }
 }
 
@@ -86,14 +83,11 @@ impl<T> Shared<T> {
 
     /// What `take` takes; none once it has more to do, values are to be dropped, or the wait is over.
     fn wait_in_line<R>(&self, until: Option<Instant>, take: &mut impl FnMut() -> Step<R>) -> Option<R> {
-        let mut place = Place {
-            shared: self,
-            seat: None,
-        };
+        let mut place = Place(self, None);
         loop {
             let thread = Wakes::Thread(thread::current());
             let (until_due, now) = (self.common.least_hint(), self.common.time.tick());
-            if let Some(tick) = self.common.receivers.sleep(&mut place.seat, thread, until_due, now) {
+            if let Some(tick) = self.common.receivers.sleep(&mut place.1, thread, until_due, now) {
                 self.park(self.common.time.moment_of(tick).into_iter().chain(until).min());
             }
             match take() {
@@ -134,11 +128,8 @@ impl<T> Shared<T> {
         };
         shard.entries.note_next();
         self.leave(shard, 1);
-        Step::Took(Expired {
-            key,
-            deadline: self.common.time.moment(deadline),
-            value,
-        })
+        let deadline = self.common.time.moment(deadline);
+        Step::Took(Expired { key, deadline, value })
     }
 
     /// An entry that is due, where some turns find one.
@@ -309,24 +300,15 @@ impl<T> fmt::Debug for TryIter<'_, T> {
 /// What waits in a queue, taken out one entry after the other.
 #[must_use = "an iterator does nothing until it is asked"]
 pub struct Drain<'q, T> {
-    shared: &'q Shared<T>,
+    pub(crate) shared: &'q Shared<T>,
     /// The shard, and how far the way through its slots is.
-    at: usize,
-    way: Way,
+    pub(crate) at: usize,
+    pub(crate) way: Way,
     /// How many entries had been moved in it as that way began.
-    moved: Option<u64>,
+    pub(crate) moved: Option<u64>,
 }
 
-impl<'q, T> Drain<'q, T> {
-    pub(crate) fn new(shared: &'q Shared<T>) -> Drain<'q, T> {
-        Drain {
-            shared,
-            at: 0,
-            way: Way::BEGIN,
-            moved: None,
-        }
-    }
-
+impl<T> Drain<'_, T> {
     /// The next live entry on the way through the shards.
     fn next_on_the_way(&mut self) -> Option<(Key, Instant, T)> {
         while self.at < self.shared.common.seen.len() {

@@ -211,13 +211,8 @@ impl<T> Shard<T> {
         let core = store.cores().get(place).expect("a core before the last");
         let found = core.entry_from(way.slot, SLOTS).map(|entry| entry.index() as usize);
         let next = found.map_or(way.slot + SLOTS, |slot| slot + 1);
-        *way = match next < core.capacity() {
-            true => Way {
-                slot: next,
-                place: place + 1,
-            },
-            false => Way { slot: 0, place },
-        };
+        let is_within = next < core.capacity();
+        (way.place, way.slot) = if is_within { (place + 1, next) } else { (place, 0) };
         let Some(entry) = found.and_then(|slot| store.entry_from(place, slot, 1)) else {
             return Step::Works;
         };
@@ -413,23 +408,16 @@ impl<T> DerefMut for Locked<'_, T> {
 }
 
 impl<T> Locked<'_, T> {
-    /// Lets the lock go and wakes the leader where it was rung, and gives the panic of the clock or of a waker.
+    /// Tells those who hold no lock what the shard has come to, lets the lock go and wakes the leader where it was rung. It gives
+    /// the panic of the clock or of a waker.
     #[inline(always)]
     pub fn end(mut self) -> thread::Result<()> {
-        let woken = self.release();
+        let (held, seen, shared) = (self.shard.take(), self.seen, self.shared);
         // Nothing is left to be dropped.
         mem::forget(self);
-        woken
-    }
-
-    /// Tells those who hold no lock what the shard has come to, and lets the lock go.
-    #[inline(always)]
-    fn release(&mut self) -> thread::Result<()> {
-        let Some(mut shard) = self.shard.take() else {
-            return Ok(());
-        };
+        let Some(mut shard) = held else { return Ok(()) };
         if shard.may_have_deferred {
-            note_deferred(&mut shard, &self.shared.deferred);
+            note_deferred(&mut shard, &shared.deferred);
         }
         let hint = shard.entries.hint();
         let rung = if shard.hint.tick() == hint {
@@ -437,12 +425,11 @@ impl<T> Locked<'_, T> {
         } else {
             shard.hint.set(hint)
         };
-        self.seen.left.store(shard.counts.left, Relaxed);
-        self.seen
-            .quiet_since
-            .store(shard.entries.sizing().quiet_since(), Relaxed);
+        seen.left.store(shard.counts.left, Relaxed);
+        let quiet_since = shard.entries.sizing().quiet_since();
+        seen.quiet_since.store(quiet_since, Relaxed);
         drop(shard);
-        self.shared.common.ring(rung)
+        shared.common.ring(rung)
     }
 }
 
@@ -463,10 +450,8 @@ impl<T> Drop for Locked<'_, T> {
     #[inline(always)]
     fn drop(&mut self) {
         // Each part goes by value: a guard whose address is asked for lies in memory throughout.
-        drop_unasked(Locked {
-            shard: self.shard.take(),
-            ..*self
-        });
+        let shard = self.shard.take();
+        drop_unasked(Locked { shard, ..*self });
     }
 }
 

@@ -7,23 +7,23 @@
 //! entry back: so what was put in comes out.
 
 use crate::bell::{Hints, Rung, NEVER};
-use crate::delay_queue::dropping::{lose, DropQueue};
+use crate::delay_queue::dropping::{go_on, lose, DropQueue};
 use crate::delay_queue::errors::{InsertError, InsertErrorKind};
-use crate::delay_queue::key::{Key, Lends};
+use crate::delay_queue::key::Key;
 use crate::delay_queue::shard::{Locked, Seen, Shard};
 use crate::delay_queue::time::Time;
 use crate::delay_queue::waking::{Seat, Waiting};
 use crate::directory::{Clerk, Directory};
-use crate::locks::{is_in_closure_of, with_lock, Mutex};
+use crate::locks::{is_in_closure_of, Mutex};
 use crate::ticks::LAST_TICK;
 use crate::words::OpenWords;
+use std::cell::Cell;
 use std::iter;
 use std::mem;
-use std::panic::{catch_unwind, resume_unwind, AssertUnwindSafe};
+use std::panic::{catch_unwind, AssertUnwindSafe};
 use std::sync::atomic::{fence, AtomicU32, AtomicUsize, Ordering::SeqCst};
 use std::sync::Arc;
 use std::thread;
-use std::time::Duration;
 
 /// The number of the next queue, and of the next thread.
 pub(crate) static NEXT_QUEUE: AtomicU32 = AtomicU32::new(1);
@@ -31,7 +31,14 @@ static NEXT_THREAD: AtomicUsize = AtomicUsize::new(0);
 
 thread_local! {
     /// The number of this thread, by which its inserts are routed.
-    static ROUTE: usize = NEXT_THREAD.fetch_add(1, SeqCst);
+    static ROUTE: Cell<Option<usize>> = const { Cell::new(None) };
+}
+
+#[cold]
+fn drawn() -> usize {
+    let number = NEXT_THREAD.fetch_add(1, SeqCst);
+    ROUTE.set(Some(number));
+    number
 }
 
 /// The states to which a queue comes: inserts are refused, the receivers end once the queue is empty, and it was dropped.
@@ -163,18 +170,7 @@ impl Common {
 
     /// Wakes all who wait.
     pub fn wake_all(&self) {
-        self.receivers
-            .wake_all(self.time.tick())
-            .unwrap_or_else(|panic| resume_unwind(panic));
-    }
-
-    /// Ends the receivers, once nothing is due.
-    pub fn close(&self) {
-        self.state.fetch_or(REFUSES, SeqCst);
-        let called = self.receivers.close();
-        self.receivers
-            .wake_each(called, self.tick_of_wake())
-            .unwrap_or_else(|panic| resume_unwind(panic));
+        go_on(self.receivers.wake_all(self.time.tick()));
     }
 
     /// Has a receiver leave the line where it is there.
@@ -219,7 +215,7 @@ impl<T> Shared<T> {
         // It may call a task's waker.
         let maintains = || _ = has_work && self.maintain(at);
         if ended == 0 {
-            woken.unwrap_or_else(|panic| resume_unwind(panic));
+            go_on(woken);
             return maintains();
         }
         self.note_ended(ended);
@@ -247,27 +243,9 @@ impl<T> Shared<T> {
             .map_err(|value| InsertError::new(InsertErrorKind::Closed, value))
     }
 
-    /// The same of a value that is made under the shard's lock, once its key is known.
-    pub fn insert_with(&self, make: impl FnOnce(Key) -> T, tick: u64) -> Result<Key, InsertErrorKind> {
-        let _lends = Lends(self);
-        let (counted, mut shard) = self.room_for_one(tick)?;
-        let next = shard.next_key();
-        let value = with_lock(&mut *shard, self.common.id as usize, |_| make(next));
-        let inserted = shard.entries.insert(value, tick).0;
-        let key = shard.came_in(inserted);
-        // The contracts say that an insert may give that key. Which one it gives of several is the order of the free slots,
-        // of which no contract speaks.
-        assert!(next == key, "an insert takes the slot that is told as the next");
-        mem::forget(counted);
-        self.is_in(shard, key).map_err(|value| {
-            self.deferred.drop_value(value);
-            InsertErrorKind::Closed
-        })
-    }
-
     /// A shard that has room for an insert, and the count of its entry.
     #[inline(always)]
-    fn room_for_one(&self, tick: u64) -> Result<(Counted<'_>, Locked<'_, T>), InsertErrorKind> {
+    pub fn room_for_one(&self, tick: u64) -> Result<(Counted<'_>, Locked<'_, T>), InsertErrorKind> {
         if tick > LAST_TICK {
             return Err(InsertErrorKind::TooFar);
         }
@@ -275,7 +253,7 @@ impl<T> Shared<T> {
             return Err(InsertErrorKind::Closed);
         }
         let counted = self.common.count_in().ok_or(InsertErrorKind::Full)?;
-        let (route, shards) = (ROUTE.with(|number| *number), self.shards.len());
+        let (route, shards) = (ROUTE.get().unwrap_or_else(drawn), self.shards.len());
         // The first threads are spared the division.
         let at = if route < shards { route } else { route % shards };
         let mut shard = self.lock(at);
@@ -331,7 +309,7 @@ impl<T> Shared<T> {
 
     /// Has receivers come for an entry that is in. Its value is taken back, and given, where that was too late.
     #[inline(always)]
-    fn is_in(&self, shard: Locked<'_, T>, key: Key) -> Result<Key, T> {
+    pub fn is_in(&self, shard: Locked<'_, T>, key: Key) -> Result<Key, T> {
         // A waker that panics takes the key along, but not the entry.
         self.leave(shard, 0);
         if self.common.is(REFUSES) {
@@ -375,7 +353,15 @@ impl<T> Drop for Shared<T> {
 }
 
 /// Held while this thread waits until a queue is empty.
-struct Asks<'c>(&'c Common);
+pub(crate) struct Asks<'c>(&'c Common);
+
+impl<'c> Asks<'c> {
+    pub fn new(common: &'c Common) -> Asks<'c> {
+        common.receivers.add_asker();
+        common.asked.fetch_add(1, SeqCst);
+        Asks(common)
+    }
+}
 
 impl Drop for Asks<'_> {
     fn drop(&mut self) {
@@ -425,10 +411,8 @@ impl<T> Shared<T> {
     /// Ends the receivers where nothing waits. In a closure under a lock of the queue it doesn't: whoever has called that looks
     /// once more.
     fn end_if_empty(&self) -> thread::Result<()> {
-        if is_in_closure_of(self.common.id as usize) {
-            return Ok(());
-        }
-        if self.common.is_closed() || !self.is_surely_empty() {
+        let is_in_closure = is_in_closure_of(self.common.id as usize);
+        if is_in_closure || self.common.is_closed() || !self.is_surely_empty() {
             return Ok(());
         }
         // Another thread may have found it empty too: each that sleeps is called by one of them.
@@ -437,30 +421,9 @@ impl<T> Shared<T> {
     }
 
     /// Whether no entry waits, told by the locks of all shards: each insert that takes one of them later sees what the caller did.
-    fn is_surely_empty(&self) -> bool {
+    pub fn is_surely_empty(&self) -> bool {
         self.locked().for_each(drop);
         self.common.has_none()
-    }
-
-    /// Waits until no entry waits, and tells whether none did before the time was over.
-    pub fn wait_empty(&self, timeout: Duration) -> bool {
-        let time = &self.common.time;
-        // A moment that no clock reaches is waited for without end.
-        let until = time.now().checked_add(timeout);
-        // Whoever ends the last entry after a look finds this thread in the list, and wakes it.
-        self.common.receivers.add_asker();
-        self.common.asked.fetch_add(1, SeqCst);
-        let _asks = Asks(&self.common);
-        loop {
-            let is_over = until.is_some_and(|until| until <= time.now());
-            if self.is_surely_empty() {
-                return true;
-            }
-            if is_over {
-                return false;
-            }
-            self.park(until);
-        }
     }
 }
 

@@ -201,9 +201,4 @@ impl<T> Shared<T> {
             lateness,
         }
     }
-
-    /// Counts the lateness of what comes out from now on.
-    pub fn reset_lateness(&self) {
-        self.locked().for_each(|mut shard| shard.counts.begin_late_anew());
-    }
 }

@@ -61,12 +61,6 @@ pub(crate) struct Sleeper {
     wakes: Wakes,
 }
 
-impl Sleeper {
-    fn is_task(&self) -> bool {
-        matches!(self.wakes, Wakes::Task(_))
-    }
-}
-
 /// Who is in line by an index.
 #[derive(Clone, Copy)]
 struct Sitter {
@@ -151,11 +145,8 @@ impl Waits {
         let is_task = self.sitters[seat.at].is_task;
         let (_awake, _follows) = self.leave(seat, now);
         let seat = self.join(is_task);
-        let old = Seat {
-            at: first,
-            number: leader.number,
-        };
-        let (old, next) = self.leave(old, now);
+        let number = leader.number;
+        let (old, next) = self.leave(Seat { at: first, number }, now);
         called.extend(old.into_iter().chain(next));
         seat
     }
@@ -246,8 +237,9 @@ impl Waiting {
         let Some(seat) = place.take() else { return };
         let (slept, next) = self.left(seat, now);
         lose(catch_unwind(AssertUnwindSafe(|| drop(slept))));
+        let is_calling = CALLING.get() == self.address();
         match next {
-            Some(next) if next.is_task() && CALLING.get() == self.address() => self.call_later(next),
+            Some(next) if is_calling && matches!(next.wakes, Wakes::Task(_)) => self.call_later(next),
             next => lose(self.wake_each(next, now)),
         }
     }
