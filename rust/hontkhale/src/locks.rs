@@ -4,96 +4,70 @@ use std::cell::{Cell, RefCell};
 use std::mem::{size_of, ManuallyDrop};
 pub(crate) use std::sync::MutexGuard;
 use std::sync::{PoisonError, TryLockError};
-use std::thread::LocalKey;
 
-/// What a thread is within, of one kind: the innermost, and those around it. It has no destructor, so that those of a thread's
-/// other values may call a queue.
-pub(crate) struct Nest<K> {
-    innermost: Cell<Option<K>>,
-    around: ManuallyDrop<RefCell<Vec<K>>>,
-}
-
-impl<K: Copy> Nest<K> {
-    pub(crate) const fn new() -> Nest<K> {
-        Nest {
-            innermost: Cell::new(None),
-            around: ManuallyDrop::new(RefCell::new(Vec::new())),
-        }
-    }
-
-    /// Whether one of them is so.
-    #[inline(always)]
-    pub(crate) fn has(&self, is_so: impl Fn(&K) -> bool) -> bool {
-        self.innermost.get().is_some() && self.has_among(is_so)
-    }
-
-    #[cold]
-    fn has_among(&self, is_so: impl Fn(&K) -> bool) -> bool {
-        self.innermost.get().iter().chain(&*self.around.borrow()).any(is_so)
-    }
-
-    #[cold]
-    fn leave_around(&self) {
-        let mut around = self.around.borrow_mut();
-        around.pop();
-        if around.is_empty() {
-            // Nobody drops the memory at the thread's end.
-            *around = Vec::new();
-        }
-    }
-}
-
-/// Held while a thread is within something.
-pub(crate) struct Within<K: Copy + 'static> {
-    nest: &'static LocalKey<Nest<K>>,
-    around: Option<K>,
-}
-
-impl<K: Copy> Within<K> {
-    #[inline(always)]
-    pub(crate) fn new(nest: &'static LocalKey<Nest<K>>, it: K) -> Within<K> {
-        let around = nest.with(|nest| nest.innermost.replace(Some(it)));
-        if let Some(around) = around {
-            nest.with(|nest| nest.around.borrow_mut().push(around));
-        }
-        Within { nest, around }
-    }
-}
-
-impl<K: Copy> Drop for Within<K> {
-    #[inline(always)]
-    fn drop(&mut self) {
-        self.nest.with(|nest| nest.innermost.set(self.around));
-        if self.around.is_some() {
-            self.nest.with(Nest::leave_around);
-        }
-    }
-}
-
-/// A lock that a thread holds while a program's closure runs.
-#[derive(Clone, Copy)]
+/// A lock that this thread holds while a program's closure runs.
+#[derive(Clone, Copy, PartialEq, Eq)]
 struct Lent {
-    /// The address of what lies behind the lock.
+    /// The address of what lies behind the lock, 0 where no closure runs.
     address: usize,
     /// What tells the queue of the lock from others.
     queue: usize,
 }
 
+impl Lent {
+    const NOTHING: Lent = Lent { address: 0, queue: 0 };
+}
+
+// They have no destructors, so that those of a thread's other values may call a queue.
 thread_local! {
-    static LENT: Nest<Lent> = const { Nest::new() };
+    /// That of the innermost closure.
+    static INNERMOST: Cell<Lent> = const { Cell::new(Lent::NOTHING) };
+    /// Those of the closures around it.
+    static AROUND: ManuallyDrop<RefCell<Vec<Lent>>> = const { ManuallyDrop::new(RefCell::new(Vec::new())) };
 }
 
 /// Calls a program's closure with what lies behind a lock of a queue that this thread holds. If the closure waits for the lock, it
 /// panics in the place of waiting for ever.
 pub(crate) fn with_lock<S, R>(lent: &mut S, queue: usize, call: impl FnOnce(&mut S) -> R) -> R {
+    struct Back(Lent);
+    impl Drop for Back {
+        fn drop(&mut self) {
+            INNERMOST.with(|innermost| innermost.set(self.0));
+            if self.0 != Lent::NOTHING {
+                leave_around();
+            }
+        }
+    }
     let address = lent as *mut S as usize;
-    let _within = Within::new(&LENT, Lent { address, queue });
+    let around = INNERMOST.with(|innermost| innermost.replace(Lent { address, queue }));
+    if around != Lent::NOTHING {
+        AROUND.with(|all| all.borrow_mut().push(around));
+    }
+    let _back = Back(around);
     call(lent)
+}
+
+#[cold]
+fn leave_around() {
+    AROUND.with(|around| {
+        let mut around = around.borrow_mut();
+        around.pop();
+        if around.is_empty() {
+            // Nobody drops the memory at the thread's end.
+            *around = Vec::new();
+        }
+    });
+}
+
+/// Whether this thread runs a closure under a lock of which that is so.
+fn is_lent(is_so: impl Fn(&Lent) -> bool) -> bool {
+    let innermost = INNERMOST.with(Cell::get);
+    innermost != Lent::NOTHING && (is_so(&innermost) || AROUND.with(|around| around.borrow().iter().any(is_so)))
 }
 
 /// Whether this thread runs a closure under a lock of a queue.
 pub(crate) fn is_in_closure_of(queue: usize) -> bool {
-    LENT.with(|lent| lent.has(|it| it.queue == queue))
+    is_lent(|lent| lent.queue == queue)
 }
 
 /// How many locks this thread has taken.
@@ -132,9 +106,8 @@ impl<T> Mutex<T> {
         #[cfg(test)]
         taken::one_more();
         let here = self as *const Mutex<T> as usize;
-        let is_within = |lent: &Lent| (here..here + size_of::<Mutex<T>>()).contains(&lent.address);
         assert!(
-            !LENT.with(|lent| lent.has(is_within)),
+            !is_lent(|lent| (here..here + size_of::<Mutex<T>>()).contains(&lent.address)),
             "a closure that is called under a queue's lock calls the queue"
         );
         self.0.lock().unwrap_or_else(PoisonError::into_inner)

@@ -1,16 +1,48 @@
 //! How values are dropped, of which each may call the queue: one after the other, so that no drop of a queue stands on
 //! another one's stack. Another queue's drop is made where it stands: the stack holds one for each queue. And how panics are dropped.
 
-use crate::locks::{Nest, Within};
-use std::mem;
+use std::cell::{Cell, RefCell};
+use std::mem::{self, ManuallyDrop};
 use std::panic::{catch_unwind, resume_unwind, AssertUnwindSafe};
 use std::sync::atomic::{AtomicUsize, Ordering::SeqCst};
 use std::sync::{Mutex, MutexGuard, PoisonError};
 use std::thread;
 
+// They have no destructors, so that those of a thread's other values may drop values of a queue.
 thread_local! {
-    /// The queues of which a drop stands on this thread's stack, by their addresses.
-    static DROPPING: Nest<usize> = const { Nest::new() };
+    /// The queue of this thread's outermost drop, by its address, and 0 outside of drops.
+    static OUTERMOST: Cell<usize> = const { Cell::new(0) };
+    /// The other queues of which a drop stands within that one.
+    static WITHIN: ManuallyDrop<RefCell<Vec<usize>>> = const { ManuallyDrop::new(RefCell::new(Vec::new())) };
+}
+
+/// Held while this thread drops values of a queue.
+struct Dropping {
+    is_outermost: bool,
+}
+
+impl Drop for Dropping {
+    #[inline]
+    fn drop(&mut self) {
+        if self.is_outermost {
+            OUTERMOST.with(|outermost| outermost.set(0));
+        } else {
+            end_within();
+        }
+    }
+}
+
+/// Ends the last drop that was begun within the outermost one.
+#[cold]
+fn end_within() {
+    WITHIN.with(|within| {
+        let mut within = within.borrow_mut();
+        within.pop();
+        if within.is_empty() {
+            // Nobody drops the memory at the thread's end.
+            *within = Vec::new();
+        }
+    });
 }
 
 /// Values of a queue that were freed within a drop of another one of its values. They are dropped after it.
@@ -70,20 +102,40 @@ impl<T> DropQueue<T> {
     }
 
     /// What tells the queue from others.
-    fn address(&self) -> usize {
+    pub fn address(&self) -> usize {
         self as *const DropQueue<T> as usize
     }
 
     /// Whether the thread is within a drop of the queue.
-    #[inline]
     pub fn is_dropping(&self) -> bool {
-        DROPPING.with(|queues| queues.has(|queue| *queue == self.address()))
+        let outermost = OUTERMOST.with(Cell::get);
+        outermost == self.address() || outermost != 0 && WITHIN.with(|within| within.borrow().contains(&self.address()))
     }
 
     /// None within a drop of the queue.
-    #[inline(always)]
-    fn begin(&self) -> Option<Within<usize>> {
-        (!self.is_dropping()).then(|| Within::new(&DROPPING, self.address()))
+    #[inline]
+    fn begin(&self) -> Option<Dropping> {
+        let is_outermost = OUTERMOST.with(|outermost| {
+            let is_outermost = outermost.get() == 0;
+            if is_outermost {
+                outermost.set(self.address());
+            }
+            is_outermost
+        });
+        if is_outermost {
+            return Some(Dropping { is_outermost });
+        }
+        self.begin_within()
+    }
+
+    /// The same within a drop of any queue.
+    #[cold]
+    fn begin_within(&self) -> Option<Dropping> {
+        if self.is_dropping() {
+            return None;
+        }
+        WITHIN.with(|within| within.borrow_mut().push(self.address()));
+        Some(Dropping { is_outermost: false })
     }
 
     /// Drops them, and those that are freed meanwhile. Nothing within a drop of the queue.
@@ -95,7 +147,7 @@ impl<T> DropQueue<T> {
 
     /// The same where the turn is begun.
     #[inline(always)]
-    fn drop_rest(&self, _dropping: &Within<usize>) {
+    fn drop_rest(&self, _dropping: &Dropping) {
         while self.has_values() {
             let Some(value) = self.pop() else { return };
             drop(value);
