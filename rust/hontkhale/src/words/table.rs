@@ -51,6 +51,7 @@ impl Table {
         (least < bound).then_some(first)
     }
 
+    #[cfg(feature = "std")]
     #[inline(always)]
     pub(crate) fn store(&self, index: usize, new: u64) {
         made(Made::Step);
