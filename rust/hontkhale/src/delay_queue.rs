@@ -5,9 +5,7 @@
 //! share them, wait, and find their entries, is written by hand and tested.
 
 mod builder;
-mod common;
 mod dropping;
-mod ends;
 mod errors;
 mod growth;
 mod handle;
@@ -17,7 +15,6 @@ mod receiver;
 mod shard;
 mod shared;
 mod stats;
-mod store;
 mod time;
 mod waking;
 
@@ -31,11 +28,15 @@ pub use stats::{Metrics, Stats};
 pub use time::ManualClock;
 
 use crate::bell::NEVER;
-use common::Step;
-use shared::Shared;
+use crate::locks::with_lock;
+use dropping::{go_on, lose};
+use key::{refused, Lends, Step};
+use shard::Way;
+use shared::{Asks, Shared, REFUSES};
 use std::fmt;
-use std::panic::resume_unwind;
-use std::sync::Arc;
+use std::mem;
+use std::sync::atomic::Ordering::SeqCst;
+use std::sync::{Arc, Weak};
 use std::thread;
 use std::time::{Duration, Instant};
 
@@ -225,7 +226,22 @@ impl<T> DelayQueue<T> {
     /// # Ok::<(), Box<dyn std::error::Error>>(())
     /// ```
     pub fn insert_with(&self, make: impl FnOnce(Key) -> T, after: Duration) -> Result<Key, InsertErrorKind> {
-        self.shared.insert_with(make, self.shared.common.time.tick_in(after))
+        let shared = &*self.shared;
+        let tick = shared.common.time.tick_in(after);
+        let _lends = Lends(shared);
+        let (counted, mut shard) = shared.room_for_one(tick)?;
+        let next = shard.next_key();
+        let value = with_lock(&mut *shard, shared.common.id as usize, |_| make(next));
+        let inserted = shard.entries.insert(value, tick).0;
+        let key = shard.came_in(inserted);
+        // The contracts say that an insert may give that key. Which one it gives of several is the order of the free slots,
+        // of which no contract speaks.
+        assert!(next == key, "an insert takes the slot that is told as the next");
+        mem::forget(counted);
+        shared.is_in(shard, key).map_err(|value| {
+            shared.deferred.drop_value(value);
+            InsertErrorKind::Closed
+        })
     }
 
     /// Returns what `read` makes of an entry's value, where the value is: the entry stays. An entry that is due and hasn't come out
@@ -254,7 +270,7 @@ impl<T> DelayQueue<T> {
     /// # Ok::<(), Box<dyn std::error::Error>>(())
     /// ```
     pub fn get<R>(&self, key: &Key, read: impl FnOnce(&T) -> R) -> Result<R, KeyError> {
-        self.shared.with_value(key, |value| read(value))
+        self.get_mut(key, |value| read(value))
     }
 
     /// Returns what `change` makes of an entry's value, which it may change where it is: the entry stays. It takes the lock of the
@@ -273,7 +289,13 @@ impl<T> DelayQueue<T> {
     /// If `change` panics, and the value stays as it left it; or if it makes a call of this queue that wants the lock which is
     /// held.
     pub fn get_mut<R>(&self, key: &Key, change: impl FnOnce(&mut T) -> R) -> Result<R, KeyError> {
-        self.shared.with_value(key, change)
+        let _lends = Lends(&self.shared);
+        let (mut shard, entry) = (self.shared.lock_of(key)?, key.entry());
+        shard.entries.deadline(&entry).map_err(refused)?;
+        let made = with_lock(&mut *shard, key.queue() as usize, |shard| {
+            shard.entries.with_value(&entry, change)
+        });
+        Ok(made.expect("a live entry"))
     }
 
     /// Puts a value in, to come out after `after`, and returns a guard. If the guard is dropped before the value came out,
@@ -299,8 +321,7 @@ impl<T> DelayQueue<T> {
     /// # Ok::<(), Box<dyn std::error::Error>>(())
     /// ```
     pub fn guard(&self, value: T, after: Duration) -> Result<Timeout<T>, InsertError<T>> {
-        let key = self.insert(value, after)?;
-        Ok(Timeout::new(&self.shared, key))
+        self.insert(value, after).map(|key| Timeout::new(&self.shared, key))
     }
 
     /// Puts a value in, to come out at `when`, or at once if that is over, and returns a guard, as
@@ -313,8 +334,7 @@ impl<T> DelayQueue<T> {
     /// - `Full` if as many entries wait as the queue may have.
     /// - `NoMemory` if the queue has to grow and memory is refused.
     pub fn guard_at(&self, value: T, when: Instant) -> Result<Timeout<T>, InsertError<T>> {
-        let key = self.insert_at(value, when)?;
-        Ok(Timeout::new(&self.shared, key))
+        self.insert_at(value, when).map(|key| Timeout::new(&self.shared, key))
     }
 
     /// Gives an entry the deadline `after` from now, sooner or later than the one that it has. It reads the clock. Where the
@@ -442,7 +462,19 @@ impl<T> DelayQueue<T> {
     /// # Ok::<(), Box<dyn std::error::Error>>(())
     /// ```
     pub fn remove_if_due(&self, key: &Key) -> Result<Option<T>, KeyError> {
-        self.shared.remove_if_due(key)
+        let shared = &*self.shared;
+        let now = shared.common.time.tick();
+        if shared.step(key, Step::Look)? > now {
+            return Ok(None);
+        }
+        let mut shard = shared.lock_of(key)?;
+        let due = shard.entries.remove_if_due(&key.entry(), now);
+        let Some(removed) = due.map_err(refused)? else {
+            return Ok(None);
+        };
+        shard.note_left();
+        shared.leave(shard, 1);
+        Ok(Some(removed.value))
     }
 
     /// The deadline of an entry. It takes constant time and no lock, but by a key from before a sooner reset, or of an entry that
@@ -475,7 +507,7 @@ impl<T> DelayQueue<T> {
     /// # Ok::<(), Box<dyn std::error::Error>>(())
     /// ```
     pub fn recv(&self) -> Option<Expired<T>> {
-        self.shared.receive()
+        self.shared.receive(None).ok()
     }
 
     /// Takes an entry out that is due, and waits at most that long until one is: for ever where no clock reaches that moment,
@@ -508,7 +540,7 @@ impl<T> DelayQueue<T> {
     /// - `Timeout` if none came due in time.
     /// - `Closed` if the queue is closed and nothing is due.
     pub fn recv_deadline(&self, when: Instant) -> Result<Expired<T>, RecvTimeoutError> {
-        self.shared.receive_until(when)
+        self.shared.receive(Some(when))
     }
 
     /// Takes an entry out that is due now. It takes the locks of those shards alone in which something may be due.
@@ -598,9 +630,8 @@ impl<T> DelayQueue<T> {
     /// was extended, reset or cancelled since; where all deadlines are more than two years away it is an earlier moment too. It
     /// takes the lock of the shards that may have it, and may look at each of their entries.
     pub fn next_deadline(&self) -> Option<Instant> {
-        self.shared
-            .first_filed_before(NEVER)
-            .map(|tick| self.shared.common.time.moment(tick))
+        let first = self.shared.first_filed_before(NEVER)?;
+        Some(self.shared.common.time.moment(first))
     }
 
     /// What a server watches: how much came and went, how much waits, how late it is, and what is held. It takes the lock of each
@@ -624,7 +655,9 @@ impl<T> DelayQueue<T> {
 
     /// Begins `latest` and `lateness` of the [`stats`](DelayQueue::stats) anew. It takes the lock of each shard in turn.
     pub fn reset_lateness(&self) {
-        self.shared.reset_lateness();
+        self.shared
+            .locked()
+            .for_each(|mut shard| shard.counts.begin_late_anew());
     }
 
     /// Takes memory for so many entries in all, those that wait among them, and keeps it for good. While fewer wait, no
@@ -671,7 +704,12 @@ impl<T> DelayQueue<T> {
     /// # Ok::<(), Box<dyn std::error::Error>>(())
     /// ```
     pub fn drain(&self) -> Drain<'_, T> {
-        Drain::new(&self.shared)
+        Drain {
+            shared: &self.shared,
+            at: 0,
+            way: Way::BEGIN,
+            moved: None,
+        }
     }
 
     /// Closes the queue: from now on it takes no values, and its receivers get what is due and then none. What waits stays
@@ -681,7 +719,10 @@ impl<T> DelayQueue<T> {
     /// # Panics
     /// If a task's waker panics. All receivers are woken before.
     pub fn close(&self) {
-        self.shared.common.close();
+        let common = &self.shared.common;
+        common.state.fetch_or(REFUSES, SeqCst);
+        let called = common.receivers.close();
+        go_on(common.receivers.wake_each(called, common.tick_of_wake()));
     }
 
     /// Closes the queue for inserts: from now on it takes no values. Its receivers get what waits as it comes due, and then none:
@@ -706,9 +747,7 @@ impl<T> DelayQueue<T> {
     /// # Ok::<(), Box<dyn std::error::Error>>(())
     /// ```
     pub fn close_when_empty(&self) {
-        self.shared
-            .close_when_empty()
-            .unwrap_or_else(|panic| resume_unwind(panic));
+        go_on(self.shared.close_when_empty());
     }
 
     /// Waits until no entry waits, at most for `timeout`, and returns whether that came: each came out, or was removed or
@@ -735,20 +774,33 @@ impl<T> DelayQueue<T> {
     /// # Ok::<(), Box<dyn std::error::Error>>(())
     /// ```
     pub fn wait_empty(&self, timeout: Duration) -> bool {
-        self.shared.wait_empty(timeout)
+        let time = &self.shared.common.time;
+        // A moment that no clock reaches is waited for without end.
+        let until = time.now().checked_add(timeout);
+        // Whoever ends the last entry after a look finds this thread in the list, and wakes it.
+        let _asks = Asks::new(&self.shared.common);
+        loop {
+            let is_over = until.is_some_and(|until| until <= time.now());
+            if self.shared.is_surely_empty() {
+                return true;
+            }
+            if is_over {
+                return false;
+            }
+            self.shared.park(until);
+        }
     }
 
     /// Whether inserts are refused, since the queue was closed, at once or for when it is empty.
     pub fn is_closed(&self) -> bool {
-        self.shared.common.ends.refuses()
+        self.shared.common.is(REFUSES)
     }
 
     /// One clone more, which may insert.
     pub(crate) fn of(shared: &Arc<Shared<T>>) -> DelayQueue<T> {
-        shared.common.ends.add_inserter();
-        DelayQueue {
-            shared: Arc::clone(shared),
-        }
+        shared.common.inserters.fetch_add(1, SeqCst);
+        let shared = Arc::clone(shared);
+        DelayQueue { shared }
     }
 }
 
@@ -768,7 +820,9 @@ impl<T: Send + 'static> DelayQueue<T> {
     /// # Ok::<(), Box<dyn std::error::Error>>(())
     /// ```
     pub fn handle(&self) -> Handle {
-        Handle::new(&self.shared)
+        let queue: Weak<Shared<T>> = Arc::downgrade(&self.shared);
+        let common = Arc::clone(&self.shared.common);
+        Handle { common, queue }
     }
 }
 
@@ -781,13 +835,10 @@ impl<T> Clone for DelayQueue<T> {
 impl<T> Drop for DelayQueue<T> {
     /// With the last clone nobody inserts any more.
     fn drop(&mut self) {
-        if self.shared.common.ends.leave_inserter() {
+        if self.shared.common.inserters.fetch_sub(1, SeqCst) == 1 {
             let ended = self.shared.close_when_empty();
-            if thread::panicking() {
-                waking::lose(ended);
-            } else {
-                ended.unwrap_or_else(|panic| resume_unwind(panic));
-            }
+            let then = if thread::panicking() { lose } else { go_on };
+            then(ended);
         }
     }
 }

@@ -1,15 +1,19 @@
 //! What a queue is made by.
 
-use crate::delay_queue::common::Common;
-use crate::delay_queue::shared::Shared;
+use crate::delay_queue::dropping::DropQueue;
+use crate::delay_queue::shard::{Seen, Shard};
+use crate::delay_queue::shared::{Common, Shared, NEXT_QUEUE};
 use crate::delay_queue::time::{ManualClock, Source, Time};
+use crate::delay_queue::waking::Waiting;
 use crate::delay_queue::DelayQueue;
 use crate::directory::Clerk;
+use crate::locks::Mutex;
 use crate::shards::SHARD_LIMIT;
 use crate::ticks::LAST_STAMP;
 use std::alloc::{handle_alloc_error, Layout};
 use std::fmt;
 use std::marker::PhantomData;
+use std::sync::atomic::{AtomicUsize, Ordering::SeqCst};
 use std::sync::Arc;
 use std::thread;
 use std::time::Instant;
@@ -113,20 +117,35 @@ impl<T> Builder<T> {
     /// The queue, which is empty, and takes memory as entries come.
     #[must_use]
     pub fn build(self) -> DelayQueue<T> {
-        let time = Time::new(self.clock.clone(), self.start);
-        let made = Clerk::new(u32::MAX).and_then(|clerk| {
-            let words = clerk.directory().clone();
-            Ok((Common::new(time, self.max_entries, self.shards, words)?, clerk))
-        });
-        let Ok(((common, hints), clerk)) = made else {
+        let made = Clerk::new(u32::MAX).and_then(|clerk| Ok((clerk, Waiting::new(self.shards)?)));
+        let Ok((clerk, (receivers, written, hints))) = made else {
             handle_alloc_error(Layout::new::<Common>());
         };
-        let common = Arc::new(common);
+        let common = Arc::new(Common {
+            id: NEXT_QUEUE.fetch_add(1, SeqCst),
+            time: Time::new(self.clock.clone(), self.start),
+            words: clerk.directory().clone(),
+            receivers,
+            hints,
+            most: self.max_entries,
+            waiting: AtomicUsize::new(0),
+            seen: (0..self.shards).map(|_| Seen::default()).collect(),
+            state: AtomicUsize::new(0),
+            asked: AtomicUsize::new(0),
+            inserters: AtomicUsize::new(0),
+        });
         if let Source::Manual(clock) = &self.clock {
             let weak = Arc::downgrade(&common);
             clock.wakes(move || weak.upgrade().map(|common| common.wake_all()).is_some());
         }
-        DelayQueue::of(&Arc::new(Shared::new(common, hints, clerk, self.last_stamp)))
+        let shard = |(at, hint)| Mutex::new(Shard::new(common.id, at, hint));
+        DelayQueue::of(&Arc::new(Shared {
+            shards: written.into_iter().enumerate().map(shard).collect(),
+            common,
+            makes: Mutex::new(clerk),
+            last_stamp: self.last_stamp,
+            deferred: DropQueue::new(),
+        }))
     }
 }
 

@@ -1,44 +1,43 @@
 //! How values are dropped, of which each may call the queue: one after the other, so that no drop of a queue stands on
-//! another one's stack. Another queue's drop is made where it stands: the stack holds one for each queue.
+//! another one's stack. Another queue's drop is made where it stands: the stack holds one for each queue. And how panics are dropped.
 
 use std::cell::{Cell, RefCell};
-use std::mem::ManuallyDrop;
+use std::mem::{self, ManuallyDrop};
+use std::panic::{catch_unwind, resume_unwind, AssertUnwindSafe};
 use std::sync::atomic::{AtomicUsize, Ordering::SeqCst};
 use std::sync::{Mutex, MutexGuard, PoisonError};
+use std::thread;
 
 // They have no destructors, so that those of a thread's other values may drop values of a queue.
 thread_local! {
-    /// The queue of this thread's outermost drop, by its address, and 0 outside of drops.
-    static OUTERMOST: Cell<usize> = const { Cell::new(0) };
-    /// The other queues of which a drop stands within that one.
-    static WITHIN: ManuallyDrop<RefCell<Vec<usize>>> = const { ManuallyDrop::new(RefCell::new(Vec::new())) };
+    /// The queue of this thread's innermost drop, by its address, and 0 outside of drops.
+    static INNERMOST: Cell<usize> = const { Cell::new(0) };
+    /// The other queues, of which a drop stands around that one.
+    static AROUND: ManuallyDrop<RefCell<Vec<usize>>> = const { ManuallyDrop::new(RefCell::new(Vec::new())) };
 }
 
-/// Held while this thread drops values of a queue.
-struct Dropping {
-    is_outermost: bool,
-}
+/// Held while this thread drops values of a queue. It has the queue of the drop around it, or 0.
+struct Dropping(usize);
 
 impl Drop for Dropping {
     #[inline]
     fn drop(&mut self) {
-        if self.is_outermost {
-            OUTERMOST.with(|outermost| outermost.set(0));
-        } else {
-            end_within();
+        INNERMOST.set(self.0);
+        if self.0 != 0 {
+            leave_around();
         }
     }
 }
 
-/// Ends the last drop that was begun within the outermost one.
+/// Ends the last drop that was begun within another one.
 #[cold]
-fn end_within() {
-    WITHIN.with(|within| {
-        let mut within = within.borrow_mut();
-        within.pop();
-        if within.is_empty() {
+fn leave_around() {
+    AROUND.with(|around| {
+        let mut around = around.borrow_mut();
+        around.pop();
+        if around.is_empty() {
             // Nobody drops the memory at the thread's end.
-            *within = Vec::new();
+            *around = Vec::new();
         }
     });
 }
@@ -100,40 +99,27 @@ impl<T> DropQueue<T> {
     }
 
     /// What tells the queue from others.
-    pub fn address(&self) -> usize {
+    fn address(&self) -> usize {
         self as *const DropQueue<T> as usize
     }
 
     /// Whether the thread is within a drop of the queue.
     pub fn is_dropping(&self) -> bool {
-        let outermost = OUTERMOST.with(Cell::get);
-        outermost == self.address() || outermost != 0 && WITHIN.with(|within| within.borrow().contains(&self.address()))
+        let innermost = INNERMOST.get();
+        innermost == self.address() || innermost != 0 && AROUND.with(|around| around.borrow().contains(&self.address()))
     }
 
     /// None within a drop of the queue.
     #[inline]
     fn begin(&self) -> Option<Dropping> {
-        let is_outermost = OUTERMOST.with(|outermost| {
-            let is_outermost = outermost.get() == 0;
-            if is_outermost {
-                outermost.set(self.address());
-            }
-            is_outermost
-        });
-        if is_outermost {
-            return Some(Dropping { is_outermost });
-        }
-        self.begin_within()
-    }
-
-    /// The same within a drop of any queue.
-    #[cold]
-    fn begin_within(&self) -> Option<Dropping> {
         if self.is_dropping() {
             return None;
         }
-        WITHIN.with(|within| within.borrow_mut().push(self.address()));
-        Some(Dropping { is_outermost: false })
+        let around = INNERMOST.replace(self.address());
+        if around != 0 {
+            AROUND.with(|all| all.borrow_mut().push(around));
+        }
+        Some(Dropping(around))
     }
 
     /// Drops them, and those that are freed meanwhile. Nothing within a drop of the queue.
@@ -162,5 +148,34 @@ impl<T> DropQueue<T> {
                 self.drop_rest(&dropping);
             }
         }
+    }
+}
+
+/// Makes all of some calls, and gives the first panic.
+pub(crate) fn first_panic(calls: impl Iterator<Item = thread::Result<()>>) -> thread::Result<()> {
+    let mut first = Ok(());
+    for called in calls {
+        if first.is_ok() {
+            first = called;
+        } else {
+            lose(called);
+        }
+    }
+    first
+}
+
+/// Goes on with what a call panicked with, where it did.
+#[inline(always)]
+pub(crate) fn go_on(called: thread::Result<()>) {
+    called.unwrap_or_else(|panic| resume_unwind(panic));
+}
+
+/// Drops what a call panicked with, where it did.
+#[inline]
+pub(crate) fn lose(called: thread::Result<()>) {
+    let Err(panic) = called else { return };
+    if let Err(within) = catch_unwind(AssertUnwindSafe(|| drop(panic))) {
+        // A panic's value may panic as it is dropped, and so may that of this panic.
+        mem::forget(within);
     }
 }

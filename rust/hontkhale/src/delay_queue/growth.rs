@@ -1,16 +1,15 @@
 //! How the shards come to the right size: cores are made, exchanged and folded, a part at a time, by whoever has time.
 
 use crate::core::{CoreConfig, DelayCore};
+use crate::delay_queue::dropping::go_on;
 use crate::delay_queue::errors::InsertErrorKind;
-use crate::delay_queue::shard::Seen;
+use crate::delay_queue::shard::{least, Core, Seen, Shard};
 use crate::delay_queue::shared::Shared;
-use crate::delay_queue::store::{least, Core, Shard};
 use crate::directory::Clerk;
 use crate::growing::CORES;
 use crate::memory::AllocError;
 use crate::ticks::CAPACITY_LIMIT;
 use crate::words::{Keeper, OpenWords};
-use std::panic::resume_unwind;
 
 /// How many parts of a shard's slots are looked at for cancelled entries before it grows.
 const SWEEPS: usize = 8;
@@ -127,7 +126,7 @@ impl<T> Shared<T> {
             let drained = shard.entries.take_needless();
             let is_making = drained.is_none() && wanted(&shard).is_some();
             is_moving = drained.is_none() && !is_making && shard.move_straggler(now);
-            shard.end().unwrap_or_else(|panic| resume_unwind(panic));
+            go_on(shard.end());
             match drained {
                 Some(core) => self.fold(at, core),
                 // Another thread may have made it meanwhile.

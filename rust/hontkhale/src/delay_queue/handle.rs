@@ -1,9 +1,8 @@
 //! What reaches entries from elsewhere: a handle, which knows nothing of the values, and a guard of one entry.
 
-use crate::delay_queue::common::{Common, Step};
 use crate::delay_queue::errors::KeyError;
-use crate::delay_queue::key::Key;
-use crate::delay_queue::shared::{Shared, Steps};
+use crate::delay_queue::key::{Key, Step, Steps};
+use crate::delay_queue::shared::{Common, Shared, IS_OVER};
 use std::fmt;
 use std::sync::{Arc, Weak};
 use std::time::{Duration, Instant};
@@ -16,28 +15,19 @@ use std::time::{Duration, Instant};
 /// entry that the queue had.
 #[derive(Clone)]
 pub struct Handle {
-    common: Arc<Common>,
-    queue: Weak<dyn Steps>,
+    pub(crate) common: Arc<Common>,
+    pub(crate) queue: Weak<dyn Steps>,
 }
 
 impl Handle {
-    pub(crate) fn new<T: Send + 'static>(shared: &Arc<Shared<T>>) -> Handle {
-        let queue: Weak<Shared<T>> = Arc::downgrade(shared);
-        Handle {
-            common: Arc::clone(&shared.common),
-            queue,
-        }
-    }
-
     #[inline]
     fn tick_of(&self, key: &Key, step: Step) -> Result<u64, KeyError> {
-        if self.common.ends.is_over() {
+        if self.common.is(IS_OVER) {
             return Err(KeyError::Closed);
         }
         let slowly = || self.queue()?.slow_step(key, step);
-        self.common.step(key, step, slowly, || {
-            self.queue().iter().for_each(|queue| queue.note_end())
-        })
+        let note_end = || self.queue().iter().for_each(|queue| queue.note_end());
+        self.common.step(key, step, slowly, note_end)
     }
 
     fn queue(&self) -> Result<Arc<dyn Steps>, KeyError> {
@@ -159,10 +149,8 @@ pub struct Timeout<T> {
 
 impl<T> Timeout<T> {
     pub(crate) fn new(shared: &Arc<Shared<T>>, key: Key) -> Timeout<T> {
-        Timeout {
-            shared: Some(Arc::clone(shared)),
-            key,
-        }
+        let shared = Some(Arc::clone(shared));
+        Timeout { shared, key }
     }
 
     /// The entry's key.

@@ -2,8 +2,8 @@
 
 use crate::delay_queue::errors::{RecvTimeoutError, TryRecvError};
 use crate::delay_queue::key::Key;
+use crate::delay_queue::shard::{Way, STEPS};
 use crate::delay_queue::shared::Shared;
-use crate::delay_queue::store::Way;
 use crate::delay_queue::waking::{Seat, Wakes};
 use crate::delay_queue::Expired;
 use std::fmt;
@@ -30,56 +30,45 @@ pub(crate) enum Step<R> {
 }
 
 /// A thread's place in the line of those that wait.
-struct Place<'q, T> {
-    shared: &'q Shared<T>,
-    seat: Option<Seat>,
-}
+struct Place<'q, T>(&'q Shared<T>, Option<Seat>);
 
 impl<T> Drop for Place<'_, T> {
     fn drop(&mut self) {
-        self.shared.common.leave(&mut self.seat);
+        self.0.common.leave(&mut self.1);
     }
 }
 
 impl<T> Shared<T> {
-    /// What `take` takes, as soon as it takes something, and why nothing from `until` on, or once the queue is closed. Values
-    /// that were freed are dropped here, before something is in hand and outside the line.
-    pub fn wait_for<R>(
+    /// What a first look or `take` takes, as soon as one takes something, and why nothing from `until` on, or once the queue is
+    /// closed. Values that were freed are dropped here, before something is in hand and outside the line.
+    fn wait_for<R>(
         &self,
         until: Option<Instant>,
+        mut step: Step<R>,
         mut take: impl FnMut() -> Step<R>,
     ) -> Result<R, RecvTimeoutError> {
+        let mut over = None;
         loop {
-            self.drop_deferred();
-            let step = take();
-            if let Step::Took(taken) = step {
-                return Ok(taken);
-            }
-            if let Some(over) = self.over(until) {
-                // What was put in before a close, or was due in time, comes out.
-                return self.taken_last(over, take);
-            }
-            if matches!(step, Step::Rests) {
-                self.maintain_all();
-                if let Some(taken) = self.wait_in_line(until, &mut take) {
-                    return Ok(taken);
+            match step {
+                Step::Took(taken) => return Ok(taken),
+                Step::Works => {}
+                Step::Rests => {
+                    if let Some(over) = over {
+                        self.drop_deferred();
+                        return Err(over);
+                    }
+                    // What was put in before a close, or was due in time, comes out by one look more.
+                    over = self.over(until);
+                    if over.is_none() {
+                        self.maintain_all();
+                        if let Some(taken) = self.wait_in_line(until, &mut take) {
+                            return Ok(taken);
+                        }
+                    }
                 }
             }
-        }
-    }
-
-    /// What is taken by a last look, and else why none. What was freed is dropped where nothing is taken.
-    #[cold]
-    fn taken_last<R, E>(&self, over: E, mut take: impl FnMut() -> Step<R>) -> Result<R, E> {
-        loop {
-            let step = take();
-            if let Step::Took(taken) = step {
-                return Ok(taken);
-            }
             self.drop_deferred();
-            if matches!(step, Step::Rests) {
-                return Err(over);
-            }
+            step = take();
         }
     }
 
@@ -94,13 +83,11 @@ impl<T> Shared<T> {
 
     /// What `take` takes; none once it has more to do, values are to be dropped, or the wait is over.
     fn wait_in_line<R>(&self, until: Option<Instant>, take: &mut impl FnMut() -> Step<R>) -> Option<R> {
-        let mut place = Place {
-            shared: self,
-            seat: None,
-        };
+        let mut place = Place(self, None);
         loop {
             let thread = Wakes::Thread(thread::current());
-            if let Some(tick) = self.common.sleep(&mut place.seat, thread) {
+            let (until_due, now) = (self.common.least_hint(), self.common.time.tick());
+            if let Some(tick) = self.common.receivers.sleep(&mut place.1, thread, until_due, now) {
                 self.park(self.common.time.moment_of(tick).into_iter().chain(until).min());
             }
             match take() {
@@ -132,17 +119,17 @@ impl<T> Shared<T> {
             return Step::Rests;
         };
         let mut shard = self.lock(at);
-        let is_whole = shard.is_small(whole);
-        let Step::Took((key, deadline, value)) = shard.poll(now, is_whole) else {
+        let piece = match shard.is_small(whole) {
+            true => shard.entries.poll(now),
+            false => shard.entries.poll_some(now, STEPS),
+        };
+        let Step::Took((key, deadline, value)) = shard.polled(piece, now) else {
             return Step::Works;
         };
         shard.entries.note_next();
         self.leave(shard, 1);
-        Step::Took(Expired {
-            key,
-            deadline: self.common.time.moment(deadline),
-            value,
-        })
+        let deadline = self.common.time.moment(deadline);
+        Step::Took(Expired { key, deadline, value })
     }
 
     /// An entry that is due, where some turns find one.
@@ -187,7 +174,11 @@ impl<T> Shared<T> {
         let linked = shard.linked();
         let mut is_next = false;
         while row.len() < first + room {
-            match shard.poll(now, is_whole) {
+            let piece = match is_whole {
+                true => shard.entries.poll(now),
+                false => shard.entries.poll_some(now, STEPS),
+            };
+            match shard.polled(piece, now) {
                 Step::Took((key, tick, value)) => {
                     is_next = false;
                     let deadline = self.common.time.moment(tick);
@@ -210,24 +201,26 @@ impl<T> Shared<T> {
 }
 
 impl<T> Shared<T> {
-    pub fn receive(&self) -> Option<Expired<T>> {
-        self.wait_for(None, || self.take_one()).ok()
+    /// An entry that is due, once one is; none from a moment on.
+    pub fn receive(&self, until: Option<Instant>) -> Result<Expired<T>, RecvTimeoutError> {
+        self.drop_deferred();
+        match self.try_poll(POLLED_WHOLE) {
+            Step::Took(expired) => Ok(expired),
+            step => self.wait_for(until, step, || self.take_one()),
+        }
     }
 
     pub fn receive_within(&self, timeout: Duration) -> Result<Expired<T>, RecvTimeoutError> {
         // A moment that no clock reaches is waited for without end.
-        self.wait_for(self.common.time.now().checked_add(timeout), || self.take_one())
-    }
-
-    pub fn receive_until(&self, when: Instant) -> Result<Expired<T>, RecvTimeoutError> {
-        self.wait_for(Some(when), || self.take_one())
+        self.receive(self.common.time.now().checked_add(timeout))
     }
 
     pub fn receive_many(&self, row: &mut Vec<Expired<T>>, most: usize) -> usize {
         if most == 0 {
             return 0;
         }
-        self.wait_for(None, || self.take_some(row, most)).unwrap_or(0)
+        self.wait_for(None, Step::Works, || self.take_some(row, most))
+            .unwrap_or(0)
     }
 
     /// One call is all that a program makes of a receive: what is taken apart between two goes through memory twice.
@@ -280,7 +273,7 @@ impl<T> Iterator for Iter<'_, T> {
     type Item = Expired<T>;
 
     fn next(&mut self) -> Option<Expired<T>> {
-        self.shared.receive()
+        self.shared.receive(None).ok()
     }
 }
 
@@ -307,24 +300,15 @@ impl<T> fmt::Debug for TryIter<'_, T> {
 /// What waits in a queue, taken out one entry after the other.
 #[must_use = "an iterator does nothing until it is asked"]
 pub struct Drain<'q, T> {
-    shared: &'q Shared<T>,
+    pub(crate) shared: &'q Shared<T>,
     /// The shard, and how far the way through its slots is.
-    at: usize,
-    way: Way,
+    pub(crate) at: usize,
+    pub(crate) way: Way,
     /// How many entries had been moved in it as that way began.
-    moved: Option<u64>,
+    pub(crate) moved: Option<u64>,
 }
 
-impl<'q, T> Drain<'q, T> {
-    pub(crate) fn new(shared: &'q Shared<T>) -> Drain<'q, T> {
-        Drain {
-            shared,
-            at: 0,
-            way: Way::BEGIN,
-            moved: None,
-        }
-    }
-
+impl<T> Drain<'_, T> {
     /// The next live entry on the way through the shards.
     fn next_on_the_way(&mut self) -> Option<(Key, Instant, T)> {
         while self.at < self.shared.common.seen.len() {
@@ -405,7 +389,9 @@ mod tests {
         let queue = DelayQueue::<String>::builder().shards(4).build();
         for (at, tick) in [(0, 7), (2, 5), (1, 6), (3, 5)] {
             queue.shared.grow(at).expect("room");
-            queue.shared.lock(at).insert("waits".to_string(), tick);
+            let mut shard = queue.shared.lock(at);
+            let inserted = shard.entries.insert("waits".to_string(), tick).0;
+            shard.came_in(inserted);
         }
         let found = [4, 5, 9].map(|now| queue.shared.common.most_due(now));
         assert_eq!(found, [None, Some(2), Some(2)]);
@@ -462,7 +448,7 @@ mod tests {
     fn what_was_put_in_just_before_the_close_comes_out() {
         let queue = DelayQueue::new();
         let mut is_first = true;
-        let received = queue.shared.wait_for(None, || {
+        let received = queue.shared.wait_for(None, Step::Works, || {
             let step = queue.shared.take_one();
             if std::mem::take(&mut is_first) {
                 queue.insert("due", Duration::ZERO).expect("room");
@@ -482,7 +468,9 @@ mod tests {
             let queue = DelayQueue::builder().clock(&clock).shards(2).build();
             for (at, tick) in [(first, 1), (1 - first, 2)] {
                 queue.shared.grow(at).expect("room");
-                queue.shared.lock(at).insert(tick.to_string(), tick);
+                let mut shard = queue.shared.lock(at);
+                let inserted = shard.entries.insert(tick.to_string(), tick).0;
+                shard.came_in(inserted);
             }
             clock.advance(Duration::from_millis(3));
             assert_eq!(queue.stats().late, Duration::from_millis(2));

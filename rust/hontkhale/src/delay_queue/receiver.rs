@@ -92,7 +92,7 @@ impl<T> Receiver<T> {
 
     /// As [`DelayQueue::recv`]; none as well once nothing is inserted any more and nothing waits.
     pub fn recv(&self) -> Option<Expired<T>> {
-        self.shared.receive()
+        self.shared.receive(None).ok()
     }
 
     /// As [`DelayQueue::recv_timeout`].
@@ -110,7 +110,7 @@ impl<T> Receiver<T> {
     /// - `Timeout` if none came due in time.
     /// - `Closed` if the receiver has ended.
     pub fn recv_deadline(&self, when: Instant) -> Result<Expired<T>, RecvTimeoutError> {
-        self.shared.receive_until(when)
+        self.shared.receive(Some(when))
     }
 
     /// As [`DelayQueue::try_recv`].

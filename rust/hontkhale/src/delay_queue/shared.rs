@@ -1,24 +1,193 @@
-//! What the clones of a queue share: its shards, and the calls on its entries.
+//! What the clones of a queue share: the part that its handles have too, which knows nothing of the values, and its shards.
+//!
+//! # The end
+//! The receivers ask whether the queue is empty once nothing more is inserted, and so do those that wait until it is. Whoever ends
+//! an entry while somebody asks looks whether it was the last one, and whoever begins to ask looks once by the shards' locks. An
+//! insert that was under way as inserts were refused either is seen by that look, or finds that the queue is to end and takes its
+//! entry back: so what was put in comes out.
 
-use crate::bell::Hint;
-use crate::core::{CallError, CoreError};
-use crate::delay_queue::common::{route, Common, Counted, Step};
-use crate::delay_queue::dropping::DropQueue;
-use crate::delay_queue::errors::{InsertError, InsertErrorKind, KeyError};
+use crate::bell::{Hints, Rung, NEVER};
+use crate::delay_queue::dropping::{go_on, lose, DropQueue};
+use crate::delay_queue::errors::{InsertError, InsertErrorKind};
 use crate::delay_queue::key::Key;
-use crate::delay_queue::shard::Locked;
-use crate::delay_queue::store::Shard;
-use crate::delay_queue::waking::lose;
-use crate::directory::Clerk;
-use crate::locks::{with_lock, Mutex};
-use crate::ticks::{self, LAST_TICK};
+use crate::delay_queue::shard::{Locked, Seen, Shard};
+use crate::delay_queue::time::Time;
+use crate::delay_queue::waking::{Seat, Waiting};
+use crate::directory::{Clerk, Directory};
+use crate::locks::{is_in_closure_of, Mutex};
+use crate::ticks::LAST_TICK;
 use crate::words::OpenWords;
-use std::any::Any;
+use std::cell::Cell;
 use std::iter;
 use std::mem;
-use std::panic::{catch_unwind, resume_unwind, AssertUnwindSafe};
+use std::panic::{catch_unwind, AssertUnwindSafe};
+use std::sync::atomic::{fence, AtomicU32, AtomicUsize, Ordering::SeqCst};
 use std::sync::Arc;
-use std::time::{Duration, Instant};
+use std::thread;
+
+/// The number of the next queue, and of the next thread.
+pub(crate) static NEXT_QUEUE: AtomicU32 = AtomicU32::new(1);
+static NEXT_THREAD: AtomicUsize = AtomicUsize::new(0);
+
+thread_local! {
+    /// The number of this thread, by which its inserts are routed.
+    static ROUTE: Cell<Option<usize>> = const { Cell::new(None) };
+}
+
+#[cold]
+fn drawn() -> usize {
+    let number = NEXT_THREAD.fetch_add(1, SeqCst);
+    ROUTE.set(Some(number));
+    number
+}
+
+/// The states to which a queue comes: inserts are refused, the receivers end once the queue is empty, and it was dropped.
+pub(crate) const REFUSES: usize = 1;
+const ENDS_WHEN_EMPTY: usize = 2;
+pub(crate) const IS_OVER: usize = 4;
+
+pub(crate) struct Common {
+    /// The number that the queue's keys carry.
+    pub id: u32,
+    pub time: Time,
+    /// The words of each core that was made, by its number.
+    pub words: Directory<OpenWords>,
+    pub receivers: Waiting,
+    /// The hint of the close, which is 0 once the receivers end, and then that of each shard.
+    pub hints: Hints,
+    /// The most entries, and how many wait where they are bounded.
+    pub most: usize,
+    pub waiting: AtomicUsize,
+    /// What is known of each shard without its lock.
+    pub seen: Box<[Seen]>,
+    /// To which states the queue has come.
+    pub state: AtomicUsize,
+    /// How many ask whether it is empty. While nobody does the end of an entry tells nobody.
+    pub asked: AtomicUsize,
+    /// The clones of the queue, which may insert.
+    pub inserters: AtomicUsize,
+}
+
+/// An entry that is counted though it isn't in.
+pub(crate) struct Counted<'a>(&'a Common);
+
+impl Drop for Counted<'_> {
+    fn drop(&mut self) {
+        self.0.uncount(1);
+    }
+}
+
+impl Common {
+    /// Whether the queue has come to a state.
+    #[inline(always)]
+    pub fn is(&self, state: usize) -> bool {
+        self.state.load(SeqCst) & state > 0
+    }
+
+    /// Whether somebody asks whether the queue is empty.
+    #[inline(always)]
+    pub fn is_asked(&self) -> bool {
+        self.asked.load(SeqCst) > 0
+    }
+
+    fn is_bounded(&self) -> bool {
+        self.most < usize::MAX
+    }
+
+    /// Counts one entry more, unless there are as many as may be.
+    #[inline(always)]
+    pub fn count_in(&self) -> Option<Counted<'_>> {
+        let more = |waiting| Some(waiting + 1).filter(|waiting| *waiting <= self.most);
+        let may_come = !self.is_bounded() || self.waiting.fetch_update(SeqCst, SeqCst, more).is_ok();
+        may_come.then(|| Counted(self))
+    }
+
+    /// Counts entries that wait no longer.
+    #[inline(always)]
+    pub fn uncount(&self, entries: usize) {
+        if self.is_bounded() {
+            self.waiting.fetch_sub(entries, SeqCst);
+        }
+    }
+
+    /// How many wait by the shards. `others` stands for what others do meanwhile.
+    pub fn waiting_while(&self, mut others: impl FnMut()) -> usize {
+        self.seen.iter().map(|seen| seen.waiting(&mut others)).sum::<u64>() as usize
+    }
+
+    /// Whether no entry waits, by the shards alone: a bound counts one that isn't in, and one that is out for a moment yet. Where
+    /// an entry that is out is counted by the bound, nobody looks once more.
+    pub fn has_none(&self) -> bool {
+        self.waiting_while(|| {}) == 0
+    }
+
+    /// How many entries wait. While others change the queue it may be more, and is never less than those that stay meanwhile.
+    pub fn waiting(&self) -> usize {
+        // It counts an entry from before it is in until after it is out.
+        if self.is_bounded() {
+            return self.waiting.load(SeqCst);
+        }
+        self.waiting_while(|| {})
+    }
+
+    /// A shard's hint: nothing is due there before it.
+    #[inline(always)]
+    pub fn hint(&self, at: usize) -> u64 {
+        self.hints.tick(at + 1)
+    }
+
+    /// The shard that has something due first, where one has.
+    #[inline(always)]
+    pub fn most_due(&self, now: u64) -> Option<usize> {
+        let place = self.hints.first_before(1, now.saturating_add(1))?;
+        Some(place - 1)
+    }
+
+    /// The least hint: nothing is due before it.
+    pub fn least_hint(&self) -> u64 {
+        (0..self.seen.len()).map(|at| self.hint(at)).min().unwrap_or(NEVER)
+    }
+
+    /// Whether the receivers end once nothing is due.
+    #[inline]
+    pub fn is_closed(&self) -> bool {
+        self.hints.tick(0) == 0
+    }
+
+    /// Wakes the leader of the receivers where that was rung, and gives the panic of the clock or of a waker. No lock is held.
+    #[inline(always)]
+    pub fn ring(&self, rung: Rung) -> thread::Result<()> {
+        match rung {
+            Rung::Nobody => Ok(()),
+            Rung::Leader => {
+                // A program's clock that panics keeps nobody asleep.
+                let now = catch_unwind(AssertUnwindSafe(|| self.time.tick()));
+                let woken = self.receivers.ring(rung, *now.as_ref().unwrap_or(&0));
+                now.map(drop).and(woken)
+            }
+        }
+    }
+
+    /// Wakes all who wait.
+    pub fn wake_all(&self) {
+        go_on(self.receivers.wake_all(self.time.tick()));
+    }
+
+    /// Has a receiver leave the line where it is there.
+    pub fn leave(&self, place: &mut Option<Seat>) {
+        if place.is_some() {
+            self.receivers.leave(place, self.tick_of_wake());
+        }
+    }
+
+    /// The present tick, or 0 where a program's clock panics. Whoever asks has a value in hand, or others to wake.
+    pub fn tick_of_wake(&self) -> u64 {
+        catch_unwind(AssertUnwindSafe(|| self.time.tick())).unwrap_or_else(|panic| {
+            lose(Err(panic));
+            0
+        })
+    }
+}
 
 pub(crate) struct Shared<T> {
     pub common: Arc<Common>,
@@ -30,61 +199,8 @@ pub(crate) struct Shared<T> {
     pub deferred: DropQueue<T>,
 }
 
-/// What a handle asks of a queue whose values it doesn't know.
-pub(crate) trait Steps: Send + Sync {
-    /// A step that takes the shard's lock.
-    fn slow_step(&self, key: &Key, step: Step) -> Result<u64, KeyError>;
-
-    /// Has those told who wait until the queue is empty, where it is.
-    fn note_end(&self);
-
-    /// Puts the value of an entry that it takes out into a place, an `Option` of the queue's type.
-    fn take(&self, key: &Key, place: &mut dyn Any) -> Result<(), KeyError>;
-}
-
-impl<T: Send + 'static> Steps for Shared<T> {
-    fn slow_step(&self, key: &Key, step: Step) -> Result<u64, KeyError> {
-        self.step_slowly(key, step)
-    }
-
-    fn note_end(&self) {
-        Shared::note_end(self);
-    }
-
-    fn take(&self, key: &Key, place: &mut dyn Any) -> Result<(), KeyError> {
-        let place = place.downcast_mut::<Option<T>>().ok_or(KeyError::WrongQueue)?;
-        *place = Some(self.remove(key)?);
-        Ok(())
-    }
-}
-
-/// Held while a program's closure is called under a lock of a queue, from before the lock is taken until it is let go.
-struct Lends<'q, T>(&'q Shared<T>);
-
-impl<T> Drop for Lends<'_, T> {
-    /// What the closure ended may have been the last entry.
-    #[inline]
-    fn drop(&mut self) {
-        if self.0.common.ends.is_asked() {
-            self.0.note_end();
-        }
-    }
-}
-
 /// The shards.
 impl<T> Shared<T> {
-    /// Each shard writes one of the hints.
-    pub fn new(common: Arc<Common>, hints: Vec<Hint>, clerk: Clerk<OpenWords>, last_stamp: u32) -> Shared<T> {
-        let shard = |(at, hint)| Mutex::new(Shard::new(common.id, at, hint));
-        Shared {
-            shards: hints.into_iter().enumerate().map(shard).collect(),
-            common,
-            makes: Mutex::new(clerk),
-            last_stamp,
-            deferred: DropQueue::new(),
-        }
-    }
-
     /// The shards, each while its lock is held.
     pub fn locked(&self) -> impl Iterator<Item = Locked<'_, T>> {
         (0..self.shards.len()).map(|at| self.lock(at))
@@ -99,7 +215,7 @@ impl<T> Shared<T> {
         // It may call a task's waker.
         let maintains = || _ = has_work && self.maintain(at);
         if ended == 0 {
-            woken.unwrap_or_else(|panic| resume_unwind(panic));
+            go_on(woken);
             return maintains();
         }
         self.note_ended(ended);
@@ -107,15 +223,6 @@ impl<T> Shared<T> {
         if has_work {
             lose(catch_unwind(AssertUnwindSafe(maintains)));
         }
-    }
-
-    /// The shard of a key of this queue.
-    #[inline(always)]
-    fn lock_of(&self, key: &Key) -> Result<Locked<'_, T>, KeyError> {
-        if key.queue() != self.common.id {
-            return Err(KeyError::WrongQueue);
-        }
-        Ok(self.lock(key.shard()))
     }
 }
 
@@ -129,40 +236,24 @@ impl<T> Shared<T> {
             Ok(room) => room,
             Err(kind) => return Err(InsertError::new(kind, value)),
         };
-        let key = shard.insert(value, tick);
+        let inserted = shard.entries.insert(value, tick).0;
+        let key = shard.came_in(inserted);
         mem::forget(counted);
         self.is_in(shard, key)
             .map_err(|value| InsertError::new(InsertErrorKind::Closed, value))
     }
 
-    /// The same of a value that is made under the shard's lock, once its key is known.
-    pub fn insert_with(&self, make: impl FnOnce(Key) -> T, tick: u64) -> Result<Key, InsertErrorKind> {
-        let _lends = Lends(self);
-        let (counted, mut shard) = self.room_for_one(tick)?;
-        let next = shard.next_key();
-        let value = with_lock(&mut *shard, self.common.id as usize, |_| make(next));
-        let key = shard.insert(value, tick);
-        // The contracts say that an insert may give that key. Which one it gives of several is the order of the free slots,
-        // of which no contract speaks.
-        assert!(next == key, "an insert takes the slot that is told as the next");
-        mem::forget(counted);
-        self.is_in(shard, key).map_err(|value| {
-            self.deferred.drop_value(value);
-            InsertErrorKind::Closed
-        })
-    }
-
     /// A shard that has room for an insert, and the count of its entry.
     #[inline(always)]
-    fn room_for_one(&self, tick: u64) -> Result<(Counted<'_>, Locked<'_, T>), InsertErrorKind> {
+    pub fn room_for_one(&self, tick: u64) -> Result<(Counted<'_>, Locked<'_, T>), InsertErrorKind> {
         if tick > LAST_TICK {
             return Err(InsertErrorKind::TooFar);
         }
-        if self.common.ends.refuses() {
+        if self.common.is(REFUSES) {
             return Err(InsertErrorKind::Closed);
         }
         let counted = self.common.count_in().ok_or(InsertErrorKind::Full)?;
-        let (route, shards) = (route(), self.shards.len());
+        let (route, shards) = (ROUTE.get().unwrap_or_else(drawn), self.shards.len());
         // The first threads are spared the division.
         let at = if route < shards { route } else { route % shards };
         let mut shard = self.lock(at);
@@ -208,7 +299,7 @@ impl<T> Shared<T> {
     }
 
     /// Makes room in a shard: first where there are slots, and then in a new core.
-    fn make_room(&self, at: usize, has_freed: &mut bool) -> Result<(), InsertErrorKind> {
+    pub fn make_room(&self, at: usize, has_freed: &mut bool) -> Result<(), InsertErrorKind> {
         if !mem::replace(has_freed, true) && self.common.seen[at].cancels() > 0 {
             self.free_cancelled(at);
             return Ok(());
@@ -218,140 +309,16 @@ impl<T> Shared<T> {
 
     /// Has receivers come for an entry that is in. Its value is taken back, and given, where that was too late.
     #[inline(always)]
-    fn is_in(&self, shard: Locked<'_, T>, key: Key) -> Result<Key, T> {
+    pub fn is_in(&self, shard: Locked<'_, T>, key: Key) -> Result<Key, T> {
         // A waker that panics takes the key along, but not the entry.
         self.leave(shard, 0);
-        if self.common.ends.refuses() {
+        if self.common.is(REFUSES) {
             // It may have come out meanwhile. Else none takes it out: a drain behind the close may have been there before.
             if let Ok(value) = self.remove(&key) {
                 return Err(value);
             }
         }
         Ok(key)
-    }
-}
-
-/// Why a call by key isn't made: the entry has ended, or `NoMemory` where it is to be moved and no slot is free.
-fn refused(error: CoreError) -> KeyError {
-    match error {
-        CoreError::NoMemory | CoreError::Full { .. } => KeyError::NoMemory,
-        _ => KeyError::Ended,
-    }
-}
-
-/// The calls by key. An entry has the key that its insert gave, wherever it is.
-impl<T> Shared<T> {
-    #[inline(always)]
-    pub fn step(&self, key: &Key, step: Step) -> Result<u64, KeyError> {
-        self.common
-            .step(key, step, || self.step_slowly(key, step), || self.note_end())
-    }
-
-    /// A step whose deadline is told as a moment.
-    #[inline(always)]
-    pub fn step_to_moment(&self, key: &Key, step: Step) -> Result<Instant, KeyError> {
-        let deadline = self.step(key, step)?;
-        Ok(self.common.time.moment(deadline))
-    }
-
-    #[inline(always)]
-    pub fn extend(&self, key: &Key, after: Duration) -> Result<Instant, KeyError> {
-        self.step_to_moment(key, Step::Extend(self.common.time.tick_in(after)))
-    }
-
-    #[inline(always)]
-    pub fn extend_at(&self, key: &Key, when: Instant) -> Result<Instant, KeyError> {
-        let rounded = self.common.time.rounded(when);
-        let deadline = self.step(key, Step::Extend(rounded.0))?;
-        Ok(self.common.time.moment_beside(deadline, rounded))
-    }
-
-    /// A step under the shard's lock: the entry's stamp was changed by a reset, it was moved, or it has ended.
-    #[cold]
-    fn step_slowly(&self, key: &Key, step: Step) -> Result<u64, KeyError> {
-        let (mut shard, entry) = (self.lock_of(key)?, key.entry());
-        shard.entries.deadline(&entry).map_err(refused)?;
-        let place = shard.entries.store().place(&entry).ok_or(KeyError::Ended)?;
-        let words = self.common.words.get(place.shard()).ok_or(KeyError::Ended)?;
-        // The entry is there by its birth, and under the lock nobody changes its stamp.
-        let made = match step.make(words, &ticks::Key::new(place, place.born())) {
-            Err(CallError::Stale { seen }) => step.make(words, &ticks::Key::new(place, seen)),
-            made => made,
-        };
-        if matches!(step, Step::Cancel) && made.is_ok() {
-            // It doesn't come out by this key any more.
-            let _ = shard.entries.reap(&entry);
-            shard.may_have_deferred = true;
-        }
-        made.map_err(|_| KeyError::Ended)
-    }
-
-    /// What a program's closure makes of a live entry's value, under its shard's lock and no other one.
-    pub fn with_value<R>(&self, key: &Key, call: impl FnOnce(&mut T) -> R) -> Result<R, KeyError> {
-        let _lends = Lends(self);
-        let (mut shard, entry) = (self.lock_of(key)?, key.entry());
-        shard.entries.deadline(&entry).map_err(refused)?;
-        let made = with_lock(&mut *shard, self.common.id as usize, |shard| {
-            shard.entries.with_value(&entry, call)
-        });
-        Ok(made.expect("a live entry"))
-    }
-
-    /// Gives an entry the deadline `tick`, and gives its key of the present stamp. One that isn't sooner is an extend, without a
-    /// lock. It is inlined as the insert is.
-    #[inline(always)]
-    pub fn reset(&self, key: &Key, tick: u64) -> Result<Key, KeyError> {
-        match self.common.is_later(key, tick) {
-            true => Ok(*key),
-            false => self.reset_under_lock(key, tick),
-        }
-    }
-
-    fn reset_under_lock(&self, key: &Key, tick: u64) -> Result<Key, KeyError> {
-        let mut shard = self.lock_of(key)?;
-        if tick > LAST_TICK {
-            return Err(KeyError::TooFar);
-        }
-        let mut has_freed = false;
-        loop {
-            let (renamed, beside) = shard.reset(key, tick);
-            let woken = shard.end();
-            if let Some(value) = beside {
-                self.deferred.drop_value(value);
-            }
-            woken.unwrap_or_else(|panic| resume_unwind(panic));
-            let Err(CoreError::Full { .. }) = renamed else {
-                return renamed.map_err(refused);
-            };
-            self.make_room(key.shard(), &mut has_freed)
-                .map_err(|_| KeyError::NoMemory)?;
-            shard = self.lock(key.shard());
-        }
-    }
-
-    /// Takes a live entry out, and gives its value.
-    #[inline]
-    pub fn remove(&self, key: &Key) -> Result<T, KeyError> {
-        let mut shard = self.lock_of(key)?;
-        let removed = shard.remove(&key.entry()).map_err(refused)?;
-        self.leave(shard, 1);
-        Ok(removed.value)
-    }
-
-    /// Takes a live entry out where its deadline isn't after the present tick.
-    pub fn remove_if_due(&self, key: &Key) -> Result<Option<T>, KeyError> {
-        let now = self.common.time.tick();
-        if self.step(key, Step::Look)? > now {
-            return Ok(None);
-        }
-        let mut shard = self.lock_of(key)?;
-        let due = shard.entries.remove_if_due(&key.entry(), now);
-        let Some(removed) = due.map_err(refused)? else {
-            return Ok(None);
-        };
-        shard.note_left();
-        self.leave(shard, 1);
-        Ok(Some(removed.value))
     }
 }
 
@@ -381,7 +348,82 @@ impl<T> Shared<T> {
 
 impl<T> Drop for Shared<T> {
     fn drop(&mut self) {
-        self.common.ends.end();
+        self.common.state.fetch_or(IS_OVER, SeqCst);
+    }
+}
+
+/// Held while this thread waits until a queue is empty.
+pub(crate) struct Asks<'c>(&'c Common);
+
+impl<'c> Asks<'c> {
+    pub fn new(common: &'c Common) -> Asks<'c> {
+        common.receivers.add_asker();
+        common.asked.fetch_add(1, SeqCst);
+        Asks(common)
+    }
+}
+
+impl Drop for Asks<'_> {
+    fn drop(&mut self) {
+        self.0.asked.fetch_sub(1, SeqCst);
+        self.0.receivers.remove_asker();
+    }
+}
+
+impl<T> Shared<T> {
+    /// Refuses inserts, and ends the receivers once nothing waits. A task's waker may panic.
+    pub fn close_when_empty(&self) -> thread::Result<()> {
+        let before = self.common.state.fetch_or(REFUSES | ENDS_WHEN_EMPTY, SeqCst);
+        if before & ENDS_WHEN_EMPTY == 0 {
+            self.common.asked.fetch_add(1, SeqCst);
+        }
+        self.end_if_empty()
+    }
+
+    /// Notes that entries wait no longer. No lock is held.
+    #[inline(always)]
+    pub fn note_ended(&self, entries: usize) {
+        self.common.uncount(entries);
+        if self.common.is_asked() {
+            self.note_end();
+        }
+    }
+
+    /// Tells those that ask where the queue is empty now, but not in a closure under a lock of the queue. What a task's waker
+    /// panics with is lost: the caller may have a value in hand. No lock is held.
+    #[cold]
+    pub fn note_end(&self) {
+        // Whoever has called the closure looks once more.
+        if is_in_closure_of(self.common.id as usize) {
+            return;
+        }
+        // Of two threads that end the last two entries one sees that both have ended.
+        fence(SeqCst);
+        if !self.common.has_none() {
+            return;
+        }
+        self.common.receivers.wake_askers();
+        if self.common.is(ENDS_WHEN_EMPTY) {
+            lose(self.end_if_empty());
+        }
+    }
+
+    /// Ends the receivers where nothing waits. In a closure under a lock of the queue it doesn't: whoever has called that looks
+    /// once more.
+    fn end_if_empty(&self) -> thread::Result<()> {
+        let is_in_closure = is_in_closure_of(self.common.id as usize);
+        if is_in_closure || self.common.is_closed() || !self.is_surely_empty() {
+            return Ok(());
+        }
+        // Another thread may have found it empty too: each that sleeps is called by one of them.
+        let called = self.common.receivers.close();
+        self.common.receivers.wake_each(called, self.common.tick_of_wake())
+    }
+
+    /// Whether no entry waits, told by the locks of all shards: each insert that takes one of them later sees what the caller did.
+    pub fn is_surely_empty(&self) -> bool {
+        self.locked().for_each(drop);
+        self.common.has_none()
     }
 }
 
@@ -535,7 +577,8 @@ mod tests {
             close(&queue);
             assert_eq!(queue.drain().count(), 0);
             let mut store = queue.shared.lock(0);
-            let late = store.insert("late".to_string(), 5);
+            let inserted = store.entries.insert("late".to_string(), 5).0;
+            let late = store.came_in(inserted);
             assert_eq!(queue.shared.is_in(store, late), Err("late".to_string()));
             assert!(queue.is_empty() && queue.recv().is_none());
         }
@@ -563,5 +606,42 @@ mod tests {
         let two = || [fill_and_empty(), fill_and_empty()];
         let seen = two();
         (0..5).for_each(|_| assert_eq!(two(), seen));
+    }
+
+    /// Another thread has taken it out, saw that nobody asks, and counts next.
+    #[test]
+    fn a_last_entry_that_is_out_and_counted_yet_keeps_no_receiver() {
+        let queue = DelayQueue::builder().max_entries(4).build();
+        let key = queue.insert("last".to_string(), FAR).expect("room");
+        let shared = &queue.shared;
+        let last = shared.lock(key.shard()).remove(&key.entry()).expect("it waits");
+        queue.close_when_empty();
+        let is_empty = queue.wait_empty(Duration::ZERO);
+        shared.common.uncount(1);
+        assert!(is_empty && shared.common.is_closed());
+        assert_eq!((last.value.as_str(), queue.len()), ("last", 0));
+    }
+
+    /// Else the end of each entry from then on would look at all shards.
+    #[test]
+    fn who_has_waited_asks_no_more() {
+        let queue = DelayQueue::new();
+        queue.insert("waits".to_string(), FAR).expect("room");
+        let common = &queue.shared.common;
+        assert!(!queue.wait_empty(Duration::ZERO) && !common.is_asked());
+        queue.close_when_empty();
+        assert!(!queue.wait_empty(Duration::ZERO) && common.is_asked());
+    }
+
+    /// Another thread's insert is counted, and is refused then for want of memory, or by a panic.
+    #[test]
+    fn an_insert_that_is_counted_and_comes_to_nothing_keeps_no_receiver() {
+        let queue = DelayQueue::<String>::builder().max_entries(4).build();
+        let common = &queue.shared.common;
+        let counted = common.count_in();
+        assert!(counted.is_some());
+        queue.close_when_empty();
+        drop(counted);
+        assert!(common.is_closed());
     }
 }

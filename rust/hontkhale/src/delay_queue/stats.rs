@@ -1,14 +1,13 @@
 //! What a queue tells of itself.
 
-use crate::delay_queue::shard::Seen;
+use crate::delay_queue::shard::{Core, Counts, Seen, Shard};
 use crate::delay_queue::shared::Shared;
-use crate::delay_queue::store::{Core, Shard};
 use std::fmt;
 use std::mem::size_of;
 use std::time::Duration;
 
 /// By how many powers of two of ticks entries that come out late are counted. The last one is for all that are later, too.
-const POWERS: usize = 12;
+pub(crate) const POWERS: usize = 12;
 /// What the wheel and the words take of each slot, what the words alone take, and what a core takes besides.
 const SLOT_BYTES: usize = 32;
 const WORD_BYTES: usize = 8;
@@ -144,53 +143,6 @@ impl fmt::Display for Stats {
     }
 }
 
-/// What became of a shard's entries. One that is moved isn't counted.
-#[derive(Clone, Copy, Default)]
-pub(crate) struct Counts {
-    pub inserted: u64,
-    expired: u64,
-    /// Those that came in, less those that came out or were removed: the cancelled ones count.
-    pub left: u64,
-    pub moved: u64,
-    /// By how many ticks one was late at most as it came out, how many were late by which power of two of ticks, and how many
-    /// had come out as these were counted anew.
-    latest: u64,
-    late: [u64; POWERS],
-    counted_late: u64,
-}
-
-impl Counts {
-    /// Counts an entry that came out. Those that weren't late aren't counted as such.
-    #[inline(always)]
-    pub fn came_out(&mut self, now: u64, deadline: u64) {
-        self.expired += 1;
-        let late = now.saturating_sub(deadline);
-        if late > 0 {
-            let power = late.ilog2() as usize;
-            self.late[power.min(POWERS - 1)] += 1;
-            self.latest = self.latest.max(late);
-        }
-    }
-
-    /// Adds those of another shard.
-    fn add(&mut self, other: &Counts) {
-        self.inserted += other.inserted;
-        self.expired += other.expired;
-        self.left += other.left;
-        self.counted_late += other.counted_late;
-        self.latest = self.latest.max(other.latest);
-        for (late, more) in self.late.iter_mut().zip(other.late) {
-            *late += more;
-        }
-    }
-
-    /// Counts those that come out late from now on.
-    fn begin_late_anew(&mut self) {
-        (self.late, self.latest) = ([0; POWERS], 0);
-        self.counted_late = self.expired;
-    }
-}
-
 impl<T> Shard<T> {
     /// The tick by which the first entry is filed. No deadline of a live one is before it.
     fn first_filed(&self) -> Option<u64> {
@@ -248,10 +200,5 @@ impl<T> Shared<T> {
             latest: Duration::from_millis(sum.latest.max(late)),
             lateness,
         }
-    }
-
-    /// Counts the lateness of what comes out from now on.
-    pub fn reset_lateness(&self) {
-        self.locked().for_each(|mut shard| shard.counts.begin_late_anew());
     }
 }

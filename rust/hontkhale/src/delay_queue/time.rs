@@ -1,10 +1,10 @@
 //! From where a queue has the time.
 
-use crate::delay_queue::waking::first_panic;
+use crate::delay_queue::dropping::{first_panic, go_on};
 use crate::ticks::LAST_TICK;
 use std::fmt;
 use std::hash::{Hash, Hasher};
-use std::panic::{catch_unwind, resume_unwind, AssertUnwindSafe};
+use std::panic::{catch_unwind, AssertUnwindSafe};
 use std::sync::atomic::{AtomicU64, Ordering::SeqCst};
 use std::sync::{Arc, Mutex, MutexGuard, PoisonError};
 use std::time::{Duration, Instant};
@@ -61,10 +61,8 @@ impl ManualClock {
     /// If a task's waker panics. The receivers of all queues are woken before, and of several panics the first goes on.
     pub fn advance(&self, by: Duration) {
         let by = u64::try_from(by.as_nanos()).unwrap_or(u64::MAX);
-        let _ = self
-            .0
-            .passed
-            .fetch_update(SeqCst, SeqCst, |passed| Some(passed.saturating_add(by)));
+        let passed = &self.0.passed;
+        let _ = passed.fetch_update(SeqCst, SeqCst, |passed| Some(passed.saturating_add(by)));
         let queues = self.queues().clone();
         let mut gone = Vec::new();
         let woken = first_panic(queues.iter().map(|wakes| {
@@ -78,7 +76,7 @@ impl ManualClock {
             self.queues()
                 .retain(|wakes| !gone.iter().any(|other| Arc::ptr_eq(wakes, other)));
         }
-        woken.unwrap_or_else(|panic| resume_unwind(panic));
+        go_on(woken);
     }
 
     fn queues(&self) -> MutexGuard<'_, Vec<Arc<Wakes>>> {
@@ -183,14 +181,8 @@ impl Parts {
         if (seconds as i64) < 0 {
             return Duration::ZERO;
         }
-        Duration::new(
-            seconds,
-            if borrows {
-                nanos.wrapping_add(1_000_000_000)
-            } else {
-                nanos
-            },
-        )
+        let borrowed = if borrows { 1_000_000_000 } else { 0 };
+        Duration::new(seconds, nanos.wrapping_add(borrowed))
     }
 }
 
@@ -219,11 +211,8 @@ impl Time {
     pub fn new(clock: Source, start: Option<Instant>) -> Time {
         let now = clock.now();
         let start = start.map_or(now, |start| start.min(now));
-        Time {
-            start,
-            parts: Parts::of_start(start),
-            clock,
-        }
+        let parts = Parts::of_start(start);
+        Time { start, parts, clock }
     }
 
     #[inline]
@@ -295,10 +284,7 @@ impl Time {
 
     /// The same, none for a tick that never comes.
     pub fn moment_of(&self, tick: u64) -> Option<Instant> {
-        if tick > LAST_TICK {
-            return None;
-        }
-        Some(self.moment(tick))
+        (tick <= LAST_TICK).then(|| self.moment(tick))
     }
 
     /// How long a thread may sleep at most until a moment, none where it is woken as the time comes.

@@ -8,11 +8,12 @@
 //! Each place in line has a number, so that one who has lost a place touches nobody else's.
 
 use crate::bell::{Call, Hint, Hints, Line, Rung, NEVER};
+use crate::delay_queue::dropping::{first_panic, lose};
 use crate::memory::AllocError;
 use std::alloc::{handle_alloc_error, Layout};
 use std::cell::{Cell, RefCell};
 use std::iter;
-use std::mem::{self, ManuallyDrop};
+use std::mem::ManuallyDrop;
 use std::panic::{catch_unwind, AssertUnwindSafe};
 use std::sync::{Mutex, MutexGuard, PoisonError};
 use std::task::Waker;
@@ -58,12 +59,6 @@ pub(crate) struct Seat {
 pub(crate) struct Sleeper {
     seat: Seat,
     wakes: Wakes,
-}
-
-impl Sleeper {
-    fn is_task(&self) -> bool {
-        matches!(self.wakes, Wakes::Task(_))
-    }
 }
 
 /// Who is in line by an index.
@@ -150,11 +145,8 @@ impl Waits {
         let is_task = self.sitters[seat.at].is_task;
         let (_awake, _follows) = self.leave(seat, now);
         let seat = self.join(is_task);
-        let old = Seat {
-            at: first,
-            number: leader.number,
-        };
-        let (old, next) = self.leave(old, now);
+        let number = leader.number;
+        let (old, next) = self.leave(Seat { at: first, number }, now);
         called.extend(old.into_iter().chain(next));
         seat
     }
@@ -245,8 +237,9 @@ impl Waiting {
         let Some(seat) = place.take() else { return };
         let (slept, next) = self.left(seat, now);
         lose(catch_unwind(AssertUnwindSafe(|| drop(slept))));
+        let is_calling = CALLING.get() == self.address();
         match next {
-            Some(next) if next.is_task() && CALLING.get() == self.address() => self.call_later(next),
+            Some(next) if is_calling && matches!(next.wakes, Wakes::Task(_)) => self.call_later(next),
             next => lose(self.wake_each(next, now)),
         }
     }
@@ -348,28 +341,5 @@ impl Waiting {
             }
             Some(sleeper)
         })
-    }
-}
-
-/// Makes all of some calls, and gives the first panic.
-pub(crate) fn first_panic(calls: impl Iterator<Item = thread::Result<()>>) -> thread::Result<()> {
-    let mut first = Ok(());
-    for called in calls {
-        if first.is_ok() {
-            first = called;
-        } else {
-            lose(called);
-        }
-    }
-    first
-}
-
-/// Drops what a call panicked with, where it did.
-#[inline]
-pub(crate) fn lose(called: thread::Result<()>) {
-    let Err(panic) = called else { return };
-    if let Err(within) = catch_unwind(AssertUnwindSafe(|| drop(panic))) {
-        // A panic's value may panic as it is dropped, and so may that of this panic.
-        mem::forget(within);
     }
 }

@@ -51,6 +51,7 @@ impl Table {
         (least < bound).then_some(first)
     }
 
+    #[cfg(feature = "std")]
     #[inline(always)]
     pub(crate) fn store(&self, index: usize, new: u64) {
         made(Made::Step);
@@ -60,12 +61,13 @@ impl Table {
     /// The same; a plain step unless others have the words.
     #[inline(always)]
     pub(crate) fn store_as(&self, is_shared: bool, index: usize, new: u64) {
+        made(Made::Step);
+        let word = nth(&self.words, index);
         if is_shared {
-            self.store(index, new);
+            word.store(new, SeqCst);
         } else {
-            made(Made::Step);
             seldom();
-            nth(&self.words, index).store(new, Relaxed);
+            word.store(new, Relaxed);
         }
     }
 
