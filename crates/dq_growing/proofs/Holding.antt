@@ -578,8 +578,8 @@ module _ {T W : Type 0} where
   pub opened_comes : (s m t : StoreState T W) (c : Core T W) (o : Bool) (place : ℕ) → TakesIn s.cores c m.cores → m.notes ≡ s.notes
       → (o ≡ true → (place < length m.cores.cores) × (t.cores ≡ record m.cores { opened = place })) → (o ≡ false → (length m.cores.cores ≤ place) × (t.cores ≡ m.cores))
       → t.notes ≡ m.notes → ComesInto s c t
-  opened_comes s m t c true place takes notes opens refused same = (ap (λ k. k.cores) (opens refl).1 ∙ takes.cores, same ∙ notes, takes.may.0)
-  opened_comes s m t c false place takes notes opens refused same = (ap (λ k. k.cores) (refused refl).1 ∙ takes.cores, same ∙ notes, takes.may.0)
+  opened_comes s m t c true place takes notes opens refused same = (ap (λ k. k.cores) (opens refl).1 ∙ takes.cores, same ∙ notes, takes.may.0, ap (λ k. k.next) (opens refl).1 ∙ takes.next, ap (λ k. k.noted) (opens refl).1 ∙ takes.noted)
+  opened_comes s m t c false place takes notes opens refused same = (ap (λ k. k.cores) (refused refl).1 ∙ takes.cores, same ∙ notes, takes.may.0, ap (λ k. k.next) (refused refl).1 ∙ takes.next, ap (λ k. k.noted) (refused refl).1 ∙ takes.noted)
 
   -- each core is one that was there
   pub were_hold : (s t : StoreState T W) → AllWere s.cores t.cores → t.notes ≡ s.notes → HoldsDeadlines s t

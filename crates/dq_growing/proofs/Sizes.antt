@@ -22,7 +22,7 @@ use Rattle.dq_growing.specs.Cores.{CoreRow, AreCores, IsCoreAt, OnCoreAt, Sweeps
 use Rattle.dq_growing.specs.declared.sizing.Room.{Room}
 use Rattle.dq_growing.specs.Notes.{Book}
 use Rattle.dq_growing.specs.Moving.{HasOpenRoom}
-use Rattle.dq_growing.specs.Sizing.{AllWere, ComesInto, GoesOnBehind, TakesOff, WayGoesOn, slots_at, slots_in, way_for, HasClearAt, HasNoneToOpen, IsNearlyDrained, IsRoomAt, IsRoomier, IsRoomiest, NoStraggler, OnlyOpens, OpensIf, OpensWanted, StaysOpen, SweepsNext, TellsStraggler, WasBeside, clear_slots, MayOpen, OpensOne}
+use Rattle.dq_growing.specs.Sizing.{AllWere, ComesInto, KeepsTick, GoesOnBehind, TakesOff, WayGoesOn, slots_at, slots_in, way_for, HasClearAt, HasNoneToOpen, IsNearlyDrained, IsRoomAt, IsRoomier, IsRoomiest, NoStraggler, OnlyOpens, OpensIf, OpensWanted, StaysOpen, SweepsNext, TellsStraggler, WasBeside, clear_slots, MayOpen, OpensOne}
 use Rattle.dq_growing.specs.Stands.{HasEntry, IsThere, SameStand}
 use Rattle.dq_growing.specs.Store.{StoreState, StandsFor, TellsFirstIn, entry_told}
 use Rattle.dq_growing.proofs.Leasts.{some_not_none}
@@ -325,6 +325,27 @@ module _ {T W : Type 0} where
       let N : ℕ → Type 0 = λ n. IsCoreAt s.cores n c in
       (j.0, (λ e. beside.1 (law.apart beside.0 m.opened c c beside.2 (stays c (subst N e j.1)) refl)), j.1)
 
+  -- the noted tick, and the number above each core
+  pub same_tick : (s t : CoreRow T W) → t ≡ s → KeepsTick s t
+  same_tick s t same = (ap (λ k. k.next) same, ap (λ k. k.noted) same)
+
+  pub then_tick : (s m t : CoreRow T W) → KeepsTick s m → KeepsTick m t → KeepsTick s t
+  then_tick s m t x y = (y.0 ∙ x.0, y.1 ∙ x.1)
+
+  pub gives_tick : (s t : CoreRow T W) (c : Core T W) → GivesDrained s c t → KeepsTick s t
+  gives_tick s t c gives = (ap (λ k. k.next) gives.rest, ap (λ k. k.noted) gives.rest)
+
+  pub back_tick : (s m : CoreRow T W) (n t : StoreState T W) (c : Core T W) → AreCores s → GivesDrained s c m → n.cores ≡ m → ComesInto n c t → KeepsTick s t.cores
+  back_tick s m n t c law gives is comes =
+      let gone = then_tick s m n.cores (gives_tick s m c gives) (same_tick m n.cores is) in
+      let next = gone.0 in
+      let noted = gone.1 in
+      let below = law.below gives.place c gives.drained.0 in
+      let behind = law.behind gives.place c gives.drained.0 in
+      let comes-next = comes.3 in
+      let comes-noted = comes.4 in
+      (omega (arith, next, below, comes-next), omega (arith, noted, behind, comes-noted))
+
   -- which entry a core names that is nearly drained
   none_least : (c : Core T W) (k : Option Key) → TellsLeast c k → None ≡ entry_told k → NoneLinked (machine c)
   none_least c None t e = t
@@ -415,7 +436,7 @@ module _ {T W : Type 0} where
   pub comes_into : (s m t : StoreState T W) (c : Core T W) → TakesIn s.cores c m.cores → m.notes ≡ s.notes → OnlyOpens m t → ComesInto s c t
   comes_into s m t c takes notes opens =
       let C : CoreRow T W → List (Core T W) = λ k. k.cores in
-      (ap C opens.0.1 ∙ takes.cores, opens.1 ∙ notes, takes.may.0)
+      (ap C opens.0.1 ∙ takes.cores, opens.1 ∙ notes, takes.may.0, ap (λ k. k.next) opens.0.1 ∙ takes.next, ap (λ k. k.noted) opens.0.1 ∙ takes.noted)
 
   pub comes_same : (s m t : StoreState T W) (c : Core T W) → IsLawfulCore c → TakesIn s.cores c m.cores → m.notes ≡ s.notes → OnlyOpens m t → SameStand (StandsFor s) (StandsFor t)
   comes_same s m t c lawful takes notes opens = then_stand (StandsFor s) (StandsFor m) (StandsFor t) (takes_same s m c lawful takes notes) (opens_same m t opens)

@@ -110,10 +110,17 @@ module _ {T W : Type 0} where
   abbrev pub MayMake : StoreState T W → ℕ → Type 0
   MayMake s n = (length s.cores.cores < CORES) × (n ≤ CAPACITY_LIMIT)
 
-  -- a core in which nothing is linked is the last one from now on, and the others stay
+  -- a core in which nothing is linked is the last one from now on, and the others stay; the number
+  -- above each and the noted tick rise no further than to the core's own
   abbrev pub ComesInto : StoreState T W → Core T W → StoreState T W → Type 0
   ComesInto s c t =
       (t.cores.cores ≡ s.cores.cores ++ c ∷ []) × (t.notes ≡ s.notes) × (linked_in c ≡ 0)
+      × (t.cores.next ≡ max s.cores.next (c.shard + 1))
+      × (t.cores.noted ≡ max s.cores.noted c.noted)
+
+  -- the number above each core stays, and the noted tick does
+  abbrev pub KeepsTick : CoreRow T W → CoreRow T W → Type 0
+  KeepsTick s t = (t.next ≡ s.next) × (t.noted ≡ s.noted)
 
   -- the core that was open is open
   abbrev pub StaysOpen : CoreRow T W → CoreRow T W → Type 0

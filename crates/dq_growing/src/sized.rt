@@ -15,7 +15,7 @@ ghost use Rattle.dq_growing.specs.Notes.{HasNoteRoom, SameNotes, user_at};
 ghost use Rattle.dq_growing.specs.Polls.{DoesPoll, DoesPiece, IfPieceOut, IfPieceRests, NoneLiveIn, TakesDeferredIn};
 ghost use Rattle.dq_growing.specs.Runs.{GivesId, HoldsDeadlines, HoldsOtherDeadlines, KeepsIds, KeepsIdsBeside, KeepsItsDeadline, LeavesInForce, NotDueBefore};
 ghost use Rattle.dq_growing.specs.Sized.{hint_after, hint_asked, KeepsHint, NotesNext};
-ghost use Rattle.dq_growing.specs.Sizing.{anew, way_for, with_work, AllWere, ComesInto, HasClearAt, HasNoRoom, MayNoteWork, OnlyOpens, OpensOne, OpensWanted, StaysOpen, SweepsNext, TellsQuiet, WasBeside};
+ghost use Rattle.dq_growing.specs.Sizing.{anew, way_for, with_work, AllWere, ComesInto, HasClearAt, HasNoRoom, KeepsTick, MayNoteWork, OnlyOpens, OpensOne, OpensWanted, StaysOpen, SweepsNext, TellsQuiet, WasBeside};
 ghost use Rattle.dq_growing.specs.Stands.{KeepsWords, OneLeaves, SameStand};
 ghost use Rattle.dq_growing.specs.Store.{ChangesFor, ChangesThere, ComesFor, GoesOnFor, GoesOut, HasBegunFor, PollsFor, ReapsFor, RelocatesFor, RemovesFor, RemovesIfDueFor, ResetsFor, ResetsThere, StandsFor, TakeRefusedFor, TellsFor};
 
@@ -537,6 +537,7 @@ impl<T, W: Words, A: Allocator + Clone> SizedStore<T, W, A> {
         ensures stands { SameStand (StandsFor self.old.store) (StandsFor self.new.store) }
         ensures keeps { KeepsIds self.old.store self.new.store }
         ensures holds { HoldsDeadlines self.old.store self.new.store }
+        ensures tick { KeepsTick self.old.store.cores self.new.store.cores }
         ensures anew { OnSome result
             (self.new.sizing.sweep ≡ anew self.old.sizing.sweep self.old.store.cores) }
         ensures stays { IfNone result

@@ -13,7 +13,7 @@ ghost use Rattle.dq_core.specs.Core.{Core};
 ghost use Rattle.dq_core.specs.Folds.{IsFoldable};
 ghost use Rattle.dq_growing.specs.Moving.{HasOpenRoom};
 ghost use Rattle.dq_growing.specs.Runs.{HoldsDeadlines, KeepsIds, KeepsIdsBeside};
-ghost use Rattle.dq_growing.specs.Sizing.{anew, clear_slots, slots_in, with_work, HasNoWork, MayNoteWork, HasClearAt, IsRoomier, IsRoomiest, HasNoneToOpen, HasNoRoom, OnlyOpens, ComesInto, OpensIf, OpensWanted, StaysOpen, WasBeside, AllWere, IsNearlyDrained, TellsStraggler, IsStraggler, NoStraggler, MayMake, MayOpen, OpensOne};
+ghost use Rattle.dq_growing.specs.Sizing.{anew, clear_slots, slots_in, with_work, HasNoWork, MayNoteWork, HasClearAt, IsRoomier, IsRoomiest, HasNoneToOpen, HasNoRoom, OnlyOpens, ComesInto, KeepsTick, OpensIf, OpensWanted, StaysOpen, WasBeside, AllWere, IsNearlyDrained, TellsStraggler, IsStraggler, NoStraggler, MayMake, MayOpen, OpensOne};
 ghost use Rattle.dq_growing.specs.declared.TheConstants.{NEVER};
 ghost use Rattle.dq_growing.specs.declared.cores.TakeError.{TakeError};
 ghost use Rattle.dq_growing.specs.declared.sizing.TheConstants.{CORES};
@@ -457,9 +457,10 @@ impl Sizing {
         ensures notes { store.new.notes ≡ store.old.notes }
         ensures stands { SameStand (StandsFor store.old) (StandsFor store.new) }
 
-        // No id is given anew, and no deadline falls.
+        // No id is given anew, no deadline falls, and no tick is noted.
         ensures keeps { KeepsIds store.old store.new }
         ensures holds { HoldsDeadlines store.old store.new }
+        ensures tick { KeepsTick store.old.cores store.new.cores }
 
         // The way of the sweeps begins anew, unless the store is as it was. No work is noted any more.
         ensures anew { OnSome result (self.new.sweep ≡ anew self.old.sweep store.old.cores) }
@@ -495,7 +496,9 @@ impl Sizing {
         ensures stands { SameStand (StandsFor store.old) (StandsFor store.new) }
         ensures keeps { KeepsIds store.old store.new }
         ensures holds { HoldsDeadlines store.old store.new }
+        ensures tick { KeepsTick store.old.cores store.new.cores }
     {
+        store.cores.law();
         let slots = slots(store.cores());
         let Some(core) = store.take_drained() else {
             return None;

@@ -18,3 +18,6 @@ returns-clause-drained g c = rw (← c.self.view_is) c.take_needless.ensures.dra
 
 pub returns-clause-holds : goal.returns-clause-holds
 returns-clause-holds g c = rw (← c.self.view_is) c.take_needless.ensures.holds
+
+pub returns-clause-tick : goal.returns-clause-tick
+returns-clause-tick g c = rw (← c.self.view_is) c.take_needless.ensures.tick

@@ -1,7 +1,7 @@
 use Rattle.std.proofs.Common.{refl, subst, ◌∙◌}
 use Rattle.dq_growing.specs.Cores.{AreCores}
 use Rattle.dq_growing.specs.Store.{StandsFor, StoreState}
-use Rattle.dq_growing.proofs.Sizes.{all_stand, all_were, beside_before, same_open, then_open, then_stand, then_were}
+use Rattle.dq_growing.proofs.Sizes.{all_stand, all_were, beside_before, same_open, same_tick, then_open, then_stand, then_tick, then_were}
 use Rattle.dq_growing.proofs.Keeping.{all_keep, then_keep}
 use Rattle.dq_growing.proofs.Holding.{were_hold}
 use Rattle.dq_growing.proofs.sizing.Sizing.take_needless.Goals as goal
@@ -11,7 +11,7 @@ returns-then-not-has_needless-clause-opens g c = same_open c.args.store.now.core
 
 pub loop-turn-init : goal.loop-turn-init
 loop-turn-init g c =
-    (all_stand (StandsFor c.args.store.now), all_were c.args.store.now.cores c.args.store.now.cores refl, same_open c.args.store.now.cores c.args.store.now.cores refl, refl, all_keep c.args.store.now)
+    (all_stand (StandsFor c.args.store.now), all_were c.args.store.now.cores c.args.store.now.cores refl, same_open c.args.store.now.cores c.args.store.now.cores refl, refl, all_keep c.args.store.now, same_tick c.args.store.now.cores c.args.store.now.cores refl)
 
 pub loop-turn-preserved : goal.loop-turn-preserved
 loop-turn-preserved g c =
@@ -22,6 +22,7 @@ loop-turn-preserved g c =
       then_open c.args.store.now.cores c.loop-turn.store.cores c.take_first.new.store.cores i.2 t.opens,
       t.notes ∙ i.3,
       then_keep c.args.store.now c.loop-turn.store c.take_first.new.store i.4 t.keeps,
+      then_tick c.args.store.now.cores c.loop-turn.store.cores c.take_first.new.store.cores i.5 t.tick,
     )
 
 pub returns-in-Some-clause-drained : goal.returns-in-Some-clause-drained
@@ -58,3 +59,7 @@ returns-in-Some-clause-holds g c =
 
 pub returns-clause-holds : goal.returns-clause-holds
 returns-clause-holds g c = were_hold c.args.store.now c.loop-turn.store c.loop-turn.invariant.1 c.loop-turn.invariant.3
+
+pub returns-in-Some-clause-tick : goal.returns-in-Some-clause-tick
+returns-in-Some-clause-tick g c =
+    then_tick c.args.store.now.cores c.loop-turn.store.cores c.take_first.new.store.cores c.loop-turn.invariant.5 c.take_first.ensures.tick
