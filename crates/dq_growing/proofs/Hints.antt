@@ -21,6 +21,7 @@ use Rattle.dq_core.specs.AtTheCall.{linked_in}
 use Rattle.dq_core.specs.Calls.{FindRefused, IsRemoved, Resets, TellsDeadline}
 use Rattle.dq_core.specs.Sweeps.{Reaps}
 use Rattle.dq_growing.specs.declared.TheConstants.{NEVER}
+use Rattle.dq_growing.specs.declared.cores.TakeError.{TakeError}
 use Rattle.dq_growing.specs.declared.moving.Moved.{Moved}
 use Rattle.dq_growing.specs.declared.moving.Moved.TheVariants.{To, Out}
 use Rattle.dq_growing.specs.declared.moving.NextDeadline.{NextDeadline}
@@ -29,7 +30,7 @@ use Rattle.dq_growing.specs.declared.sweeping.Sweep.{Sweep}
 use Rattle.dq_growing.specs.Cores.{CoreRow, IsClosed, closed_error, AreCores, IsCoreAt, OnCoreAt, OnCore, OnCoreOr, HasNo, InsertsBeside, InsertsIn, SweepsFrom, with_core, missing_error}
 use Rattle.dq_growing.specs.Moving.{IfTo, PutsIn, Relocates, GoesTo, IsTakenOut, next_of}
 use Rattle.dq_growing.specs.Polls.{NoneLiveIn, PollsRow, PollsCore, RestsIn, DoesPoll, DoesPiece, TakesDeferredAt, TakesDeferredIn, IfPieceRests, WakeBounds, noting_in}
-use Rattle.dq_growing.specs.Sized.{hint_after}
+use Rattle.dq_growing.specs.Sized.{hint_after, hint_moved}
 use Rattle.dq_growing.specs.Sizing.{AllWere, GoesOnBehind, ComesInto, OnlyOpens, SweepsNext}
 use Rattle.dq_growing.specs.Notes.{Book, user_at, meant_place}
 use Rattle.dq_growing.specs.Store.{StoreState, IsStore, StandsFor, AtPlace, RemovesAt, RemovesFor, RemovesIfDueFor, TellsFor, ChangesFor, RelocatesAt, RelocatesFor, HasNoMemory, AfterReset, ResetsFor, ResetsThere, PollsFor, ReapsFor, NotesReaped, reset_as, answer_as, key_told, piece_as}
@@ -72,11 +73,19 @@ module _ {T : Type 0} where
   moved_after t u next (Ok (Out x)) r is after = tt {0}
   moved_after t u next (Err e) r is after = tt {0}
 
-  -- a move with the deadline that the entry has asks for none
-  pub stays_after : (t : ℕ) (r : Result (Moved T) CoreError) → IfOk r (λ moved. IfTo moved (λ key d. IsAfter t Same))
-  stays_after t (Ok (To k d)) = tt {0}
-  stays_after t (Ok (Out x)) = tt {0}
-  stays_after t (Err e) = tt {0}
+  -- the hint after a move is not after the deadline that is asked for, nor after the hint before
+  pub hint_goes : (hint : ℕ) (next : NextDeadline) (r : Result (Moved T) CoreError) → IfOk r (λ moved. IfTo moved (λ key d. IsAfter (hint_moved next r hint) next))
+  hint_goes hint Same (Ok (To k d)) = tt {0}
+  hint_goes hint (At tick) (Ok (To k d)) = omega arith
+  hint_goes hint (SameIfAfter tick) (Ok (To k d)) = tt {0}
+  hint_goes hint next (Ok (Out x)) = tt {0}
+  hint_goes hint next (Err e) = tt {0}
+
+  pub hint_lower : (hint : ℕ) (next : NextDeadline) (r : Result (Moved T) CoreError) → hint_moved next r hint ≤ hint
+  hint_lower hint Same r = omega arith
+  hint_lower hint (At tick) (Ok moved) = omega arith
+  hint_lower hint (At tick) (Err e) = omega arith
+  hint_lower hint (SameIfAfter tick) r = omega arith
 
   told_after : (t when : ℕ) (moved : Result (Moved T) CoreError) (r : Result Key CoreError) → r ≡ key_told moved → OnOk r (t ≤ when)
       → IfOk moved (λ x. IfTo x (λ key d. IsAfter t (At when)))
@@ -361,11 +370,11 @@ module _ {T W : Type 0} where
       ⊎_elim
       (λ (y : IsCoreAt s.cores.cores i d). late i d y)
       (λ (y : (i ≡ length s.cores.cores) × (c ≡ d)). let P : Core T W → Type 0 = λ k. NoneLiveBefore (machine k) t in
-      subst P y.1 (λ j e x linked due. absurd (unlinked c lawful comes.2 (record { shard = c.shard; index = j; born = e.born }) e (record { shard = refl; linked = linked; born = refl }))))
+      subst P y.1 (λ j e x linked due. absurd (unlinked c lawful comes.2.0 (record { shard = c.shard; index = j; born = e.born }) e (record { shard = refl; linked = linked; born = refl }))))
       (at_snoc s.cores.cores c d i (subst L comes.0 at))
 
-  pub brings_late : (s k : StoreState T W) (c : Core T W) (t : ℕ) (r : Result (Unit {0}) (Core T W)) → IsLawfulCore c → OnOk r (ComesInto s c k)
-      → IfErr r (λ b. (b ≡ c) × (k.cores ≡ s.cores) × (k.notes ≡ s.notes)) → NoneLiveIn s.cores t → NoneLiveIn k.cores t
+  pub brings_late : (s k : StoreState T W) (c : Core T W) (t : ℕ) (r : Result (Unit {0}) (TakeError × Core T W)) → IsLawfulCore c → OnOk r (ComesInto s c k)
+      → IfErr r (λ e. (e.1 ≡ c) × (k.cores ≡ s.cores) × (k.notes ≡ s.notes)) → NoneLiveIn s.cores t → NoneLiveIn k.cores t
   brings_late s k c t (Ok done) lawful comes back late = comes_late s k c t lawful comes late
   brings_late s k c t (Err b) lawful comes back late = same_late s.cores k.cores t back.1 late
 

@@ -1,5 +1,5 @@
 -- A store that keeps its own size, and its hint.
-use Rattle.std.specs.Prelude.{◌≡◌, ◌≢◌, ◌⊎◌, ℕ, Option, unwrap_or, length, Result, Ok}
+use Rattle.std.specs.Prelude.{◌≡◌, ◌≢◌, ◌⊎◌, ℕ, min, Option, unwrap_or, length, Result, Ok}
 use Rattle.dq_core.specs.declared.errors.CoreError.{CoreError}
 use Rattle.dq_core.specs.declared.outcomes.Turn.TheVariants.{Waiting, Idle}
 use Rattle.dq_core.specs.declared.outcomes.Piece.{Piece}
@@ -8,6 +8,9 @@ use Rattle.dq_core.specs.Calls.{TellsWake}
 use Rattle.dq_core.specs.Core.{Core}
 use Rattle.dq_growing.specs.Cores.{CoreRow, IsCoreAt}
 use Rattle.dq_growing.specs.declared.TheConstants.{NEVER}
+use Rattle.dq_growing.specs.declared.moving.Moved.{Moved}
+use Rattle.dq_growing.specs.declared.moving.NextDeadline.{NextDeadline}
+use Rattle.dq_growing.specs.declared.moving.NextDeadline.TheVariants.{At}
 use Rattle.dq_growing.specs.declared.sizing.Sizing.{Sizing}
 use Rattle.dq_growing.specs.Store.{StoreState}
 
@@ -22,6 +25,11 @@ abbrev pub hint_after : {T : Type 0} → Result (Piece T) CoreError → ℕ → 
 hint_after (Ok (Answer (Waiting next))) hint = next
 hint_after (Ok (Answer Idle)) hint = NEVER
 hint_after r hint = hint
+
+-- the hint after a move: not after the deadline that was asked for; as before where none was
+abbrev pub hint_moved : {T : Type 0} → NextDeadline → Result (Moved T) CoreError → ℕ → ℕ
+hint_moved (At tick) (Ok moved) hint = min hint tick
+hint_moved next r hint = hint
 
 -- what is known of the size stays, and the hint does
 abbrev pub KeepsHint : {T W : Type 0} → SizedState T W → SizedState T W → Type 0

@@ -8,18 +8,18 @@ ghost use Rattle.std.specs.Prelude.{◌≡◌, ◌≤◌, ◌<◌, ◌↔◌, �
 ghost use Rattle.std.specs.Fn.{FnOnceReturnsAtMut};
 ghost use Rattle.dq_ticks.specs.Keys.{EntryName};
 ghost use Rattle.dq_core.specs.Folds.{IsFoldable};
-ghost use Rattle.dq_growing.specs.Cores.{InsertsIn};
-ghost use Rattle.dq_growing.specs.Moving.{HasBegunIn, HasOpenRoom, IfCameOut, IfTo};
+ghost use Rattle.dq_growing.specs.Cores.{AreCores, HasNo, InsertsIn};
+ghost use Rattle.dq_growing.specs.Moving.{HasBegunIn, HasOpenRoom, IfCameOut, IfTo, UnlessTo};
 ghost use Rattle.dq_growing.specs.Notes.{HasNoteRoom, SameNotes, user_at};
 ghost use Rattle.dq_growing.specs.Polls.{DoesPoll, DoesPiece, IfPieceOut, IfPieceRests, NoneLiveIn, TakesDeferredIn};
-ghost use Rattle.dq_growing.specs.Runs.{GivesId, HoldsDeadlines, HoldsOtherDeadlines, KeepsIds, KeepsIdsBeside, LeavesInForce, NotDueBefore};
-ghost use Rattle.dq_growing.specs.Sized.{hint_after, KeepsHint, NotesNext};
+ghost use Rattle.dq_growing.specs.Runs.{GivesId, HoldsDeadlines, HoldsOtherDeadlines, KeepsIds, KeepsIdsBeside, KeepsItsDeadline, LeavesInForce, NotDueBefore};
+ghost use Rattle.dq_growing.specs.Sized.{hint_after, hint_moved, KeepsHint, NotesNext};
 ghost use Rattle.dq_growing.specs.Sizing.{anew, way_for, with_work, AllWere, ComesInto, HasClearAt, HasNoRoom, MayNoteWork, OnlyOpens, OpensOne, OpensWanted, StaysOpen, SweepsNext, TellsQuiet, WasBeside};
 ghost use Rattle.dq_growing.specs.Stands.{KeepsWords, OneLeaves, SameStand};
-ghost use Rattle.dq_growing.specs.Store.{ChangesFor, ChangesThere, ComesFor, GoesOnFor, GoesOut, HasBegunFor, PollsFor, ReapsFor, RelocatesFor, RemovesFor, RemovesIfDueFor, ResetsFor, ResetsThere, StandsFor, TellsFor};
+ghost use Rattle.dq_growing.specs.Store.{ChangesFor, ChangesThere, ComesFor, GoesOnFor, GoesOut, HasBegunFor, HasOneValue, IsStore, KeysAreApart, PollsFor, ReapsFor, RelocatesFor, RemovesFor, RemovesIfDueFor, ResetsFor, ResetsThere, StandsFor, TakeRefusedFor, TellsFor};
 
 use crate::NEVER;
-use crate::cores::Cores;
+use crate::cores::{Cores, TakeError};
 use crate::moving::{Moved, NextDeadline};
 use crate::notes::Notes;
 use crate::polls::wake_of;
@@ -33,7 +33,7 @@ use std::marker::Model;
 /// A store, what is known of its size, and its hint.
 #[derive(Drop)]
 pub struct SizedStore<T, W: Words, A: Allocator = Global> {
-    store: Store<T, W, A>,
+    pub(crate) store: Store<T, W, A>,
     sizing: Sizing,
     hint: u64,
 }
@@ -58,6 +58,20 @@ fn note_hint<T>(hint: &mut u64, made: &Result<Piece<T>, CoreError>)
         Ok(Piece::Answer(Turn::Waiting { next })) => *hint = *next,
         Ok(Piece::Answer(Turn::Idle)) => *hint = NEVER,
         _ => {}
+    }
+}
+
+// Notes a move: the hint is not after the deadline that was asked for.
+#[inline(always)]
+fn note_move<T>(hint: &mut u64, next: NextDeadline, made: &Result<Moved<T>, CoreError>)
+    ensures { hint.new ≡ hint_moved next made.now hint.old }
+{
+    match next {
+        NextDeadline::At(tick) => match made {
+            Ok(_) => *hint = (*hint).min(tick),
+            Err(_) => {}
+        },
+        NextDeadline::Same | NextDeadline::SameIfAfter(_) => {}
     }
 }
 
@@ -131,6 +145,16 @@ impl<T, W: Words + Drop, A: Allocator + Clone> SizedStore<T, W, A> {
 
 // Calls on entries: each is one call of the store, and the hint follows.
 impl<T, W: Words, A: Allocator + Clone> SizedStore<T, W, A> {
+    /// What its store keeps at all times, as [`Store::law`] tells.
+    pub fn law(&self)
+        ensures law { IsStore self.now.store }
+        ensures cores { AreCores self.now.store.cores }
+        ensures apart { KeysAreApart self.now.store }
+        ensures one { (id : EntryName) → HasOneValue self.now.store id }
+    {
+        self.store.law();
+    }
+
     /// Puts `value` in, as [`Store::insert`] does. The hint is not after `when` then.
     ///
     /// # Errors
@@ -271,12 +295,16 @@ impl<T, W: Words, A: Allocator + Clone> SizedStore<T, W, A> {
         answer
     }
 
-    /// Takes an entry on into the open core with the deadline that it has, as [`Store::relocate`] does. The hint stays: it
-    /// is due when it was.
+    /// Takes an entry on into the open core with the deadline that `next` makes of the one that it has, as
+    /// [`Store::relocate`] does. The hint is not after one that is asked for then; else it stays.
     ///
     /// # Errors
     /// As there.
-    pub fn relocate(&mut self, entry: &EntryId) -> (Result<Moved<T>, CoreError>, Option<T>)
+    pub fn relocate(
+        &mut self,
+        entry: &EntryId,
+        next: NextDeadline,
+    ) -> (Result<Moved<T>, CoreError>, Option<T>)
         ensures goes_on { IfOk result.0 (λ moved. IfTo moved (λ key deadline.
             (key.entry ≡ entry.now)
             × GoesOnFor self.old.store entry.now deadline self.new.store)) }
@@ -287,19 +315,23 @@ impl<T, W: Words, A: Allocator + Clone> SizedStore<T, W, A> {
         ensures refused { OnErr result.0
             (SameStand (StandsFor self.old.store) (StandsFor self.new.store)) }
         ensures relocates { RelocatesFor W.shared
-            self.old.store entry.now NextDeadline.Same result self.new.store }
+            self.old.store entry.now next result self.new.store }
         ensures words { KeepsWords W.origin W.begun self.old.store.cores self.new.store.cores }
         ensures keeps { KeepsIds self.old.store self.new.store }
-        ensures holds { HoldsDeadlines self.old.store self.new.store }
+        ensures holds { HoldsOtherDeadlines entry.now self.old.store self.new.store }
+        ensures same { KeepsItsDeadline next → HoldsDeadlines self.old.store self.new.store }
+        ensures unless { UnlessTo result.0 (HoldsDeadlines self.old.store self.new.store) }
         ensures due { IfOk result.0 (λ moved. IfTo moved
             (λ _ deadline. NotDueBefore self.new.store entry.now deadline)) }
-        ensures told { IfOk result.0 (λ moved. IfTo moved
+        ensures told { KeepsItsDeadline next → IfOk result.0 (λ moved. IfTo moved
             (λ _ deadline. LeavesInForce self.old.store entry.now deadline)) }
         ensures in_force { IfOk result.0 (λ moved. IfCameOut moved
             (λ x. LeavesInForce self.old.store entry.now x.deadline)) }
-        ensures rest { KeepsHint self.old self.new }
+        ensures hint { self.new.hint ≡ hint_moved next result.0 self.old.hint }
+        ensures sizing { self.new.sizing ≡ self.old.sizing }
     {
-        let answer = self.store.relocate(entry, NextDeadline::Same);
+        let answer = self.store.relocate(entry, next);
+        note_move(&mut self.hint, next, &answer.0);
         answer
     }
 
@@ -462,13 +494,14 @@ impl<T, W: Words, A: Allocator + Clone> SizedStore<T, W, A> {
     ///
     /// # Errors
     /// The core comes back, and nothing changes in the store.
-    pub fn bring(&mut self, core: DelayCore<T, W, A>) -> Result<(), DelayCore<T, W, A>>
+    pub fn bring(&mut self, core: DelayCore<T, W, A>) -> Result<(), (TakeError, DelayCore<T, W, A>)>
         ensures comes { OnOk result (ComesInto self.old.store core self.new.store) }
+        ensures refused { IfErr result (λ e. TakeRefusedFor self.old.store core e.0) }
         ensures opens { OnOk result (OpensWanted self.old.store.cores self.new.store.cores) }
         ensures stands { SameStand (StandsFor self.old.store) (StandsFor self.new.store) }
         ensures keeps { KeepsIdsBeside core self.old.store self.new.store }
         ensures holds { HoldsDeadlines self.old.store self.new.store }
-        ensures back { IfErr result (λ c. (c ≡ core)
+        ensures back { IfErr result (λ e. (e.1 ≡ core)
             × (self.new.store.cores ≡ self.old.store.cores)
             × (self.new.store.notes ≡ self.old.store.notes)) }
         ensures notes { self.new.sizing ≡ with_work
@@ -482,6 +515,7 @@ impl<T, W: Words, A: Allocator + Clone> SizedStore<T, W, A> {
     /// Takes a core out that has drained and isn't needed soon, as [`Sizing::take_needless`] tells.
     pub fn take_needless(&mut self) -> Option<DelayCore<T, W, A>>
         ensures drained { IfSome result (λ c. IsFoldable c × WasBeside self.old.store.cores c) }
+        ensures gone { IfSome result (λ c. HasNo self.new.store.cores.cores c.shard) }
         ensures opens { StaysOpen self.old.store.cores self.new.store.cores }
         ensures were { AllWere self.old.store.cores self.new.store.cores }
         ensures notes { self.new.store.notes ≡ self.old.store.notes }

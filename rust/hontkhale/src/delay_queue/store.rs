@@ -6,7 +6,7 @@ use crate::core::{CoreError, DelayCore, Piece, Removed, Turn};
 use crate::delay_queue::key::Key;
 use crate::delay_queue::receive::Step;
 use crate::delay_queue::stats::Counts;
-use crate::growing::{Folds, SizedStore};
+use crate::growing::{Folds, NextDeadline, SizedStore};
 use crate::ticks::{self, EntryId};
 use crate::words::Keeper;
 use std::mem::{needs_drop, size_of};
@@ -261,7 +261,7 @@ impl<T> Shard<T> {
             // Another core that is open now may be the entry's own.
             _ if !self.entries.finds_room(true) || self.entries.store().cores().opened() != open => false,
             _ => {
-                let moves = self.entries.relocate(&entry).0.is_ok();
+                let moves = self.entries.relocate(&entry, NextDeadline::Same).0.is_ok();
                 if moves {
                     self.note_moved();
                 }

@@ -5,7 +5,7 @@
 //! nothing due sets it anew.
 
 use crate::core::{CoreError, DelayCore, Piece, ReapError, Removed, Turn, Words};
-use crate::growing::cores::Cores;
+use crate::growing::cores::{Cores, TakeError};
 use crate::growing::moving::{Moved, NextDeadline};
 use crate::growing::notes::Notes;
 use crate::growing::polls::wake_of;
@@ -17,7 +17,7 @@ use crate::ticks::{EntryId, Key};
 
 /// A store, what is known of its size, and its hint.
 pub struct SizedStore<T, W: Words> {
-    store: Store<T, W>,
+    pub(crate) store: Store<T, W>,
     sizing: Sizing,
     hint: u64,
 }
@@ -29,6 +29,18 @@ fn note_hint<T>(hint: &mut u64, made: &Result<Piece<T>, CoreError>) {
         Ok(Piece::Answer(Turn::Waiting { next })) => *hint = *next,
         Ok(Piece::Answer(Turn::Idle)) => *hint = NEVER,
         _ => {}
+    }
+}
+
+// Notes a move: the hint is not after the deadline that was asked for.
+#[inline(always)]
+fn note_move<T>(hint: &mut u64, next: NextDeadline, made: &Result<Moved<T>, CoreError>) {
+    match next {
+        NextDeadline::At(tick) => match made {
+            Ok(_) => *hint = (*hint).min(tick),
+            Err(_) => {}
+        },
+        NextDeadline::Same | NextDeadline::SameIfAfter(_) => {}
     }
 }
 
@@ -144,13 +156,15 @@ impl<T, W: Words> SizedStore<T, W> {
         answer
     }
 
-    /// Takes an entry on into the open core with the deadline that it has, as [`Store::relocate`] does. The hint stays: it
-    /// is due when it was.
+    /// Takes an entry on into the open core with the deadline that `next` makes of the one that it has, as
+    /// [`Store::relocate`] does. The hint is not after one that is asked for then; else it stays.
     ///
     /// # Errors
     /// As there.
-    pub fn relocate(&mut self, entry: &EntryId) -> (Result<Moved<T>, CoreError>, Option<T>) {
-        self.store.relocate(entry, NextDeadline::Same)
+    pub fn relocate(&mut self, entry: &EntryId, next: NextDeadline) -> (Result<Moved<T>, CoreError>, Option<T>) {
+        let answer = self.store.relocate(entry, next);
+        note_move(&mut self.hint, next, &answer.0);
+        answer
     }
 
     /// Frees a cancelled entry, as [`Store::reap`] does.
@@ -235,7 +249,7 @@ impl<T, W: Words> SizedStore<T, W> {
     /// # Errors
     /// The core comes back, and nothing changes in the store.
     #[allow(clippy::result_large_err)]
-    pub fn bring(&mut self, core: DelayCore<T, W>) -> Result<(), DelayCore<T, W>> {
+    pub fn bring(&mut self, core: DelayCore<T, W>) -> Result<(), (TakeError, DelayCore<T, W>)> {
         self.sizing.bring(&mut self.store, core)
     }
 

@@ -18,3 +18,6 @@ returns-clause-opens g c = rw (← c.self.view_is) c.bring.ensures.opens
 
 pub returns-clause-holds : goal.returns-clause-holds
 returns-clause-holds g c = rw (← c.self.view_is) c.bring.ensures.holds
+
+pub returns-clause-refused : goal.returns-clause-refused
+returns-clause-refused g c = rw (← c.self.view_is) c.bring.ensures.refused

@@ -1,6 +1,8 @@
-use Rattle.std.proofs.Common.{◌∙◌}
-use Rattle.dq_growing.specs.Store.{StandsFor}
-use Rattle.dq_growing.proofs.Sizes.{all_were, comes_were, gives_open, gives_same, gives_were, same_open, stays, then_open, then_stand, then_were, was_beside}
+use Rattle.std.proofs.Common.{sym, ◌∙◌, subst}
+use Rattle.dq_core.specs.Core.{Core}
+use Rattle.dq_growing.specs.Cores.{AreCores, HasNo}
+use Rattle.dq_growing.specs.Store.{StandsFor, StoreState}
+use Rattle.dq_growing.proofs.Sizes.{all_were, comes_were, gives_gone, gives_open, gives_same, gives_were, same_open, stays, still_gone, then_open, then_stand, then_were, was_beside}
 use Rattle.dq_growing.proofs.Keeping.{back_in_keep}
 use Rattle.dq_growing.proofs.Holding.{were_hold}
 use Rattle.dq_growing.proofs.sizing.Sizing.take_first.Goals as goal
@@ -27,16 +29,16 @@ returns-then-is_needless-clause-opens g c = gives_open c.args.store.now.cores c.
 
 pub returns-then-is_needless-clause-stands : goal.returns-then-is_needless-clause-stands
 returns-then-is_needless-clause-stands g c =
-    gives_same c.args.store.now c.take_drained.new.self c.in-Some.core c.law.ensures.shard c.in-Some.ensures.gives c.in-Some.ensures.notes
+    gives_same c.args.store.now c.take_drained.new.self c.in-Some.core c.law-2.ensures.shard c.in-Some.ensures.gives c.in-Some.ensures.notes
 
 pub returns-in-Err-clause-stands : goal.returns-in-Err-clause-stands
 returns-in-Err-clause-stands g c =
-    let gone = gives_same c.args.store.now c.take_drained.new.self c.in-Some.core c.law.ensures.shard c.in-Some.ensures.gives c.in-Some.ensures.notes in
+    let gone = gives_same c.args.store.now c.take_drained.new.self c.in-Some.core c.law-2.ensures.shard c.in-Some.ensures.gives c.in-Some.ensures.notes in
     then_stand (StandsFor c.args.store.now) (StandsFor c.take_drained.new.self) (StandsFor c.take_in.new.store) gone c.take_in.ensures.stands
 
 pub returns-clause-stands : goal.returns-clause-stands
 returns-clause-stands g c =
-    let gone = gives_same c.args.store.now c.take_drained.new.self c.in-Some.core c.law.ensures.shard c.in-Some.ensures.gives c.in-Some.ensures.notes in
+    let gone = gives_same c.args.store.now c.take_drained.new.self c.in-Some.core c.law-2.ensures.shard c.in-Some.ensures.gives c.in-Some.ensures.notes in
     then_stand (StandsFor c.args.store.now) (StandsFor c.take_drained.new.self) (StandsFor c.take_in.new.store) gone c.take_in.ensures.stands
 
 pub returns-in-Err-clause-were : goal.returns-in-Err-clause-were
@@ -90,3 +92,16 @@ returns-clause-holds g c =
     (gives_were c.args.store.now.cores c.take_drained.new.self.cores c.in-Some.core gives)
     c.in_default-take_in.ensures.comes.0)
     (c.take_in.ensures.notes ∙ c.take_drained.ensures.notes)
+
+pub returns-then-is_needless-clause-gone : goal.returns-then-is_needless-clause-gone
+returns-then-is_needless-clause-gone g c =
+    let P : StoreState g.row.T.Denot g.row.W.Denot → Type 0 = λ s. AreCores s.cores in
+    gives_gone c.args.store.now.cores c.take_drained.new.self.cores c.in-Some.core (subst P c.store.view_is c.law.ensures) c.in-Some.ensures.gives
+
+pub returns-in-Err-clause-gone : goal.returns-in-Err-clause-gone
+returns-in-Err-clause-gone g c =
+    let P : StoreState g.row.T.Denot g.row.W.Denot → Type 0 = λ s. AreCores s.cores in
+    let N : Core g.row.T.Denot g.row.W.Denot → Type 0 = λ k. HasNo c.take_in.new.store.cores.cores k.shard in
+    subst N (sym c.in-Err.ensures.back.0)
+    (still_gone c.take_drained.new.self.cores c.take_in.new.store.cores c.in-Some.core.shard c.in-Err.ensures.back.1
+    (gives_gone c.args.store.now.cores c.take_drained.new.self.cores c.in-Some.core (subst P c.store.view_is c.law.ensures) c.in-Some.ensures.gives))
