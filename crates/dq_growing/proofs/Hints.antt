@@ -21,6 +21,7 @@ use Rattle.dq_core.specs.AtTheCall.{linked_in}
 use Rattle.dq_core.specs.Calls.{FindRefused, IsRemoved, Resets, TellsDeadline}
 use Rattle.dq_core.specs.Sweeps.{Reaps}
 use Rattle.dq_growing.specs.declared.TheConstants.{NEVER}
+use Rattle.dq_growing.specs.declared.cores.TakeError.{TakeError}
 use Rattle.dq_growing.specs.declared.moving.Moved.{Moved}
 use Rattle.dq_growing.specs.declared.moving.Moved.TheVariants.{To, Out}
 use Rattle.dq_growing.specs.declared.moving.NextDeadline.{NextDeadline}
@@ -387,11 +388,11 @@ module _ {T W : Type 0} where
       ⊎_elim
       (λ (y : IsCoreAt s.cores.cores i d). late i d y)
       (λ (y : (i ≡ length s.cores.cores) × (c ≡ d)). let P : Core T W → Type 0 = λ k. NoneLiveBefore (machine k) t in
-      subst P y.1 (λ j e x linked due. absurd (unlinked c lawful comes.2 (record { shard = c.shard; index = j; born = e.born }) e (record { shard = refl; linked = linked; born = refl }))))
+      subst P y.1 (λ j e x linked due. absurd (unlinked c lawful comes.2.0 (record { shard = c.shard; index = j; born = e.born }) e (record { shard = refl; linked = linked; born = refl }))))
       (at_snoc s.cores.cores c d i (subst L comes.0 at))
 
-  pub brings_late : (s k : StoreState T W) (c : Core T W) (t : ℕ) (r : Result (Unit {0}) (Core T W)) → IsLawfulCore c → OnOk r (ComesInto s c k)
-      → IfErr r (λ b. (b ≡ c) × (k.cores ≡ s.cores) × (k.notes ≡ s.notes)) → NoneLiveIn s.cores t → NoneLiveIn k.cores t
+  pub brings_late : (s k : StoreState T W) (c : Core T W) (t : ℕ) (r : Result (Unit {0}) (TakeError × Core T W)) → IsLawfulCore c → OnOk r (ComesInto s c k)
+      → IfErr r (λ e. (e.1 ≡ c) × (k.cores ≡ s.cores) × (k.notes ≡ s.notes)) → NoneLiveIn s.cores t → NoneLiveIn k.cores t
   brings_late s k c t (Ok done) lawful comes back late = comes_late s k c t lawful comes late
   brings_late s k c t (Err b) lawful comes back late = same_late s.cores k.cores t back.1 late
 

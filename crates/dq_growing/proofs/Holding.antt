@@ -571,15 +571,15 @@ module _ {T W : Type 0} where
       ⊎_elim
       (λ (y : IsCoreAt s.cores.cores z.0 z.1). (e, (z.0, z.1, y, z.3), (λ d h. h)))
       (λ (y : (z.0 ≡ length s.cores.cores) × (c ≡ z.1)). let N : Core T W → Type 0 = λ k. (v : EntryId) (f : Entry T) → IsThere k v f → ⊥ in
-      absurd ((subst N y.1 (unlinked c lawful comes.2)) q e z.3))
+      absurd ((subst N y.1 (unlinked c lawful comes.2.0)) q e z.3))
       (at_snoc s.cores.cores c z.1 z.0 (subst P comes.0 z.2)))
       (λ q e z. ap (λ n. user_at n q) comes.1) u
 
   pub opened_comes : (s m t : StoreState T W) (c : Core T W) (o : Bool) (place : ℕ) → TakesIn s.cores c m.cores → m.notes ≡ s.notes
       → (o ≡ true → (place < length m.cores.cores) × (t.cores ≡ record m.cores { opened = place })) → (o ≡ false → (length m.cores.cores ≤ place) × (t.cores ≡ m.cores))
       → t.notes ≡ m.notes → ComesInto s c t
-  opened_comes s m t c true place takes notes opens refused same = (ap (λ k. k.cores) (opens refl).1 ∙ takes.cores, same ∙ notes, takes.may.0, ap (λ k. k.next) (opens refl).1 ∙ takes.next, ap (λ k. k.noted) (opens refl).1 ∙ takes.noted)
-  opened_comes s m t c false place takes notes opens refused same = (ap (λ k. k.cores) (refused refl).1 ∙ takes.cores, same ∙ notes, takes.may.0, ap (λ k. k.next) (refused refl).1 ∙ takes.next, ap (λ k. k.noted) (refused refl).1 ∙ takes.noted)
+  opened_comes s m t c true place takes notes opens refused same = (ap (λ k. k.cores) (opens refl).1 ∙ takes.cores, same ∙ notes, takes.may, ap (λ k. k.next) (opens refl).1 ∙ takes.next, ap (λ k. k.noted) (opens refl).1 ∙ takes.noted)
+  opened_comes s m t c false place takes notes opens refused same = (ap (λ k. k.cores) (refused refl).1 ∙ takes.cores, same ∙ notes, takes.may, ap (λ k. k.next) (refused refl).1 ∙ takes.next, ap (λ k. k.noted) (refused refl).1 ∙ takes.noted)
 
   -- each core is one that was there
   pub were_hold : (s t : StoreState T W) → AllWere s.cores t.cores → t.notes ≡ s.notes → HoldsDeadlines s t

@@ -18,7 +18,7 @@ use Rattle.dq_core.specs.Readers.{TellsLeast}
 use Rattle.dq_ticks.specs.declared.keys.Key.{Key}
 use Rattle.dq_core.specs.declared.outcomes.Swept.{Swept}
 use Rattle.dq_growing.specs.declared.sweeping.Sweep.{Sweep}
-use Rattle.dq_growing.specs.Cores.{CoreRow, AreCores, IsCoreAt, OnCoreAt, SweepsFrom, GivesDrained, TakesIn, opened_without}
+use Rattle.dq_growing.specs.Cores.{CoreRow, AreCores, HasNo, IsCoreAt, OnCoreAt, SweepsFrom, GivesDrained, TakesIn, opened_without}
 use Rattle.dq_growing.specs.declared.sizing.Room.{Room}
 use Rattle.dq_growing.specs.Notes.{Book}
 use Rattle.dq_growing.specs.Moving.{HasOpenRoom}
@@ -290,6 +290,22 @@ module _ {T W : Type 0} where
       let P : CoreRow T W → Type 0 = λ k. StaysOpen s k in
       subst P (sym gives.rest) (λ d at. gives_place s gives.place d gives.drained.0.0 gives.drained.1 at)
 
+  -- no other core has the number of one that went
+  pub gives_gone : (s t : CoreRow T W) (c : Core T W) → AreCores s → GivesDrained s c t → HasNo t.cores c.shard
+  gives_gone s t c law gives i d at same =
+      let P : CoreRow T W → Type 0 = λ k. IsCoreAt k.cores i d in
+      ⊎_elim
+      (λ (y : (i < gives.place) × IsCoreAt s.cores i d).
+      let less = y.0 in
+      let e : i ≡ gives.place = law.apart i gives.place d c y.1 gives.drained.0 same in absurd (omega (arith, less, e)))
+      (λ (y : (gives.place ≤ i) × IsCoreAt s.cores (i + 1) d).
+      let more = y.0 in
+      let e : i + 1 ≡ gives.place = law.apart (i + 1) gives.place d c y.1 gives.drained.0 same in absurd (omega (arith, more, e)))
+      (removed_at s.cores gives.place i d gives.drained.0.0 (subst P gives.rest at))
+
+  pub still_gone : (m t : CoreRow T W) (n : ℕ) → t ≡ m → HasNo m.cores n → HasNo t.cores n
+  still_gone m t n same none = let P : CoreRow T W → Type 0 = λ k. HasNo k.cores n in subst P (sym same) none
+
   -- which cores there were
   pub was_beside : (s t : CoreRow T W) (c : Core T W) → GivesDrained s c t → WasBeside s c
   was_beside s t c gives = (gives.place, gives.drained.1, gives.drained.0)
@@ -436,7 +452,7 @@ module _ {T W : Type 0} where
   pub comes_into : (s m t : StoreState T W) (c : Core T W) → TakesIn s.cores c m.cores → m.notes ≡ s.notes → OnlyOpens m t → ComesInto s c t
   comes_into s m t c takes notes opens =
       let C : CoreRow T W → List (Core T W) = λ k. k.cores in
-      (ap C opens.0.1 ∙ takes.cores, opens.1 ∙ notes, takes.may.0, ap (λ k. k.next) opens.0.1 ∙ takes.next, ap (λ k. k.noted) opens.0.1 ∙ takes.noted)
+      (ap C opens.0.1 ∙ takes.cores, opens.1 ∙ notes, takes.may, ap (λ k. k.next) opens.0.1 ∙ takes.next, ap (λ k. k.noted) opens.0.1 ∙ takes.noted)
 
   pub comes_same : (s m t : StoreState T W) (c : Core T W) → IsLawfulCore c → TakesIn s.cores c m.cores → m.notes ≡ s.notes → OnlyOpens m t → SameStand (StandsFor s) (StandsFor t)
   comes_same s m t c lawful takes notes opens = then_stand (StandsFor s) (StandsFor m) (StandsFor t) (takes_same s m c lawful takes notes) (opens_same m t opens)

@@ -10,7 +10,7 @@ use Rattle.dq_core.specs.Deferring.{waiting_in}
 use Rattle.dq_core.specs.AtTheCall.{linked_in}
 use Rattle.dq_core.specs.Core.{Core, machine}
 use Rattle.dq_core.specs.Machine.{NoneLinked}
-use Rattle.dq_growing.specs.Cores.{CoreRow, IsCoreAt, OnCoreAt, SweepsFrom}
+use Rattle.dq_growing.specs.Cores.{CoreRow, IsCoreAt, MayComeIn, OnCoreAt, SweepsFrom}
 use Rattle.dq_growing.specs.Moving.{worn_in}
 use Rattle.dq_growing.specs.declared.TheConstants.{NEVER}
 use Rattle.dq_growing.specs.declared.sizing.Room.{Room}
@@ -110,11 +110,11 @@ module _ {T W : Type 0} where
   abbrev pub MayMake : StoreState T W → ℕ → Type 0
   MayMake s n = (length s.cores.cores < CORES) × (n ≤ CAPACITY_LIMIT)
 
-  -- a core in which nothing is linked is the last one from now on, and the others stay; the number
-  -- above each and the noted tick rise no further than to the core's own
+  -- a core that may come in is the last one from now on, and the others stay; the number above each and
+  -- the noted tick rise no further than to the core's own
   abbrev pub ComesInto : StoreState T W → Core T W → StoreState T W → Type 0
   ComesInto s c t =
-      (t.cores.cores ≡ s.cores.cores ++ c ∷ []) × (t.notes ≡ s.notes) × (linked_in c ≡ 0)
+      (t.cores.cores ≡ s.cores.cores ++ c ∷ []) × (t.notes ≡ s.notes) × MayComeIn s.cores c
       × (t.cores.next ≡ max s.cores.next (c.shard + 1))
       × (t.cores.noted ≡ max s.cores.noted c.noted)
 

@@ -5,6 +5,7 @@ ghost use Rattle.dq_core.specs.Core.{IsLawfulCore};
 ghost use Rattle.dq_growing.specs.Cores.{EachOf};
 
 use crate::cores::Cores;
+use crate::sized::SizedStore;
 use crate::store::Store;
 use dq_core::{BesideWords, Words};
 use std::alloc::Allocator;
@@ -41,5 +42,21 @@ impl<T, W: Words, A: Allocator + Clone> Store<T, W, A> {
         ensures same { (self.new ≡ self.old) × (other.new ≡ other.old) }
     {
         self.cores.beside(number, other);
+    }
+}
+
+impl<T, W: Words, A: Allocator + Clone> SizedStore<T, W, A> {
+    /// Tells the same of its store's cores. Nothing changes.
+    pub fn beside<C>(&mut self, number: u32, other: &mut C)
+    where
+        W: BesideWords<C>,
+        requires { EachOf self.old.store.cores number (λ c. W.sits c.words other.old) }
+        ensures together { EachOf self.old.store.cores number
+            (λ c. W.together c.words other.old) }
+        ensures lawful { EachOf self.old.store.cores number
+            (λ c. IsLawfulCore c × (c.known ≡ W.known c.words) × W.keeps c.words) }
+        ensures same { (self.new ≡ self.old) × (other.new ≡ other.old) }
+    {
+        self.store.beside(number, other);
     }
 }

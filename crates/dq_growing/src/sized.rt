@@ -8,8 +8,7 @@ ghost use Rattle.std.specs.Prelude.{◌≡◌, ◌≤◌, ◌<◌, ◌↔◌, �
 ghost use Rattle.std.specs.Fn.{FnOnceReturnsAtMut};
 ghost use Rattle.dq_ticks.specs.Keys.{EntryName};
 ghost use Rattle.dq_core.specs.Folds.{IsFoldable};
-ghost use Rattle.dq_growing.specs.Cores.{InsertsIn};
-ghost use Rattle.dq_growing.specs.declared.cores.TakeError.{TakeError};
+ghost use Rattle.dq_growing.specs.Cores.{AreCores, HasNo, InsertsIn};
 ghost use Rattle.dq_growing.specs.Moving.{HasBegunIn, HasOpenRoom, IfCameOut, IfTo, UnlessTo};
 ghost use Rattle.dq_growing.specs.Notes.{HasNoteRoom, SameNotes, user_at};
 ghost use Rattle.dq_growing.specs.Polls.{DoesPoll, DoesPiece, IfPieceOut, IfPieceRests, NoneLiveIn, TakesDeferredIn};
@@ -17,10 +16,10 @@ ghost use Rattle.dq_growing.specs.Runs.{GivesId, HoldsDeadlines, HoldsOtherDeadl
 ghost use Rattle.dq_growing.specs.Sized.{hint_after, hint_asked, KeepsHint, NotesNext};
 ghost use Rattle.dq_growing.specs.Sizing.{anew, way_for, with_work, AllWere, ComesInto, HasClearAt, HasNoRoom, KeepsTick, MayNoteWork, OnlyOpens, OpensOne, OpensWanted, StaysOpen, SweepsNext, TellsQuiet, WasBeside};
 ghost use Rattle.dq_growing.specs.Stands.{KeepsWords, OneLeaves, SameStand};
-ghost use Rattle.dq_growing.specs.Store.{ChangesFor, ChangesThere, ComesFor, GoesOnFor, GoesOut, HasBegunFor, PollsFor, ReapsFor, RelocatesFor, RemovesFor, RemovesIfDueFor, ResetsFor, ResetsThere, StandsFor, TakeRefusedFor, TellsFor};
+ghost use Rattle.dq_growing.specs.Store.{ChangesFor, ChangesThere, ComesFor, GoesOnFor, GoesOut, HasBegunFor, HasOneValue, IsStore, KeysAreApart, PollsFor, ReapsFor, RelocatesFor, RemovesFor, RemovesIfDueFor, ResetsFor, ResetsThere, StandsFor, TakeRefusedFor, TellsFor};
 
 use crate::NEVER;
-use crate::cores::Cores;
+use crate::cores::{Cores, TakeError};
 use crate::moving::{Moved, NextDeadline};
 use crate::notes::Notes;
 use crate::polls::wake_of;
@@ -34,7 +33,7 @@ use std::marker::Model;
 /// A store, what is known of its size, and its hint.
 #[derive(Drop)]
 pub struct SizedStore<T, W: Words, A: Allocator = Global> {
-    store: Store<T, W, A>,
+    pub(crate) store: Store<T, W, A>,
     sizing: Sizing,
     hint: u64,
 }
@@ -141,6 +140,16 @@ impl<T, W: Words + Drop, A: Allocator + Clone> SizedStore<T, W, A> {
 
 // Calls on entries: each is one call of the store, and the hint follows.
 impl<T, W: Words, A: Allocator + Clone> SizedStore<T, W, A> {
+    /// What its store keeps at all times, as [`Store::law`] tells.
+    pub fn law(&self)
+        ensures law { IsStore self.now.store }
+        ensures cores { AreCores self.now.store.cores }
+        ensures apart { KeysAreApart self.now.store }
+        ensures one { (id : EntryName) → HasOneValue self.now.store id }
+    {
+        self.store.law();
+    }
+
     /// Puts `value` in, as [`Store::insert`] does. The hint is not after `when` then.
     ///
     /// # Errors
@@ -509,17 +518,16 @@ impl<T, W: Words, A: Allocator + Clone> SizedStore<T, W, A> {
     ///
     /// # Errors
     /// The core comes back, and nothing changes in the store.
-    pub fn bring(&mut self, core: DelayCore<T, W, A>) -> Result<(), DelayCore<T, W, A>>
+    pub fn bring(&mut self, core: DelayCore<T, W, A>) -> Result<(), (TakeError, DelayCore<T, W, A>)>
         ensures comes { OnOk result (ComesInto self.old.store core self.new.store) }
+        ensures refused { IfErr result (λ e. TakeRefusedFor self.old.store core e.0) }
         ensures opens { OnOk result (OpensWanted self.old.store.cores self.new.store.cores) }
         ensures stands { SameStand (StandsFor self.old.store) (StandsFor self.new.store) }
         ensures keeps { KeepsIdsBeside core self.old.store self.new.store }
         ensures holds { HoldsDeadlines self.old.store self.new.store }
-        ensures back { IfErr result (λ c. (c ≡ core)
+        ensures back { IfErr result (λ e. (e.1 ≡ core)
             × (self.new.store.cores ≡ self.old.store.cores)
             × (self.new.store.notes ≡ self.old.store.notes)) }
-        ensures refused { IfErr result
-            (λ _. (e : TakeError) × TakeRefusedFor self.old.store core e) }
         ensures notes { self.new.sizing ≡ with_work
             (record self.old.sizing { sweep = anew self.old.sizing.sweep self.new.store.cores }) }
         ensures hint { self.new.hint ≡ self.old.hint }
@@ -531,6 +539,7 @@ impl<T, W: Words, A: Allocator + Clone> SizedStore<T, W, A> {
     /// Takes a core out that has drained and isn't needed soon, as [`Sizing::take_needless`] tells.
     pub fn take_needless(&mut self) -> Option<DelayCore<T, W, A>>
         ensures drained { IfSome result (λ c. IsFoldable c × WasBeside self.old.store.cores c) }
+        ensures gone { IfSome result (λ c. HasNo self.new.store.cores.cores c.shard) }
         ensures opens { StaysOpen self.old.store.cores self.new.store.cores }
         ensures were { AllWere self.old.store.cores self.new.store.cores }
         ensures notes { self.new.store.notes ≡ self.old.store.notes }

@@ -11,18 +11,18 @@
 ghost use Rattle.std.specs.Prelude.{◌≡◌, ◌≤◌, ◌⊎◌, max, true, false, length, IfSome, IfNone, IfErr, OnOk, OnSome, nat_lt};
 ghost use Rattle.dq_core.specs.Core.{Core};
 ghost use Rattle.dq_core.specs.Folds.{IsFoldable};
+ghost use Rattle.dq_growing.specs.Cores.{HasNo};
 ghost use Rattle.dq_growing.specs.Moving.{HasOpenRoom};
 ghost use Rattle.dq_growing.specs.Runs.{HoldsDeadlines, KeepsIds, KeepsIdsBeside};
 ghost use Rattle.dq_growing.specs.Sizing.{anew, clear_slots, slots_in, with_work, HasNoWork, MayNoteWork, HasClearAt, IsRoomier, IsRoomiest, HasNoneToOpen, HasNoRoom, OnlyOpens, ComesInto, KeepsTick, OpensIf, OpensWanted, StaysOpen, WasBeside, AllWere, IsNearlyDrained, TellsStraggler, IsStraggler, NoStraggler, MayMake, MayOpen, OpensOne};
 ghost use Rattle.dq_growing.specs.declared.TheConstants.{NEVER};
-ghost use Rattle.dq_growing.specs.declared.cores.TakeError.{TakeError};
 ghost use Rattle.dq_growing.specs.declared.sizing.TheConstants.{CORES};
 ghost use Rattle.dq_ticks.specs.declared.TheConstants.{CAPACITY_LIMIT};
 ghost use Rattle.dq_growing.specs.Stands.{SameStand};
 ghost use Rattle.dq_growing.specs.Store.{StandsFor, TakeRefusedFor};
 
 use crate::NEVER;
-use crate::cores::Cores;
+use crate::cores::{Cores, TakeError};
 use crate::store::Store;
 use crate::sweeping::Sweep;
 use dq_core::{DelayCore, Words};
@@ -375,8 +375,9 @@ impl Sizing {
         &mut self,
         store: &mut Store<T, W, A>,
         core: DelayCore<T, W, A>,
-    ) -> Result<(), DelayCore<T, W, A>>
+    ) -> Result<(), (TakeError, DelayCore<T, W, A>)>
         ensures comes { OnOk result (ComesInto store.old core store.new) }
+        ensures refused { IfErr result (λ e. TakeRefusedFor store.old core e.0) }
 
         // It is open where the open one has no free slot; else it is, or the one that was still is.
         ensures opens { OnOk result (OpensWanted store.old.cores store.new.cores) }
@@ -385,9 +386,8 @@ impl Sizing {
         // No id is given anew but those that the core gives anew, and no deadline falls.
         ensures keeps { KeepsIdsBeside core store.old store.new }
         ensures holds { HoldsDeadlines store.old store.new }
-        ensures back { IfErr result (λ c. (c ≡ core) × (store.new.cores ≡ store.old.cores)
+        ensures back { IfErr result (λ e. (e.1 ≡ core) × (store.new.cores ≡ store.old.cores)
             × (store.new.notes ≡ store.old.notes)) }
-        ensures refused { IfErr result (λ _. (e : TakeError) × TakeRefusedFor store.old core e) }
 
         // The way of the sweeps begins anew, and it is noted that there may be something to do.
         ensures notes { self.new
@@ -450,8 +450,9 @@ impl Sizing {
         &mut self,
         store: &mut Store<T, W, A>,
     ) -> Option<DelayCore<T, W, A>>
-        // It was a core that isn't open. That one stays open.
+        // It was a core that isn't open. That one stays open. None of its number is there any more.
         ensures drained { IfSome result (λ c. IsFoldable c × WasBeside store.old.cores c) }
+        ensures gone { IfSome result (λ c. HasNo store.new.cores.cores c.shard) }
         ensures opens { StaysOpen store.old.cores store.new.cores }
         ensures were { AllWere store.old.cores store.new.cores }
         ensures notes { store.new.notes ≡ store.old.notes }
@@ -490,6 +491,7 @@ impl Sizing {
         store: &mut Store<T, W, A>,
     ) -> Option<DelayCore<T, W, A>>
         ensures drained { IfSome result (λ c. IsFoldable c × WasBeside store.old.cores c) }
+        ensures gone { IfSome result (λ c. HasNo store.new.cores.cores c.shard) }
         ensures were { AllWere store.old.cores store.new.cores }
         ensures opens { StaysOpen store.old.cores store.new.cores }
         ensures notes { store.new.notes ≡ store.old.notes }
@@ -507,7 +509,7 @@ impl Sizing {
         if self.is_needless(store.cores(), &core, slots) {
             return Some(core);
         }
-        if let Err(core) = take_in(store, core, false) {
+        if let Err((_, core)) = take_in(store, core, false) {
             return Some(core);
         }
         None
@@ -601,20 +603,20 @@ fn take_in<T, W: Words, A: Allocator + Clone>(
     store: &mut Store<T, W, A>,
     core: DelayCore<T, W, A>,
     is_needed: bool,
-) -> Result<(), DelayCore<T, W, A>>
+) -> Result<(), (TakeError, DelayCore<T, W, A>)>
     ensures comes { OnOk result (ComesInto store.old core store.new) }
+    ensures refused { IfErr result (λ e. TakeRefusedFor store.old core e.0) }
     ensures opens { OnOk result (OpensIf is_needed store.old.cores store.new.cores) }
     ensures notes { store.new.notes ≡ store.old.notes }
     ensures stands { SameStand (StandsFor store.old) (StandsFor store.new) }
     ensures keeps { KeepsIdsBeside core store.old store.new }
     ensures holds { HoldsDeadlines store.old store.new }
-    ensures back { IfErr result (λ c. (c ≡ core) × (store.new.cores ≡ store.old.cores)) }
-    ensures refused { IfErr result (λ _. (e : TakeError) × TakeRefusedFor store.old core e) }
+    ensures back { IfErr result (λ e. (e.1 ≡ core) × (store.new.cores ≡ store.old.cores)) }
 {
     core.law();
     let opened = store.cores().opened();
-    if let Err((_, core)) = store.take_in(core) {
-        return Err(core);
+    if let Err(refused) = store.take_in(core) {
+        return Err(refused);
     }
     if is_needed {
         return Ok(());

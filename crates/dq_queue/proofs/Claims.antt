@@ -1,5 +1,5 @@
 -- The words of a shard's cores stay claimed.
-use Rattle.std.proofs.Common.{true, refl, IfSome, ◌≡◌, ◌⊎◌, ℕ, ◌<◌, ◌≤◌, ◌+◌, List, [], ◌∷◌, ◌++◌, length, get_or, sym, ap, ◌∙◌, subst, inl, inr, ⊎_elim, length-set, arith, Option, Some, None, Result, Ok, Err}
+use Rattle.std.proofs.Common.{true, false, true≢false, is_err, refl, IfSome, OnOk, ◌≡◌, ◌⊎◌, ℕ, ◌<◌, List, [], ◌∷◌, ◌++◌, length, get_or, sym, ap, ◌∙◌, subst, inl, inr, ⊎_elim, length-set, arith, Option, Some, None, Result, Ok, Err}
 use Rattle.std.proofs.lemmas.List.{get_or_default}
 use mathlib.Core.Logic.{dite}
 use native.Mathlib.Decide.{ℕ_discrete}
@@ -13,23 +13,33 @@ use Rattle.dq_core.specs.declared.errors.ReapError.{ReapError}
 use Rattle.dq_core.specs.declared.outcomes.Removed.{Removed}
 use Rattle.dq_core.specs.declared.outcomes.Piece.{Piece}
 use Rattle.dq_core.specs.Core.{Core}
+use Rattle.dq_core.specs.Folds.{IsFoldable}
 use Rattle.dq_directory.specs.Claims.{Claimed, IsOf}
+use Rattle.dq_growing.specs.declared.cores.TakeError.{TakeError}
 use Rattle.dq_growing.specs.declared.moving.Moved.{Moved}
 use Rattle.dq_growing.specs.declared.moving.Moved.TheVariants.{To, Out}
 use Rattle.dq_growing.specs.declared.moving.NextDeadline.{NextDeadline}
 use Rattle.dq_growing.specs.declared.moving.NextDeadline.TheVariants.{At}
-use Rattle.dq_growing.specs.Cores.{AreCores, CoreRow, HasNo, IsCoreAt, OnCore, OnCoreAt, OnCoreOr, InsertsIn, GivesDrained, TakesIn}
+use Rattle.dq_growing.specs.Cores.{CoreRow, HasNo, IsCoreAt, OnCore, OnCoreAt, OnCoreOr, InsertsIn}
 use Rattle.dq_growing.specs.Moving.{GoesTo, Relocates}
 use Rattle.dq_growing.specs.Polls.{PollsRow, TakesDeferredAt, TakesDeferredIn}
+use Rattle.dq_growing.specs.Sizing.{AllWere, ComesInto, OpensWanted, WasBeside}
 use Rattle.dq_growing.specs.Stands.{KeepsWords}
-use Rattle.dq_growing.specs.Store.{StoreState, AfterReset, PollsFor, ReapsFor, RelocatesFor, RemovesAt, RemovesFor, RemovesIfDueFor, ResetsFor, ResetsThere, TellsFor}
-use Rattle.dq_growing.proofs.Rows.{at_after, one_at, at_snoc, removed_at, snoc_long, snoc_before, snoc_last}
+use Rattle.dq_growing.specs.Store.{StoreState, StandsFor, AfterReset, PollsFor, ReapsFor, RelocatesFor, RemovesAt, RemovesFor, RemovesIfDueFor, ResetsFor, ResetsThere, TellsFor}
+use Rattle.dq_growing.proofs.Keeping.{all_keep}
+use Rattle.dq_growing.proofs.Sizes.{all_stand}
+use Rattle.dq_growing.proofs.Rows.{at_after, one_at, at_snoc, snoc_long, snoc_before, snoc_last}
 use Rattle.dq_words.specs.KeeperCalls.{HasBegun}
 use Rattle.dq_words.specs.OpenCalls.{Open}
 use Rattle.dq_words.specs.Seats.{Sat}
-use Rattle.dq_queue.specs.Calls.{DoesSteps, StoreGives}
+use Rattle.dq_queue.specs.Calls.{DoesSteps, StoreTakesIn}
 use Rattle.dq_queue.specs.Claims.{IsClaimAt, AreClaimsOf, AgreeWith, AreClaimed, BringsNoCore, IsClaimed, IsOfItsWords}
 use Rattle.dq_queue.specs.Words.{PromiseView, IsPromiseOf}
+
+-- what holds of an accepted call holds where none was refused
+pub was_ok : {X E : Type 0} (r : Result X E) (P : Type 0) → is_err r ≡ false → OnOk r P → P
+was_ok (Ok x) P is p = p
+was_ok (Err e) P is p = absurd (true≢false is)
 
 -- the table of a keeper
 abbrev pub table_by : Sat → TableId
@@ -183,40 +193,27 @@ module _ {T : Type 0} where
       let k = claimed i c at.0 in
       sym k.3.1 ∙ (ap (λ (o : Open). o.table) (agree k.0 k.1 k.2 (k.3.0 ∙ at.1)) ∙ sym of.1)
 
-  -- a core that drained is gone
-  gone_at : (s t : StoreState T Sat) (c d : Core T Sat) (gives : GivesDrained s.cores c t.cores) (i : ℕ) → IsCoreAt t.cores.cores i d
-      → ((i < gives.place) × IsCoreAt s.cores.cores i d) ⊎ ((gives.place ≤ i) × IsCoreAt s.cores.cores (i + 1) d)
-  gone_at s t c d gives i at =
-      let P : CoreRow T Sat → Type 0 = λ r. IsCoreAt r.cores i d in
-      removed_at s.cores.cores gives.place i d gives.drained.0.0 (subst P gives.rest at)
-
-  gone : (s t : StoreState T Sat) (c : Core T Sat) → GivesDrained s.cores c t.cores → BringsNoCore s t
-  gone s t c gives i d at = ⊎_elim
-      (λ (y : (i < gives.place) × IsCoreAt s.cores.cores i d). (i, d, y.1, refl, refl))
-      (λ (y : (gives.place ≤ i) × IsCoreAt s.cores.cores (i + 1) d). (i + 1, d, y.1, refl, refl))
-      (gone_at s t c d gives i at)
-
-  -- no other core had its number
-  pub none_left : (s t : StoreState T Sat) (c : Core T Sat) → AreCores s.cores → GivesDrained s.cores c t.cores → HasNo t.cores.cores c.shard
-  none_left s t c law gives i d at same = ⊎_elim
-      (λ (y : (i < gives.place) × IsCoreAt s.cores.cores i d).
-      let less = y.0 in
-      let e : i ≡ gives.place = law.apart i gives.place d c y.1 gives.drained.0 same in absurd (omega (arith, less, e)))
-      (λ (y : (gives.place ≤ i) × IsCoreAt s.cores.cores (i + 1) d).
-      let more = y.0 in
-      let e : i + 1 ≡ gives.place = law.apart (i + 1) gives.place d c y.1 gives.drained.0 same in absurd (omega (arith, more, e)))
-      (gone_at s t c d gives i at)
-
-  pub none_left_of : (s t : StoreState T Sat) (r : Option (Core T Sat)) → AreCores s.cores → StoreGives r s t → IfSome r (λ c. HasNo t.cores.cores c.shard)
-  none_left_of s t (Some c) law y = none_left s t c law y.0
-  none_left_of s t None law y = tt {0}
-
   pub same_cores : (s t : StoreState T Sat) → t.cores ≡ s.cores → BringsNoCore s t
   same_cores s t e i c at = let P : CoreRow T Sat → Type 0 = λ r. IsCoreAt r.cores i c in (i, c, subst P e at, refl, refl)
 
-  pub gives_none : (s t : StoreState T Sat) (r : Option (Core T Sat)) → StoreGives r s t → BringsNoCore s t
-  gives_none s t (Some c) y = gone s t c y.0
-  gives_none s t None y = same_cores s t y.1.1
+  -- what a call on the store's size made of it
+  pub comes_open : (s t : StoreState T Sat) (c : Core T Sat) (r : Result (Unit {0}) (TakeError × Core T Sat)) → OnOk r (ComesInto s c t) → OnOk r (OpensWanted s.cores t.cores)
+      → OnOk r (ComesInto s c t × OpensWanted s.cores t.cores)
+  comes_open s t c (Ok done) comes opens = (comes, opens)
+  comes_open s t c (Err e) comes opens = tt {0}
+
+  -- a core that is refused comes back, and the store is as it was
+  pub comes_not : (s : StoreState T Sat) (c : Core T Sat) (e : TakeError) → StoreTakesIn c (Err (e, c)) s s
+  comes_not s c e = (tt {0}, (refl, refl, refl), all_stand (StandsFor s), (λ u past used. all_keep s u used), (λ u used tick none. none))
+
+  pub gives_of : (s t : StoreState T Sat) (r : Option (Core T Sat)) → IfSome r (λ c. IsFoldable c × WasBeside s.cores c) → IfSome r (λ c. HasNo t.cores.cores c.shard)
+      → IfSome r (λ c. IsFoldable c × WasBeside s.cores c × HasNo t.cores.cores c.shard)
+  gives_of s t (Some c) drained gone = (drained.0, drained.1, gone)
+  gives_of s t None drained gone = tt {0}
+
+  -- each core was there before
+  pub were_there : (s t : StoreState T Sat) → AllWere s.cores t.cores → BringsNoCore s t
+  were_there s t were i c at = let j = were i c at in (j.0, c, j.1, refl, refl)
 
   -- a value that waited is taken out of a core, whose number and words stay
   deferred_at : (s t : StoreState T Sat) (v : T) (i : ℕ) → OnCoreAt i (TakesDeferredAt v) s.cores t.cores → BringsNoCore s t
@@ -233,14 +230,14 @@ module _ {T : Type 0} where
   deferred_none s t None (none, is) = same_cores s t is
 
   -- a core comes in, whose words are claimed
-  pub comes_claimed : (s t : StoreState T Sat) (c : Core T Sat) (claims : List (Claimed Open)) → TakesIn s.cores c t.cores → AreClaimed s.cores.cores claims → IsClaimed claims c
+  pub comes_claimed : (s t : StoreState T Sat) (c : Core T Sat) (claims : List (Claimed Open)) → ComesInto s c t → AreClaimed s.cores.cores claims → IsClaimed claims c
       → AreClaimed t.cores.cores claims
   comes_claimed s t c claims takes claimed own i d at =
       let P : List (Core T Sat) → Type 0 = λ l. IsCoreAt l i d in
       ⊎_elim
       (λ (y : IsCoreAt s.cores.cores i d). claimed i d y)
       (λ (y : (i ≡ length s.cores.cores) × (c ≡ d)). let Q : Core T Sat → Type 0 = λ x. IsClaimed claims x in subst Q y.1 own)
-      (at_snoc s.cores.cores c d i (subst P takes.cores at))
+      (at_snoc s.cores.cores c d i (subst P takes.0 at))
 
   pub more_claimed : (cores : List (Core T Sat)) (was is : List (Claimed Open)) → ((j : ℕ) (k : Claimed Open) → IsClaimAt was j k → IsClaimAt is j k) → AreClaimed cores was → AreClaimed cores is
   more_claimed cores was is more claimed i c at = let k = claimed i c at in (k.0, k.1, more k.0 k.1 k.2, k.3)

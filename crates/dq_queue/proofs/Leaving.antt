@@ -1,5 +1,5 @@
 -- No call of a store loses an entry.
-use Rattle.std.proofs.Common.{true, false, ◌≡◌, ◌≢◌, ◌⊎◌, ℕ, zero, suc, ◌<◌, ◌≤◌, List, [], ◌∷◌, length, get_or, max, min, sym, refl, ap, ◌∙◌, subst, ⊎_elim, length-set, get_or-set_same, arith, inl, inr, Option, Some, None, is_some, Result, Ok, Err, IfOk}
+use Rattle.std.proofs.Common.{true, ◌≡◌, ◌≢◌, ◌⊎◌, ℕ, zero, suc, ◌<◌, ◌≤◌, List, [], ◌∷◌, length, get_or, max, min, sym, refl, ap, ◌∙◌, subst, ⊎_elim, length-set, get_or-set_same, arith, inl, inr, Option, Some, None, Result, Ok, Err, IfOk}
 use Rattle.std.specs.List.{AllByRecursion}
 use Rattle.std.proofs.lemmas.List.{get_or-set_other, set-get_or}
 use Rattle.atomic_table.specs.Table.{State}
@@ -21,7 +21,6 @@ use Rattle.dq_core.specs.declared.outcomes.Turn.TheVariants.{Out as CameOut, Wai
 use Rattle.dq_core.specs.declared.outcomes.Piece.{Piece}
 use Rattle.dq_core.specs.declared.outcomes.Piece.TheVariants.{Answer, Working}
 use Rattle.dq_core.specs.declared.slots.Held.{Held as HeldEntry}
-use Rattle.dq_core.specs.AtTheCall.{linked_in}
 use Rattle.dq_core.specs.Calls.{FindRefused, Inserts, IsFound, IsRemoved, Resets, ResetRefused, TellsDeadline}
 use Rattle.dq_core.specs.Core.{Core, IsLawfulCore, entry_of, machine, table_of}
 use Rattle.dq_core.specs.Machine.{Callers, Cancel, Entry, Event, Extend, Has, IsCallers, IsOnTheWay, Machine, Run, Step, put, table_at, with_due}
@@ -31,26 +30,24 @@ use Rattle.dq_core.specs.Words.{IsOver, IsInForce, Learned, cancelled, never, wo
 use Rattle.dq_core.proofs.CallWords.{inserted_others, removed_others}
 use Rattle.dq_core.proofs.Finds.{found_force}
 use Rattle.dq_core.proofs.Law.{force_learned, force_stamp, loose_is}
-use Rattle.dq_core.proofs.Renewing.{none_held_at}
 use Rattle.dq_core.proofs.RunsMoves.{put_other, put_same}
 use Rattle.dq_core.proofs.Slotwise.{held_inside}
 use Rattle.dq_core.proofs.Ways.{table_row_is}
-use Rattle.dq_growing.specs.declared.cores.TakeError.{TakeError}
 use Rattle.dq_growing.specs.declared.moving.Moved.{Moved}
 use Rattle.dq_growing.specs.declared.moving.Moved.TheVariants.{To, Out}
 use Rattle.dq_growing.specs.declared.moving.NextDeadline.{NextDeadline}
 use Rattle.dq_growing.specs.declared.moving.NextDeadline.TheVariants.{At}
-use Rattle.dq_growing.specs.Cores.{AreCores, CoreRow, GivesDrained, InsertsIn, IsCoreAt, OnCore, OnCoreAt, OnCoreOr, TakesIn}
+use Rattle.dq_growing.specs.Cores.{AreCores, CoreRow, InsertsIn, IsCoreAt, OnCore, OnCoreAt, OnCoreOr}
 use Rattle.dq_growing.specs.Moving.{IfTo, IsTakenOut, Relocates}
 use Rattle.dq_growing.specs.Notes.{Book, IsNoted, LosesNote, SameNotes, meant_place, or_own, place_by, user_at, with_id}
 use Rattle.dq_growing.specs.Polls.{PollsCore, PollsRow, TakesDeferredIn, noting_in, told}
-use Rattle.dq_growing.specs.Stands.{HasEntry, IsThere, KeepsWords}
+use Rattle.dq_growing.specs.Stands.{HasEntry, IsThere, KeepsWords, SameStand}
 use Rattle.dq_growing.specs.Store.{StoreState, IsStore, StandsFor, NoneStandsFor, GoesOnFor, GoesOut, NotesAfter, NotesAnswered, NotesReaped, ReapsFor, RelocatesFor, RemovesFor, ResetsFor, TellsFor, AfterReset, answer_as, expired_as, piece_as, removed_as, ResetsThere}
 use Rattle.dq_growing.proofs.Holding.{CoreRaises, pieces_raise, polls_raise}
 use Rattle.dq_growing.proofs.Keeping.{piece_gone, poll_gone, way_stood}
 use Rattle.dq_growing.proofs.Leasts.{some_not_none}
 use Rattle.dq_growing.proofs.Pairing.{one_or_two}
-use Rattle.dq_growing.proofs.Rows.{keeps_law, one_at, removed_from, snoc_before, snoc_long}
+use Rattle.dq_growing.proofs.Rows.{keeps_law, one_at}
 use Rattle.dq_growing.proofs.Standing.{comes_there, same_id, set_other, some_is}
 use Rattle.dq_growing.proofs.Stored.{forgets_user, law_resets, place_is, stored}
 use Rattle.dq_journal.specs.declared.views.Entry.{Entry as Call}
@@ -60,7 +57,7 @@ use Rattle.dq_words.specs.Files.{Among, file, IsIn}
 use Rattle.dq_words.specs.KeeperCalls.{HasBegun}
 use Rattle.dq_words.specs.Rule.{Had, HadAt, Ruled}
 use Rattle.dq_words.specs.Seats.{Sat}
-use Rattle.dq_queue.specs.Calls.{DoesSteps, KeepsNumbers, NoneLeft, StoreGives, StorePolls, StoreRelocates, StoreRemoves, StoreTakesIn}
+use Rattle.dq_queue.specs.Calls.{DoesSteps, KeepsNumbers, NoneLeft, StorePolls, StoreRelocates, StoreRemoves}
 use Rattle.dq_queue.specs.Endings.{InEachTable, IsKeptCore, present_key}
 use Rattle.dq_queue.specs.Leaving.{EachLosesNone, LosesNone, NoneIsLostIn, StoreLosesNone, WasCancelledIn, WasCancelledOnce}
 use Rattle.dq_queue.specs.Shards.{Held, IsStoreHistory}
@@ -364,32 +361,6 @@ module _ {T : Type 0} where
   inserts_row s t v when r (inl on) = at_stays s t s.opened _ on (inserts_stay on.before on.after v when r.0 on.did.0)
   inserts_row s t v when r (inr y) = same_row s t (ap (λ (k : CoreRow T Sat). k.cores) y.2)
 
-  takes_row : (s t : CoreRow T Sat) (c : Core T Sat) → TakesIn s c t → RowStays s t
-  takes_row s t c takes p e z =
-      let L : List (Core T Sat) → Type 0 = λ l. IsCoreAt l z.0 z.1 in
-      let inside = z.2.0 in
-      let long = snoc_long s.cores c in
-      (e, (z.0, z.1, subst L (sym takes.cores) (omega (arith, inside, long), snoc_before s.cores c z.1 z.0 z.2.0 ∙ z.2.1), z.3))
-
-  -- nothing stands in a core in which nothing is linked
-  none_there : (c : Core T Sat) → linked_in c ≡ 0 → (p : EntryId) (e : Entry T) → IsThere c p e → ⊥
-  none_there c none p e x =
-      let h = held_at c.slots.rows c.known p.index e x.linked in
-      let empty = none_held_at c.slots.rows none p.index in
-      let P : Option (HeldEntry T) → Type 0 = λ o. is_some o ≡ false in
-      let no : is_some (Some h.0) ≡ false = subst P h.1 empty in
-      absurd (cc)
-
-  gives_row : (s t : CoreRow T Sat) (c : Core T Sat) → GivesDrained s c t → RowStays s t
-  gives_row s t c gives p e z =
-      dite (ℕ_discrete z.0 gives.place)
-      (λ here. let A : ℕ → Type 0 = λ k. IsCoreAt s.cores k z.1 in
-      let B : Core T Sat → Type 0 = λ k. IsThere k p e in
-      absurd (none_there c gives.drained.2.0 p e (subst B (one_at s.cores gives.place z.1 c (subst A here z.2) gives.drained.0) z.3)))
-      (λ n. let k = removed_from s.cores gives.place z.0 z.1 gives.drained.0.0 n z.2 in
-      let L : List (Core T Sat) → Type 0 = λ l. IsCoreAt l k.0 z.1 in
-      (e, (k.0, z.1, subst L (sym (ap (λ (r : CoreRow T Sat). r.cores) gives.rest)) k.1, z.3)))
-
 -- stores
 
 same_users : (n m : Book) → m ≡ n → (p : EntryId) → user_at m p ≡ user_at n p
@@ -566,13 +537,9 @@ module _ {T : Type 0} where
   relocates_lose s t id next r beside did (inl (p0, meant, inr (made, way, is, notes))) = moves_lose s t id next r beside did p0 made way is notes
   relocates_lose s t id next r beside did (inr (nowhere, (is, same))) = none_lost s t (same_none_left s t same)
 
-  takes_left : (s t : StoreState T Sat) (c : Core T Sat) (r : Result (Unit {0}) (TakeError × Core T Sat)) → StoreTakesIn c r s t → NoneLeft s t
-  takes_left s t c (Ok done) did = still s t (takes_row s.cores t.cores c did.0) (same_users s.notes t.notes did.2)
-  takes_left s t c (Err e) did = still s t (same_row s.cores t.cores (ap (λ (k : CoreRow T Sat). k.cores) did.1.1)) (same_users s.notes t.notes did.2)
-
-  gives_left : (s t : StoreState T Sat) (r : Option (Core T Sat)) → StoreGives r s t → NoneLeft s t
-  gives_left s t (Some c) did = still s t (gives_row s.cores t.cores c did.0) (same_users s.notes t.notes did.2)
-  gives_left s t None did = still s t (same_row s.cores t.cores (ap (λ (k : CoreRow T Sat). k.cores) did.1.1)) (same_users s.notes t.notes did.2)
+  -- each entry stands
+  same_left : (s t : StoreState T Sat) → SameStand (StandsFor s) (StandsFor t) → NoneLeft s t
+  same_left s t same u none e z = let f = same.0 u e z in none f.0 f.1
 
   -- a value that waited is taken out
   deferred_row : (s t : CoreRow T Sat) (r : Option T) → TakesDeferredIn s r t → RowStays s t
@@ -729,8 +696,8 @@ loses_none T s t (inr (inl y)) = let did = y.2 in removes_lose s t y.0 y.1 did d
 loses_none T s t (inr (inr (inl y))) = let did = y.3 in none_lost s t did.1.4
 loses_none T s t (inr (inr (inr (inl y)))) = let did = y.2 in none_lost s t (tells_left s t y.0 y.1 did.0)
 loses_none T s t (inr (inr (inr (inr (inl y))))) = let did = y.3 in polls_lose s t y.0 y.1 y.2 did did.0.0 did.0.1 did.0.2 did.0.3
-loses_none T s t (inr (inr (inr (inr (inr (inl y)))))) = none_lost s t (takes_left s t y.0 y.1 y.2)
-loses_none T s t (inr (inr (inr (inr (inr (inr (inl y))))))) = none_lost s t (gives_left s t y.0 y.1)
+loses_none T s t (inr (inr (inr (inr (inr (inl y)))))) = let did = y.2 in none_lost s t (same_left s t did.2)
+loses_none T s t (inr (inr (inr (inr (inr (inr (inl y))))))) = let did = y.1 in none_lost s t (same_left s t did.4)
 loses_none T s t (inr (inr (inr (inr (inr (inr (inr (inl y)))))))) = let did = y.3 in relocates_lose s t y.0 y.1 y.2.0 y.2.1 did did.0
 loses_none T s t (inr (inr (inr (inr (inr (inr (inr (inr (inl y))))))))) = let did = y.2 in reaps_lose s t y.0 y.1 did.0 did.3
 loses_none T s t (inr (inr (inr (inr (inr (inr (inr (inr (inr (inl y)))))))))) = let did = y.3 in none_lost s t did.1.4

@@ -6,7 +6,7 @@ use Rattle.std.proofs.lemmas.Bool.Decides.{nat_tests}
 use Rattle.dq_ticks.specs.declared.keys.EntryId.{EntryId}
 use Rattle.atomic_table.specs.Seated.{TableId}
 use Rattle.dq_core.specs.Core.{Core, machine}
-use Rattle.dq_core.specs.Folds.{FoldedCore, at_tick, folded_machine}
+use Rattle.dq_core.specs.Folds.{FoldedCore, IsFoldable, at_tick, folded_machine}
 use Rattle.dq_core.specs.Machine.{Machine, table_at}
 use Rattle.boxcar.specs.Slot.{Named}
 use Rattle.dq_directory.specs.Claims.{Claimed, IsOf}
@@ -18,7 +18,8 @@ use Rattle.dq_journal.specs.Views.{first_witness}
 use Rattle.dq_growing.specs.declared.cores.TakeError.{TakeError}
 use Rattle.dq_growing.specs.Cores.{HasNo, IsCoreAt}
 use Rattle.dq_growing.specs.Notes.{ArePastBy, numbers_of}
-use Rattle.dq_growing.specs.Runs.{CoresGiveNoneAnew, IsUsedId, KeepsId}
+use Rattle.dq_growing.specs.Runs.{IsUsedId, KeepsId}
+use Rattle.dq_growing.specs.Sizing.{WasBeside}
 use Rattle.dq_growing.specs.Store.{StoreState}
 use Rattle.dq_growing.proofs.Rows.{at_snoc, snoc_last, snoc_long}
 use Rattle.dq_growing.proofs.Standing.{some_is}
@@ -29,7 +30,7 @@ use Rattle.dq_queue.specs.Claims.{AreClaimed, AreClaimsOf, BringsNoCore, ClaimsW
 use Rattle.dq_queue.specs.Loans.{is_away, IsLent, IsLentCore, IsLentFold, IsAway, IsAwayBy, IsStill, LoansAreKept}
 use Rattle.dq_queue.specs.Runs.{ByCall, IsNewNumber, KeepsGivenIds, WasGivenIn}
 use Rattle.dq_queue.specs.Shards.{Held, IsAsLeft, IsStoreHistory}
-use Rattle.dq_queue.proofs.Claims.{claim_before, claim_last, claim_more, comes_claimed, gives_none, more_claimed, same_cores, still_claimed}
+use Rattle.dq_queue.proofs.Claims.{claim_before, claim_last, claim_more, comes_claimed, more_claimed, same_cores, still_claimed, were_there}
 use Rattle.dq_queue.proofs.Runs.{BringsNone, by_call, keeps_id, used_in}
 
 -- lists
@@ -208,8 +209,8 @@ module _ {T : Type 0} where
   none_brought : (s t : StoreState T Sat) (u : EntryId) → BringsNoCore s t → BringsNone u s t
   none_brought s t u brings c takes =
       let P : List (Core T Sat) → Type 0 = λ l. IsCoreAt l (length s.cores.cores) c in
-      let b = brings (length s.cores.cores) c (subst P (sym takes.cores) (last_at s.cores.cores c)) in
-      absurd (takes.may.2 b.0 b.1 b.2 (sym b.3))
+      let b = brings (length s.cores.cores) c (subst P (sym takes.0) (last_at s.cores.cores c)) in
+      absurd (takes.2.2 b.0 b.1 b.2 (sym b.3))
     where
       last_at : (cores : List (Core T Sat)) (c : Core T Sat) → IsCoreAt (cores ++ c ∷ []) (length cores) c
       last_at cores c = let long = snoc_long cores c in (omega (arith, long), snoc_last cores c c)
@@ -259,7 +260,7 @@ module _ {T : Type 0} where
           takes.3 u (λ same. absurd (fresh (y.0, y.1, y.2, y.3 ∙ (same ∙ sym words.0)))) (used_in log history old.ids u given a at)
 
       all : AreClaimed b.store.cores.cores is
-      all = comes_claimed a.store b.store c is takes.0 (more_claimed a.store.cores.cores was is wider claimed) (length was, own, claim_last was own, words)
+      all = comes_claimed a.store b.store c is takes.0.0 (more_claimed a.store.cores.cores was is wider claimed) (length was, own, claim_last was own, words)
 
       away : (k : ℕ) (d : Core T Sat) → IsAway loans k d → HasNo b.store.cores.cores d.shard
       away k d out i x core same =
@@ -270,7 +271,7 @@ module _ {T : Type 0} where
           let z = old.claimed k d out in
           let n : c.shard ≡ d.shard = ap (λ (q : Core T Sat). q.shard) y.1 ∙ same in
           fresh (z.0, z.1, z.2, z.3.0 ∙ (sym n ∙ sym words.0)))
-          (at_snoc a.store.cores.cores c x i (subst P takes.0.cores core))
+          (at_snoc a.store.cores.cores c x i (subst P takes.0.0.0 core))
 
   -- a number that no claim has is a new one
   pub new_number : (log : List (Entry (Held T))) (s : StoreState T Sat) (loans : List (Entry (Core T Sat))) (was : List (Claimed Open)) (c : Core T Sat) (own : Claimed Open)
@@ -287,7 +288,7 @@ module _ {T : Type 0} where
       let P : List (Claimed Open) → Type 0 = λ l. AreClaimsOf rows l × AreClaimed b.store.cores.cores l × LoansAreKept (e ∷ log) b.store loans l in
       subst P (sym more) (
         claim_more rows was own claimed.0 words.0,
-        comes_claimed a.store b.store c (was ++ own ∷ []) takes.0 (more_claimed a.store.cores.cores was (was ++ own ∷ []) (claim_before was own) claimed.1) (length was, own, claim_last was own, words.1),
+        comes_claimed a.store b.store c (was ++ own ∷ []) takes.0.0 (more_claimed a.store.cores.cores was (was ++ own ∷ []) (claim_before was own) claimed.1) (length was, own, claim_last was own, words.1),
         comes_new log e a b loans was c own old history left at takes claimed.1 fresh words.1,
       )
   takes_new rows log e a b loans was is c own (Err x) old history left at takes claimed fresh more same words =
@@ -302,14 +303,14 @@ module _ {T : Type 0} where
   -- a core that drained leaves
   module _ (log : List (Entry (Held T))) (e : Entry (Held T)) (a b : Held T) (h v w : View (Core T Sat)) (now : List (Entry (Core T Sat))) (was : List (Claimed Open)) (c : Core T Sat) where
     pub goes_out : LoansAreKept log a.store h.log was → IsStoreHistory log → e.left ≡ Some b → IsAsLeft log a → StoreGives (Some c) a.store b.store
-        → AreClaimed a.store.cores.cores was → HasNo b.store.cores.cores c.shard → CoresGiveNoneAnew T Sat → EntersOnce h v (Some c) w → now ≡ w.log
+        → AreClaimed a.store.cores.cores was → EntersOnce h v (Some c) w → now ≡ w.log
         → LoansAreKept (e ∷ log) b.store now was
-    goes_out old history left at gives claimed none anew enters is =
+    goes_out old history left at gives claimed enters is =
         step log e a b h.log now was was old left at keeps (still_claimed a.store b.store was brings claimed) (λ j k y. y)
         (record {
           away = λ k d out. ⊎_elim
               (λ (y : IsAway h.log k d). no_core_of a.store b.store d.shard brings (old.away k d y))
-              (λ (y : (v.number ≡ k) × (c ≡ d)). let P : Core T Sat → Type 0 = λ x. HasNo b.store.cores.cores x.shard in subst P y.1 none)
+              (λ (y : (v.number ≡ k) × (c ≡ d)). let P : Core T Sat → Type 0 = λ x. HasNo b.store.cores.cores x.shard in subst P y.1 out_of.2)
               (which k d out);
           claimed = λ k d out. ⊎_elim
               (λ (y : IsAway h.log k d). old.claimed k d y)
@@ -317,7 +318,7 @@ module _ {T : Type 0} where
               (which k d out);
           past = λ u given k d out. ⊎_elim
               (λ (y : IsAway h.log k d). old.past u given k d y)
-              (λ (y : (v.number ≡ k) × (c ≡ d)). let P : Core T Sat → Type 0 = λ x. ArePastBy (numbers_of u) x in subst P y.1 (anew.drained u a.store c b.store.cores (used u given) gives.0))
+              (λ (y : (v.number ≡ k) × (c ≡ d)). let P : Core T Sat → Type 0 = λ x. ArePastBy (numbers_of u) x in subst P y.1 (past u given))
               (which k d out);
           apart = λ k l d x out other same. ⊎_elim
               (λ (y : IsAway h.log k d). ⊎_elim
@@ -332,23 +333,30 @@ module _ {T : Type 0} where
         })
       where
         brings : BringsNoCore a.store b.store
-        brings = gives_none a.store b.store (Some c) gives
+        brings = were_there a.store b.store gives.2
+
+        -- it holds nothing, was in, and isn't any more
+        out_of : IsFoldable c × WasBeside a.store.cores c × HasNo b.store.cores.cores c.shard
+        out_of = gives.0
 
         used : (u : EntryId) → WasGivenIn log u → IsUsedId a.store u
         used u given = used_in log history old.ids u given a at
 
         keeps : (u : EntryId) → WasGivenIn log u → KeepsId a.store b.store u
-        keeps u given = gives.3 u (used u given)
+        keeps u given = gives.5 u (used u given)
+
+        past : (u : EntryId) → WasGivenIn log u → ArePastBy (numbers_of u) c
+        past u given same = let id = used u given in let was_here = out_of.1 in id.1 was_here.0 c was_here.2 (sym same)
 
         own : IsClaimed was c
-        own = claimed gives.0.place c gives.0.drained.0
+        own = let was_here = out_of.1 in claimed was_here.0 c was_here.2
 
         number : {d : Core T Sat} → c ≡ d → c.shard ≡ d.shard
         number e = ap (λ (x : Core T Sat). x.shard) e
 
         -- no core of its number was away while it was in
         was_in : (k : ℕ) (d : Core T Sat) → IsAway h.log k d → d.shard ≡ c.shard → ⊥
-        was_in k d out same = old.away k d out gives.0.place c gives.0.drained.0 (sym same)
+        was_in k d out same = let was_here = out_of.1 in old.away k d out was_here.0 c was_here.2 (sym same)
 
         which : (k : ℕ) (d : Core T Sat) → IsAway now k d → IsAway h.log k d ⊎ ((v.number ≡ k) × (c ≡ d))
         which k d out = dite (ℕ_discrete v.number k)
@@ -383,7 +391,7 @@ module _ {T : Type 0} where
     pub comes_back : StoreTakesIn c (Ok (tt {0})) a.store b.store → LoansAreKept (e ∷ log) b.store now was
     comes_back takes =
         step log e a b h.log now was was old left at (λ u given. takes.3 u (past_by u given) (used_in log history old.ids u given a at))
-        (comes_claimed a.store b.store c was takes.0 claimed own) (λ j k y. y)
+        (comes_claimed a.store b.store c was takes.0.0 claimed own) (λ j k y. y)
         (record {
           away = away;
           claimed = λ k d out. old.claimed k d (other k d out).1;
@@ -400,10 +408,10 @@ module _ {T : Type 0} where
             (λ (y : (i ≡ length a.store.cores.cores) × (c ≡ x)).
             let n : c.shard ≡ d.shard = ap (λ (q : Core T Sat). q.shard) y.1 ∙ same in
             was_there.0 (old.apart v.number k gone d was_out was_there.1 (sym still.same.0 ∙ n)))
-            (at_snoc a.store.cores.cores c x i (subst P takes.0.cores core))
+            (at_snoc a.store.cores.cores c x i (subst P takes.0.0.0 core))
 
     pub comes_claimed_back : StoreTakesIn c (Ok (tt {0})) a.store b.store → AreClaimed b.store.cores.cores was
-    comes_claimed_back takes = comes_claimed a.store b.store c was takes.0 claimed own
+    comes_claimed_back takes = comes_claimed a.store b.store c was takes.0.0 claimed own
 
     -- refused, it is away again, as it is by then
     pub stays_out : (x y : View (Core T Sat)) (later : List (Entry (Core T Sat))) (call : IsStoreCall a.store b.store) → b.store.cores ≡ a.store.cores → x.log ≡ now → EntersOnce x w (Some c) y → later ≡ y.log

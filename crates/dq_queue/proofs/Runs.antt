@@ -10,7 +10,8 @@ use Rattle.dq_growing.specs.declared.cores.TakeError.{TakeError}
 use Rattle.dq_growing.specs.declared.moving.Moved.{Moved}
 use Rattle.dq_growing.specs.declared.moving.Moved.TheVariants.{To, Out}
 use Rattle.std.proofs.lemmas.List.{get_or-set_same}
-use Rattle.dq_growing.specs.Cores.{CoreRow, HasAt, InsertsIn, IsCoreAt, TakesIn, closed_error, missing_error}
+use Rattle.dq_growing.specs.Cores.{CoreRow, HasAt, InsertsIn, IsCoreAt, closed_error, missing_error}
+use Rattle.dq_growing.specs.Sizing.{ComesInto}
 use Rattle.dq_growing.specs.Moving.{IfCameOut}
 use Rattle.dq_growing.specs.Notes.{ArePastBy, Book, numbers_of}
 use Rattle.dq_growing.specs.Runs.{IsUsedId, KeepsId, KeepsIds, GivesId, KeepsItsDeadline, NotDueBefore, HoldsDeadline, HoldsDeadlines, LeavesInForce}
@@ -89,18 +90,18 @@ module _ {T : Type 0} where
 
   -- no core came in that gives an id anew
   abbrev pub BringsNone : EntryId → StoreState T Sat → StoreState T Sat → Type 0
-  BringsNone u s t = (c : Core T Sat) → TakesIn s.cores c t.cores → ArePastBy (numbers_of u) c
+  BringsNone u s t = (c : Core T Sat) → ComesInto s c t → ArePastBy (numbers_of u) c
 
   same_id : (s : StoreState T Sat) (u : EntryId) → IsUsedId s u → KeepsId s (stored s.cores s.notes) u
   same_id s u used = record { given = used; stays = λ v z. inl z; stood = λ v z. z }
 
   takes_keep : (u : EntryId) (s t : StoreState T Sat) (c : Core T Sat) (r : Result (Unit {0}) (TakeError × Core T Sat)) → StoreTakesIn c r s t → BringsNone u s t → IsUsedId s u
       → KeepsId s t u
-  takes_keep u s t c (Ok done) y brings used = y.3 u (brings c y.0) used
+  takes_keep u s t c (Ok done) y brings used = y.3 u (brings c y.0.0) used
   takes_keep u s t c (Err e) y brings used =
       let P : CoreRow T Sat × Book → Type 0 = λ x. KeepsId s (stored x.0 x.1) u in
       let cores = y.1.1 in
-      let notes = y.2 in
+      let notes = y.1.2 in
       subst P (λ n. (sym cores n, sym notes n)) (same_id s u used)
 
   pub keeps_id : (u : EntryId) (s t : StoreState T Sat) → IsStoreCall s t → BringsNone u s t → IsUsedId s u → KeepsId s t u
@@ -110,7 +111,7 @@ module _ {T : Type 0} where
   keeps_id u s t (inr (inr (inr (inl y)))) brings used = let did = y.2 in did.1 u used
   keeps_id u s t (inr (inr (inr (inr (inl y))))) brings used = let did = y.3 in did.1 u used
   keeps_id u s t (inr (inr (inr (inr (inr (inl y)))))) brings used = takes_keep u s t y.0 y.1 y.2 brings used
-  keeps_id u s t (inr (inr (inr (inr (inr (inr (inl y))))))) brings used = let did = y.1 in did.3 u used
+  keeps_id u s t (inr (inr (inr (inr (inr (inr (inl y))))))) brings used = let did = y.1 in did.5 u used
   keeps_id u s t (inr (inr (inr (inr (inr (inr (inr (inl y)))))))) brings used = let did = y.3 in did.1 u used
   keeps_id u s t (inr (inr (inr (inr (inr (inr (inr (inr (inl y))))))))) brings used = let did = y.2 in did.1 u used
   keeps_id u s t (inr (inr (inr (inr (inr (inr (inr (inr (inr (inl y)))))))))) brings used = let did = y.3 in did.1.0 u used
@@ -161,7 +162,7 @@ module _ {T : Type 0} where
   none_set u s t (inr (inr (inr (inl y)))) sets used = let did = y.2 in did.2 u used
   none_set u s t (inr (inr (inr (inr (inl y))))) sets used = let did = y.3 in did.3 u used
   none_set u s t (inr (inr (inr (inr (inr (inl y)))))) sets used = let did = y.2 in did.4 u used
-  none_set u s t (inr (inr (inr (inr (inr (inr (inl y))))))) sets used = let did = y.1 in did.4 u used
+  none_set u s t (inr (inr (inr (inr (inr (inr (inl y))))))) sets used = let did = y.1 in did.6 u used
   none_set u s t (inr (inr (inr (inr (inr (inr (inr (inl y)))))))) sets used = move_holds u s t y.0 y.1 y.2 y.3 sets used
   none_set u s t (inr (inr (inr (inr (inr (inr (inr (inr (inl y))))))))) sets used = let did = y.2 in did.2 u used
   none_set u s t (inr (inr (inr (inr (inr (inr (inr (inr (inr (inl y)))))))))) sets used = there_holds u s t y.0 y.1 y.2 y.3 sets used

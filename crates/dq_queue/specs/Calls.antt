@@ -1,6 +1,6 @@
 -- What one call does to what lies behind a shard's lock. Each keeps the ids that entries have had, and
 -- the deadline of each entry but one that it gives another.
-use Rattle.std.specs.Prelude.{◌≡◌, ◌⊎◌, ◌<◌, ◌≤◌, ℕ, true, Option, Some, None, Result, Ok, Err, IfOk, IfErr, IfSome, IfNone, OnOk, OnErr}
+use Rattle.std.specs.Prelude.{◌≡◌, ◌⊎◌, ◌<◌, ◌≤◌, ℕ, true, Option, Some, None, Result, Ok, Err, IfOk, IfErr, IfSome, OnOk, OnErr}
 use Rattle.dq_ticks.specs.declared.keys.Key.{Key}
 use Rattle.dq_ticks.specs.declared.keys.EntryId.{EntryId}
 use Rattle.dq_core.specs.declared.errors.CoreError.{CoreError}
@@ -8,8 +8,9 @@ use Rattle.dq_core.specs.declared.outcomes.Removed.{Removed}
 use Rattle.dq_core.specs.declared.outcomes.Piece.{Piece}
 use Rattle.dq_core.specs.declared.outcomes.Expired.{Expired}
 use Rattle.dq_core.specs.Core.{Core}
+use Rattle.dq_core.specs.Folds.{IsFoldable}
 use Rattle.dq_growing.specs.declared.cores.TakeError.{TakeError}
-use Rattle.dq_growing.specs.Cores.{HasAt, InsertsIn, IsCoreAt, TakesIn, GivesDrained, NoneDrained}
+use Rattle.dq_growing.specs.Cores.{HasAt, HasNo, InsertsIn, IsCoreAt}
 use Rattle.dq_growing.specs.Notes.{Book, meant_place}
 use Rattle.dq_growing.specs.Moving.{IfTo, IfCameOut, UnlessTo}
 use Rattle.dq_growing.specs.Polls.{DoesPiece, DoesPoll, IfPieceOut, TakesDeferredIn}
@@ -17,7 +18,9 @@ use Rattle.dq_growing.specs.Runs.{IsUsedId, KeepsIds, KeepsIdsBeside, GivesId, H
 use Rattle.dq_core.specs.declared.errors.ReapError.{ReapError}
 use Rattle.dq_growing.specs.declared.moving.Moved.{Moved}
 use Rattle.dq_growing.specs.declared.moving.NextDeadline.{NextDeadline}
-use Rattle.dq_growing.specs.Store.{StoreState, RemovesFor, TellsFor, ResetsFor, ResetsThere, RelocatesFor, ReapsFor, PollsFor, HasFor, HasOneValue, NoneStandsFor, GoesOut, TakeRefusedFor}
+use Rattle.dq_growing.specs.Sizing.{AllWere, ComesInto, OpensWanted, StaysOpen, WasBeside}
+use Rattle.dq_growing.specs.Stands.{SameStand}
+use Rattle.dq_growing.specs.Store.{StoreState, StandsFor, RemovesFor, TellsFor, ResetsFor, ResetsThere, RelocatesFor, ReapsFor, PollsFor, HasFor, HasOneValue, NoneStandsFor, GoesOut, TakeRefusedFor}
 use Rattle.dq_words.specs.Plays.{Covers}
 use Rattle.dq_words.specs.Seats.{Sat}
 use Rattle.dq_queue.specs.Words.{PromiseView}
@@ -117,25 +120,28 @@ module _ {T : Type 0} where
   StorePollsBeside p tick most r s t =
       StorePolls tick most r s t × IfPieceOut r (KeepsPromise s.notes p)
 
-  -- a core comes in, which is open from then on; or it comes back, and the store stays. It keeps the
-  -- ids that it doesn't give anew
+  -- a core comes in, and that or the one that was open is open; or it comes back, and the store
+  -- stays. Each entry stands with its value as before, and the ids stay that the core doesn't give anew
   abbrev pub StoreTakesIn : Core T Sat → Result (Unit {0}) (TakeError × Core T Sat) →
       StoreState T Sat → StoreState T Sat → Type 0
   StoreTakesIn c r s t =
-      OnOk r (TakesIn s.cores c t.cores) × IfErr r (λ e. (e.1 ≡ c) × (t.cores ≡ s.cores))
-      × (t.notes ≡ s.notes) × KeepsIdsBeside c s t × HoldsDeadlines s t
+      OnOk r (ComesInto s c t × OpensWanted s.cores t.cores)
+      × IfErr r (λ e. (e.1 ≡ c) × (t.cores ≡ s.cores) × (t.notes ≡ s.notes))
+      × SameStand (StandsFor s) (StandsFor t) × KeepsIdsBeside c s t × HoldsDeadlines s t
 
   -- refused, it is so for what the store and the core are
   abbrev pub StoreRefuses : Core T Sat → Result (Unit {0}) (TakeError × Core T Sat) →
       StoreState T Sat → Type 0
   StoreRefuses c r s = IfErr r (λ e. TakeRefusedFor s c e.0)
 
-  -- a core that has drained is taken out; none is exactly where none has
+  -- a core that has drained is taken out: it wasn't the open one, which stays open, and none of its
+  -- number is left; or none is. Each core that is left was there before, though at another place
+  -- maybe, and each entry stands with its value as before
   abbrev pub StoreGives : Option (Core T Sat) → StoreState T Sat → StoreState T Sat → Type 0
   StoreGives r s t =
-      IfSome r (λ c. GivesDrained s.cores c t.cores)
-      × IfNone r (NoneDrained s.cores × (t.cores ≡ s.cores)) × (t.notes ≡ s.notes)
-      × KeepsIds s t × HoldsDeadlines s t
+      IfSome r (λ c. IsFoldable c × WasBeside s.cores c × HasNo t.cores.cores c.shard)
+      × StaysOpen s.cores t.cores × AllWere s.cores t.cores × (t.notes ≡ s.notes)
+      × SameStand (StandsFor s) (StandsFor t) × KeepsIds s t × HoldsDeadlines s t
 
   -- an entry goes on in the open core, or leaves with its value; unless a deadline is asked for, it
   -- goes on at none before the one that it had

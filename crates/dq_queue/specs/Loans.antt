@@ -95,7 +95,7 @@ module _ {T : Type 0} where
   core_out None = None
   core_out (Some d) = Some d.core
 
-  -- a core that has drained leaves; none is exactly where none has
+  -- a core that has drained leaves, or none does
   abbrev pub StoreGivesOut : Option (DrainedView T) → StoreState T Sat → StoreState T Sat → Type 0
   StoreGivesOut r s t = StoreGives (core_out r) s t
 

@@ -2,7 +2,6 @@
 ghost use Rattle.std.specs.Prelude.{◌≡◌, ◌<◌, ◌+◌, ◌++◌, ◌∷◌, true, [], Some, None, IfOk, IfErr, IfSome, IfNone, OnOk, OnErr};
 ghost use Rattle.dq_journal.specs.Once.{IsTold, IsWithNumber};
 ghost use Rattle.dq_journal.specs.Views.{first_witness, new_witness};
-ghost use Rattle.dq_growing.specs.Cores.{HasNo};
 ghost use Rattle.dq_growing.specs.Polls.{IfPieceOut};
 ghost use Rattle.dq_growing.specs.Store.{IsStore};
 ghost use Rattle.dq_directory.specs.Claims.{IsOf};
@@ -21,7 +20,7 @@ use crate::loans::Drained;
 use crate::words::{Promise, QueueWords};
 use dq_core::{CoreError, DelayCore, Piece, ReapError, Removed};
 use dq_directory::Claim;
-use dq_growing::{Moved, NextDeadline, Store, TakeError, no_core_gives_anew};
+use dq_growing::{Moved, NextDeadline, SizedStore, TakeError};
 use dq_journal::Witness;
 use dq_ticks::{EntryId, Key};
 use dq_words::{Keeper, OpenWords};
@@ -54,11 +53,11 @@ impl Rooms for Brand {
     ghost rows = { [] };
 }
 
-/// A shard's number, and its store.
+/// A shard's number, and its store, which keeps its size and knows its hint.
 #[derive(Drop)]
 pub struct Held<T, A: Allocator = Global> {
     number: u32,
-    store: Store<T, Keeper<A>, A>,
+    sized: SizedStore<T, Keeper<A>, A>,
 }
 
 impl<T, A: Allocator> Model for Held<T, A> {
@@ -66,16 +65,16 @@ impl<T, A: Allocator> Model for Held<T, A> {
 
     ghost Value = { HeldView T };
 
-    ghost view = { λ s. record { number = s.number; store = s.store } };
+    ghost view = { λ s. record { number = s.number; store = s.sized.store } };
 }
 
 impl<T, A: Allocator> Held<T, A> {
     /// The store of the shard of that number.
-    pub fn new(number: u32, store: Store<T, Keeper<A>, A>) -> Held<T, A>
+    pub fn new(number: u32, sized: SizedStore<T, Keeper<A>, A>) -> Held<T, A>
         ensures number { result.number ≡ number }
-        ensures store { result.store ≡ store }
+        ensures store { result.store ≡ sized.store }
     {
-        Held { number, store }
+        Held { number, sized }
     }
 }
 
@@ -87,9 +86,9 @@ impl<T, A: Allocator + Clone> Held<T, A> {
         ensures cores { BringsNoCore self.old.store self.new.store }
         ensures inserts { StoreInserts value when result self.old.store self.new.store }
     {
-        self.store.law();
-        let answer = self.store.insert(value, when);
-        self.store.law();
+        self.sized.law();
+        let answer = self.sized.insert(value, when);
+        self.sized.law();
         answer
     }
 
@@ -99,9 +98,9 @@ impl<T, A: Allocator + Clone> Held<T, A> {
         ensures cores { BringsNoCore self.old.store self.new.store }
         ensures removes { StoreRemoves entry.now result self.old.store self.new.store }
     {
-        self.store.law();
-        let answer = self.store.remove(entry);
-        self.store.law();
+        self.sized.law();
+        let answer = self.sized.remove(entry);
+        self.sized.law();
         answer
     }
 
@@ -111,9 +110,9 @@ impl<T, A: Allocator + Clone> Held<T, A> {
         ensures cores { BringsNoCore self.old.store self.new.store }
         ensures removes { StoreRemovesIfDue entry.now tick result self.old.store self.new.store }
     {
-        self.store.law();
-        let answer = self.store.remove_if_due(entry, tick);
-        self.store.law();
+        self.sized.law();
+        let answer = self.sized.remove_if_due(entry, tick);
+        self.sized.law();
         answer
     }
 
@@ -123,10 +122,9 @@ impl<T, A: Allocator + Clone> Held<T, A> {
         ensures cores { BringsNoCore self.old.store self.new.store }
         ensures resets { StoreResets entry.now when result self.old.store self.new.store }
     {
-        self.store.law();
-        self.store.cores().law();
-        let answer = self.store.reset(entry, when);
-        self.store.law();
+        self.sized.law();
+        let answer = self.sized.reset(entry, when);
+        self.sized.law();
         answer
     }
 
@@ -136,9 +134,9 @@ impl<T, A: Allocator + Clone> Held<T, A> {
         ensures cores { BringsNoCore self.old.store self.new.store }
         ensures resets { StoreResetsThere entry.now when result self.old.store self.new.store }
     {
-        self.store.law();
-        let answer = self.store.reset_in_place(entry, when);
-        self.store.law();
+        self.sized.law();
+        let answer = self.sized.reset_in_place(entry, when);
+        self.sized.law();
         answer
     }
 
@@ -148,9 +146,9 @@ impl<T, A: Allocator + Clone> Held<T, A> {
         ensures cores { BringsNoCore self.old.store self.new.store }
         ensures tells { StoreTells entry.now result self.old.store self.new.store }
     {
-        self.store.law();
-        let answer = self.store.deadline(entry);
-        self.store.law();
+        self.sized.law();
+        let answer = self.sized.deadline(entry);
+        self.sized.law();
         answer
     }
 
@@ -160,9 +158,9 @@ impl<T, A: Allocator + Clone> Held<T, A> {
         ensures cores { BringsNoCore self.old.store self.new.store }
         ensures polls { StorePolls tick None result self.old.store self.new.store }
     {
-        self.store.law();
-        let answer = self.store.poll(tick);
-        self.store.law();
+        self.sized.law();
+        let answer = self.sized.poll(tick);
+        self.sized.law();
         answer
     }
 
@@ -172,9 +170,9 @@ impl<T, A: Allocator + Clone> Held<T, A> {
         ensures cores { BringsNoCore self.old.store self.new.store }
         ensures polls { StorePolls tick (Some most) result self.old.store self.new.store }
     {
-        self.store.law();
-        let answer = self.store.poll_some(tick, most);
-        self.store.law();
+        self.sized.law();
+        let answer = self.sized.poll_some(tick, most);
+        self.sized.law();
         answer
     }
 
@@ -193,11 +191,11 @@ impl<T, A: Allocator + Clone> Held<T, A> {
         ensures kept { IfPieceOut result (KeepsPromise self.old.store.notes promise.old) }
         ensures same { promise.new ≡ promise.old }
     {
-        self.store.law();
-        let answer = self.store.poll_some(tick, most);
+        self.sized.law();
+        let answer = self.sized.poll_some(tick, most);
         let number = promise.claim.number();
-        self.store.beside(number, &mut promise.receipt);
-        self.store.law();
+        self.sized.beside(number, &mut promise.receipt);
+        self.sized.law();
         endings::outs_are_in_force::<T>();
         answer
     }
@@ -208,9 +206,9 @@ impl<T, A: Allocator + Clone> Held<T, A> {
         ensures cores { BringsNoCore self.old.store self.new.store }
         ensures takes { StoreTakesDeferred result self.old.store self.new.store }
     {
-        self.store.law();
-        let answer = self.store.take_deferred();
-        self.store.law();
+        self.sized.law();
+        let answer = self.sized.take_deferred();
+        self.sized.law();
         answer
     }
 
@@ -223,9 +221,9 @@ impl<T, A: Allocator + Clone> Held<T, A> {
         ensures takes { StoreTakesIn core result self.old.store self.new.store }
         ensures refused { StoreRefuses core result self.old.store }
     {
-        self.store.law();
-        let answer = self.store.take_in(core);
-        self.store.law();
+        self.sized.law();
+        let answer = self.sized.bring(core);
+        self.sized.law();
         answer
     }
 
@@ -248,7 +246,7 @@ impl<T, A: Allocator + Clone> Held<T, A> {
         ensures more { OnOk result (claims.new.items ≡ claims.old.items ++ claim.now ∷ []) }
         ensures same { OnErr result (claims.new.items ≡ claims.old.items) }
     {
-        self.store.law();
+        self.sized.law();
         if claims.reserve(1).is_err() {
             return Err((TakeError::NoMemory, core));
         }
@@ -269,12 +267,10 @@ impl<T, A: Allocator + Clone> Held<T, A> {
         ensures stores { IsStore self.old.store × IsStore self.new.store }
         ensures cores { BringsNoCore self.old.store self.new.store }
         ensures gives { StoreGives result self.old.store self.new.store }
-        ensures gone { IfSome result (λ c. HasNo self.new.store.cores.cores c.shard) }
     {
-        self.store.law();
-        self.store.cores().law();
-        let answer = self.store.take_drained();
-        self.store.law();
+        self.sized.law();
+        let answer = self.sized.take_needless();
+        self.sized.law();
         answer
     }
 
@@ -288,9 +284,9 @@ impl<T, A: Allocator + Clone> Held<T, A> {
         ensures cores { BringsNoCore self.old.store self.new.store }
         ensures relocates { StoreRelocates entry.now next result self.old.store self.new.store }
     {
-        self.store.law();
-        let answer = self.store.relocate(entry, next);
-        self.store.law();
+        self.sized.law();
+        let answer = self.sized.relocate(entry, next);
+        self.sized.law();
         answer
     }
 
@@ -300,9 +296,9 @@ impl<T, A: Allocator + Clone> Held<T, A> {
         ensures cores { BringsNoCore self.old.store self.new.store }
         ensures reaps { StoreReaps entry.now result self.old.store self.new.store }
     {
-        self.store.law();
-        let answer = self.store.reap(entry);
-        self.store.law();
+        self.sized.law();
+        let answer = self.sized.reap(entry);
+        self.sized.law();
         answer
     }
 }
@@ -688,9 +684,9 @@ impl<T, J: Rooms, A: Allocator + Clone> Shard<T, J, A> {
         answer
     }
 
-    /// Takes a core in whose words are claimed, of a number that no core of the shard ever had, and which is open from then
-    /// on. The one that was open drains. It takes memory for the lists of cores and of claims alone. A core that left comes
-    /// back by [`Shard::take_back`].
+    /// Takes a core in whose words are claimed, of a number that no core of the shard ever had. It is open from then on, or
+    /// the one that was still is; it is where that one has no free slot. It takes memory for the lists of cores and of
+    /// claims alone. A core that left comes back by [`Shard::take_back`].
     ///
     /// # Errors
     /// The core comes back, and nothing changes. In this order:
@@ -774,8 +770,8 @@ impl<T, J: Rooms, A: Allocator + Clone> Shard<T, J, A> {
 }
 
 impl<T: Drop, J: Rooms, A: Allocator + Clone + Drop> Shard<T, J, A> {
-    /// Takes a core out that has drained: it isn't the open one, and holds nothing, not even a value that waits for its
-    /// drop. It may come back by [`Shard::take_back`].
+    /// Takes a core out that has drained and isn't needed soon: it isn't the open one, and holds nothing, not even a value
+    /// that waits for its drop. It may come back by [`Shard::take_back`].
     ///
     /// # Errors
     /// If the register of loans has too many holders. Nothing changes, and no call is entered.
@@ -817,7 +813,6 @@ impl<T: Drop, J: Rooms, A: Allocator + Clone + Drop> Shard<T, J, A> {
         let shard = self.number();
         let answer = self.held.take_drained();
         self.history.enter_for(&mut me.history, &self.held);
-        no_core_gives_anew::<T, Keeper<A>>();
         match answer {
             None => None,
             Some(core) => {
@@ -832,8 +827,8 @@ impl<T: Drop, J: Rooms, A: Allocator + Clone + Drop> Shard<T, J, A> {
         }
     }
 
-    /// Takes a core back in that left, and which is open from then on. The one that was open drains. It takes memory for
-    /// the list of cores alone.
+    /// Takes a core back in that left. It is open from then on, or the one that was still is; it is where that one has no
+    /// free slot. It takes memory for the list of cores alone.
     ///
     /// # Errors
     /// What left comes back, and nothing changes. In this order:

@@ -5,7 +5,7 @@
 //! nothing due sets it anew.
 
 use crate::core::{CoreError, DelayCore, Piece, ReapError, Removed, Turn, Words};
-use crate::growing::cores::Cores;
+use crate::growing::cores::{Cores, TakeError};
 use crate::growing::moving::{Moved, NextDeadline};
 use crate::growing::notes::Notes;
 use crate::growing::polls::wake_of;
@@ -17,7 +17,7 @@ use crate::ticks::{EntryId, Key};
 
 /// A store, what is known of its size, and its hint.
 pub struct SizedStore<T, W: Words> {
-    store: Store<T, W>,
+    pub(crate) store: Store<T, W>,
     sizing: Sizing,
     hint: u64,
 }
@@ -246,7 +246,7 @@ impl<T, W: Words> SizedStore<T, W> {
     /// # Errors
     /// The core comes back, and nothing changes in the store.
     #[allow(clippy::result_large_err)]
-    pub fn bring(&mut self, core: DelayCore<T, W>) -> Result<(), DelayCore<T, W>> {
+    pub fn bring(&mut self, core: DelayCore<T, W>) -> Result<(), (TakeError, DelayCore<T, W>)> {
         self.sizing.bring(&mut self.store, core)
     }
 

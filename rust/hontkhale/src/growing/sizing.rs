@@ -9,7 +9,7 @@
 //! The numbers here are a policy: any others would keep what the calls of a [`Store`] promise.
 
 use crate::core::{DelayCore, Words};
-use crate::growing::cores::Cores;
+use crate::growing::cores::{Cores, TakeError};
 use crate::growing::store::Store;
 use crate::growing::sweeping::Sweep;
 use crate::growing::NEVER;
@@ -270,7 +270,7 @@ impl Sizing {
         &mut self,
         store: &mut Store<T, W>,
         core: DelayCore<T, W>,
-    ) -> Result<(), DelayCore<T, W>> {
+    ) -> Result<(), (TakeError, DelayCore<T, W>)> {
         let is_needed = !has_open_room(store.cores()) || self.is_to_be_exchanged(store.cores());
         let taken = take_in(store, core, is_needed);
         self.sweep.restart(slots(store.cores()));
@@ -337,7 +337,7 @@ impl Sizing {
         if self.is_needless(store.cores(), &core, slots) {
             return Some(core);
         }
-        if let Err(core) = take_in(store, core, false) {
+        if let Err((_, core)) = take_in(store, core, false) {
             return Some(core);
         }
         None
@@ -407,10 +407,10 @@ fn take_in<T, W: Words>(
     store: &mut Store<T, W>,
     core: DelayCore<T, W>,
     is_needed: bool,
-) -> Result<(), DelayCore<T, W>> {
+) -> Result<(), (TakeError, DelayCore<T, W>)> {
     let opened = store.cores().opened();
-    if let Err((_, core)) = store.take_in(core) {
-        return Err(core);
+    if let Err(refused) = store.take_in(core) {
+        return Err(refused);
     }
     if is_needed {
         return Ok(());

@@ -35,6 +35,3 @@ returns-clause-holds g c =
     comes_hold c.args.store.now c.open.new.self c.args.core c.law.ensures.shard
     (opened_comes c.args.store.now c.take_in.new.self c.open.new.self c.args.core c.open.result _ c.in_default.ensures.takes c.in_default.ensures.notes
     c.open.ensures.opens c.open.ensures.refused c.open.ensures.notes)
-
-pub returns-in-Err-clause-refused : goal.returns-in-Err-clause-refused
-returns-in-Err-clause-refused g c = (_, c.in-Err.ensures.refused)

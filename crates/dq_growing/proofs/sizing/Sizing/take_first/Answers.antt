@@ -1,7 +1,8 @@
-use Rattle.std.proofs.Common.{refl, subst, ◌∙◌}
-use Rattle.dq_growing.specs.Cores.{AreCores}
+use Rattle.std.proofs.Common.{refl, subst, sym, ◌∙◌}
+use Rattle.dq_core.specs.Core.{Core}
+use Rattle.dq_growing.specs.Cores.{AreCores, HasNo}
 use Rattle.dq_growing.specs.Store.{StandsFor, StoreState}
-use Rattle.dq_growing.proofs.Sizes.{all_were, back_tick, comes_were, gives_open, gives_same, gives_tick, gives_were, same_open, same_tick, stays, then_open, then_stand, then_tick, then_were, was_beside}
+use Rattle.dq_growing.proofs.Sizes.{all_were, back_tick, comes_were, gives_gone, gives_open, gives_same, gives_tick, gives_were, same_open, same_tick, stays, still_gone, then_open, then_stand, then_tick, then_were, was_beside}
 use Rattle.dq_growing.proofs.Keeping.{back_in_keep}
 use Rattle.dq_growing.proofs.Holding.{were_hold}
 use Rattle.dq_growing.proofs.sizing.Sizing.take_first.Goals as goal
@@ -110,3 +111,16 @@ returns-clause-tick g c =
     let law = subst P c.store.view_is c.law.ensures in
     back_tick c.args.store.now.cores c.take_drained.new.self.cores c.take_drained.new.self c.take_in.new.store c.in-Some.core law c.in-Some.ensures.gives refl
     c.in_default-take_in.ensures.comes
+
+pub returns-then-is_needless-clause-gone : goal.returns-then-is_needless-clause-gone
+returns-then-is_needless-clause-gone g c =
+    let P : StoreState g.row.T.Denot g.row.W.Denot → Type 0 = λ s. AreCores s.cores in
+    gives_gone c.args.store.now.cores c.take_drained.new.self.cores c.in-Some.core (subst P c.store.view_is c.law.ensures) c.in-Some.ensures.gives
+
+pub returns-in-Err-clause-gone : goal.returns-in-Err-clause-gone
+returns-in-Err-clause-gone g c =
+    let P : StoreState g.row.T.Denot g.row.W.Denot → Type 0 = λ s. AreCores s.cores in
+    let N : Core g.row.T.Denot g.row.W.Denot → Type 0 = λ k. HasNo c.take_in.new.store.cores.cores k.shard in
+    subst N (sym c.in-Err.ensures.back.0)
+    (still_gone c.take_drained.new.self.cores c.take_in.new.store.cores c.in-Some.core.shard c.in-Err.ensures.back.1
+    (gives_gone c.args.store.now.cores c.take_drained.new.self.cores c.in-Some.core (subst P c.store.view_is c.law.ensures) c.in-Some.ensures.gives))

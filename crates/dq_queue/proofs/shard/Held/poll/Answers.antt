@@ -9,11 +9,11 @@ use Rattle.dq_queue.proofs.shard.Held.poll.Goals as goal
 pub returns-clause-polls : goal.returns-clause-polls
 returns-clause-polls g c =
     let made = c.poll-answer in
-    let P : Held _ → Type 0 = λ h. StorePolls c.args.tick None made.result h.store made.new.self in
-    subst P c.self.view_is (made.ensures.polls, made.ensures.keeps, made.ensures.goes_out, made.ensures.holds, made.ensures.in_force, numbers_kept c.self.inside.store made.new.self made.ensures.words)
+    let P : Held _ → Type 0 = λ h. StorePolls c.args.tick None made.result h.store made.new.self.store in
+    subst P c.self.view_is (made.ensures.polls, made.ensures.keeps, made.ensures.goes_out, made.ensures.holds, made.ensures.in_force, numbers_kept c.self.inside.sized.store made.new.self.store made.ensures.words)
 
 pub returns-clause-cores : goal.returns-clause-cores
 returns-clause-cores g c =
     let made = c.poll-answer in
-    let P : Held _ → Type 0 = λ h. BringsNoCore h.store made.new.self in
-    subst P c.self.view_is (brings_none c.self.inside.store made.new.self made.ensures.words (polls_long c.self.inside.store made.new.self c.args.tick None made.result made.ensures.polls))
+    let P : Held _ → Type 0 = λ h. BringsNoCore h.store made.new.self.store in
+    subst P c.self.view_is (brings_none c.self.inside.sized.store made.new.self.store made.ensures.words (polls_long c.self.inside.sized.store made.new.self.store c.args.tick None made.result made.ensures.polls))

@@ -1,6 +1,4 @@
 use Rattle.std.proofs.Common.{subst}
-use Rattle.dq_growing.specs.Cores.{AreCores, CoreRow}
-use Rattle.dq_words.specs.Seats.{Sat}
 use Rattle.dq_queue.specs.Calls.{StoreResets}
 use Rattle.dq_queue.specs.Claims.{BringsNoCore}
 use Rattle.dq_queue.specs.Shards.{Held}
@@ -11,13 +9,11 @@ use Rattle.dq_queue.proofs.shard.Held.reset.Goals as goal
 pub returns-clause-cores : goal.returns-clause-cores
 returns-clause-cores g c =
     let made = c.reset-answer in
-    let P : Held _ → Type 0 = λ h. BringsNoCore h.store made.new.self in
-    subst P c.self.view_is (brings_none c.self.inside.store made.new.self made.ensures.words (resets_long c.self.inside.store made.new.self c.args.entry.now c.args.when made.result.0 made.result.1 made.ensures.resets))
+    let P : Held _ → Type 0 = λ h. BringsNoCore h.store made.new.self.store in
+    subst P c.self.view_is (brings_none c.self.inside.sized.store made.new.self.store made.ensures.words (resets_long c.self.inside.sized.store made.new.self.store c.args.entry.now c.args.when made.result.0 made.result.1 made.ensures.resets))
 
 pub returns-clause-resets : goal.returns-clause-resets
 returns-clause-resets g c =
     let made = c.reset-answer in
-    let C : CoreRow _ Sat → Type 0 = λ r. AreCores r in
-    let cores = subst C c.cores.ensures c.law-2.ensures in
-    let P : Held _ → Type 0 = λ h. StoreResets c.args.entry.now c.args.when made.result h.store made.new.self in
-    subst P c.self.view_is (made.ensures.resets, (made.ensures.keeps, made.ensures.holds, made.ensures.stays, made.ensures.due, resets_left c.self.inside.store made.new.self c.args.entry.now c.args.when made.result.0 made.result.1 c.law.ensures.law cores made.ensures.resets))
+    let P : Held _ → Type 0 = λ h. StoreResets c.args.entry.now c.args.when made.result h.store made.new.self.store in
+    subst P c.self.view_is (made.ensures.resets, (made.ensures.keeps, made.ensures.holds, made.ensures.refused, made.ensures.due, resets_left c.self.inside.sized.store made.new.self.store c.args.entry.now c.args.when made.result.0 made.result.1 c.law.ensures.law c.law.ensures.cores made.ensures.resets))

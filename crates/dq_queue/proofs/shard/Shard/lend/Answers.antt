@@ -36,8 +36,8 @@ invariant_of-self-in-Some g c =
     let s = c.self.invariant in
     let call : IsStoreCall c.self.inside.held.store made.new.self.store = inr (inr (inr (inr (inr (inr (inl (made.result, made.ensures.gives))))))) in
     let kept = goes_out c.self.inside.history.view.log (entry c.me.inside.history.view.number (Some made.new.self)) c.self.inside.held made.new.self c.self.inside.loans.view c.args.loan.view
-    c.enter_for-in-Some.new.caller.view c.enter_for-in-Some.new.self.view.log c.self.inside.claims.items c.in-Some.core s.9 s.4 refl s.3 c.in-Some.ensures.gives s.6 c.in-Some.ensures.gone
-    c.no_core_gives_anew.ensures loan.once loan.log in
+    c.enter_for-in-Some.new.caller.view c.enter_for-in-Some.new.self.view.log c.self.inside.claims.items c.in-Some.core s.9 s.4 refl s.3 c.in-Some.ensures.gives s.6
+    loan.once loan.log in
     goes_on_so g.J.Rooms.shards g.J.Rooms.history g.J.Rooms.loans g.J.Rooms.rows _ _ _ _ c.self.inside.history.view c.me.inside.history.view c.enter_for.new.caller.view c.enter_for.new.self.view
     c.self.inside.loans.view c.enter_for-in-Some.new.self.view c.self.inside.held made.new.self c.self.inside.claims.items c.self.inside.claims.items s made.ensures.number call e.once e.log e.tables.0 e.keeper
     (s.5, still_claimed c.self.inside.held.store made.new.self.store c.self.inside.claims.items made.ensures.cores s.6) loan.tables.0 loan.keeper kept
