@@ -573,6 +573,7 @@ impl<T, W: Words, A: Allocator + Clone> SizedStore<T, W, A> {
         ensures noted { self.new.sizing.sweep.cancels ≡ cancels }
         ensures keeps { KeepsIds self.old.store self.new.store }
         ensures holds { HoldsDeadlines self.old.store self.new.store }
+        ensures words { KeepsWords W.origin W.begun self.old.store.cores self.new.store.cores }
         ensures quiet { TellsQuiet self.new.sizing cancels self.new.store }
         ensures rest { self.new.sizing ≡ record self.old.sizing {
           quiet_since = self.new.sizing.quiet_since;

@@ -3,6 +3,7 @@
 ghost use Rattle.std.specs.Prelude.{◌≡◌, ◌<◌, ◌↔◌, true, false, MatchOption, None, IsTrue};
 ghost use Rattle.dq_growing.specs.Runs.{HoldsDeadlines, KeepsIds};
 ghost use Rattle.dq_growing.specs.Sizing.{WayGoesOn, TakesOff, SweepsNext, TellsQuiet, way_for};
+ghost use Rattle.dq_growing.specs.Stands.{KeepsWords};
 
 use crate::NEVER;
 use crate::sizing::{Sizing, slots};
@@ -93,6 +94,7 @@ impl Sizing {
         // No id is given anew, and no deadline falls.
         ensures keeps { KeepsIds store.old store.new }
         ensures holds { HoldsDeadlines store.old store.new }
+        ensures words { KeepsWords W.origin W.begun store.old.cores store.new.cores }
 
         // If there is quiet since these cancels, no slot is left and there is no work.
         ensures quiet { TellsQuiet self.new cancels store.new }
@@ -130,6 +132,7 @@ impl Sizing {
             self.old.sweep store.old self.new.sweep store.new }
         ensures keeps { KeepsIds store.old store.new }
         ensures holds { HoldsDeadlines store.old store.new }
+        ensures words { KeepsWords W.origin W.begun store.old.cores store.new.cores }
         ensures rest { self.new ≡ record self.old { sweep = self.new.sweep } }
     {
         let cores = store.cores().count();

@@ -1,5 +1,5 @@
 -- The words of a shard's cores stay claimed.
-use Rattle.std.proofs.Common.{true, false, true≢false, is_err, refl, IfSome, OnOk, ◌≡◌, ◌⊎◌, ℕ, ◌<◌, List, [], ◌∷◌, ◌++◌, length, get_or, sym, ap, ◌∙◌, subst, inl, inr, ⊎_elim, length-set, arith, Option, Some, None, Result, Ok, Err}
+use Rattle.std.proofs.Common.{Bool, true, false, true≢false, is_err, refl, IfSome, OnOk, ◌≡◌, ◌⊎◌, ℕ, ◌<◌, List, [], ◌∷◌, ◌++◌, length, get_or, sym, ap, ◌∙◌, subst, inl, inr, ⊎_elim, length-set, arith, Option, Some, None, Result, Ok, Err}
 use Rattle.std.proofs.lemmas.List.{get_or_default}
 use mathlib.Core.Logic.{dite}
 use native.Mathlib.Decide.{ℕ_discrete}
@@ -23,7 +23,8 @@ use Rattle.dq_growing.specs.declared.moving.NextDeadline.TheVariants.{At}
 use Rattle.dq_growing.specs.Cores.{CoreRow, HasNo, IsCoreAt, OnCore, OnCoreAt, OnCoreOr, InsertsIn}
 use Rattle.dq_growing.specs.Moving.{GoesTo, Relocates}
 use Rattle.dq_growing.specs.Polls.{PollsRow, TakesDeferredAt, TakesDeferredIn}
-use Rattle.dq_growing.specs.Sizing.{AllWere, ComesInto, OpensWanted, WasBeside}
+use Rattle.dq_growing.specs.declared.sweeping.Sweep.{Sweep}
+use Rattle.dq_growing.specs.Sizing.{AllWere, ComesInto, OnlyOpens, OpensWanted, SweepsNext, WasBeside}
 use Rattle.dq_growing.specs.Stands.{KeepsWords}
 use Rattle.dq_growing.specs.Store.{StoreState, StandsFor, AfterReset, PollsFor, ReapsFor, RelocatesFor, RemovesAt, RemovesFor, RemovesIfDueFor, ResetsFor, ResetsThere, TellsFor}
 use Rattle.dq_growing.proofs.Keeping.{all_keep}
@@ -210,6 +211,18 @@ module _ {T : Type 0} where
       → IfSome r (λ c. IsFoldable c × WasBeside s.cores c × HasNo t.cores.cores c.shard)
   gives_of s t (Some c) drained gone = (drained.0, drained.1, gone)
   gives_of s t None drained gone = tt {0}
+
+  -- which core is open has changed at most
+  pub opens_none : (s t : StoreState T Sat) → OnlyOpens s t → BringsNoCore s t
+  opens_none s t opens i c at = let P : CoreRow T Sat → Type 0 = λ r. IsCoreAt r.cores i c in (i, c, subst P opens.0.1 at, refl, refl)
+
+  next_long : (s t : StoreState T Sat) (w v : Sweep) → SweepsNext true 256 w s v t → SameLength s.cores t.cores
+  next_long s t w v (notes, inl y) = same_row s.cores t.cores y.1
+  next_long s t w v (notes, inr y) = at_long s.cores t.cores w.place _ y.1
+
+  pub sweeps_long : (s t : StoreState T Sat) (w v : Sweep) (looked : Bool) → (looked ≡ true → SweepsNext true 256 w s v t) → (looked ≡ false → t ≡ s) → SameLength s.cores t.cores
+  sweeps_long s t w v true swept rests = next_long s t w v (swept refl)
+  sweeps_long s t w v false swept rests = same_store s t (rests refl)
 
   -- each core was there before
   pub were_there : (s t : StoreState T Sat) → AllWere s.cores t.cores → BringsNoCore s t

@@ -1,5 +1,5 @@
 -- No call of a store loses an entry.
-use Rattle.std.proofs.Common.{true, ◌≡◌, ◌≢◌, ◌⊎◌, ℕ, zero, suc, ◌<◌, ◌≤◌, List, [], ◌∷◌, length, get_or, max, min, sym, refl, ap, ◌∙◌, subst, ⊎_elim, length-set, get_or-set_same, arith, inl, inr, Option, Some, None, Result, Ok, Err, IfOk}
+use Rattle.std.proofs.Common.{Bool, true, false, ◌≡◌, ◌≢◌, ◌⊎◌, ℕ, ◌+◌, zero, suc, ◌<◌, ◌≤◌, List, [], ◌∷◌, length, get_or, max, min, sym, refl, ap, ◌∙◌, subst, ⊎_elim, length-set, get_or-set_same, arith, inl, inr, Option, Some, None, Result, Ok, Err, IfOk}
 use Rattle.std.specs.List.{AllByRecursion}
 use Rattle.std.proofs.lemmas.List.{get_or-set_other, set-get_or}
 use Rattle.atomic_table.specs.Table.{State}
@@ -25,7 +25,7 @@ use Rattle.dq_core.specs.Calls.{FindRefused, Inserts, IsFound, IsRemoved, Resets
 use Rattle.dq_core.specs.Core.{Core, IsLawfulCore, entry_of, machine, table_of}
 use Rattle.dq_core.specs.Machine.{Callers, Cancel, Entry, Event, Extend, Has, IsCallers, IsOnTheWay, Machine, Run, Step, put, table_at, with_due}
 use Rattle.dq_core.specs.Slots.{Row, row_at, unused, vacated_row}
-use Rattle.dq_core.specs.Sweeps.{Reaps}
+use Rattle.dq_core.specs.Sweeps.{Reaps, SweepsSome}
 use Rattle.dq_core.specs.Words.{IsOver, IsInForce, Learned, cancelled, never, word_at}
 use Rattle.dq_core.proofs.CallWords.{inserted_others, removed_others}
 use Rattle.dq_core.proofs.Finds.{found_force}
@@ -41,9 +41,11 @@ use Rattle.dq_growing.specs.Cores.{AreCores, CoreRow, InsertsIn, IsCoreAt, OnCor
 use Rattle.dq_growing.specs.Moving.{IfTo, IsTakenOut, Relocates}
 use Rattle.dq_growing.specs.Notes.{Book, IsNoted, LosesNote, SameNotes, meant_place, or_own, place_by, user_at, with_id}
 use Rattle.dq_growing.specs.Polls.{PollsCore, PollsRow, TakesDeferredIn, noting_in, told}
+use Rattle.dq_growing.specs.declared.sweeping.Sweep.{Sweep}
+use Rattle.dq_growing.specs.Sizing.{OnlyOpens, SweepsNext}
 use Rattle.dq_growing.specs.Stands.{HasEntry, IsThere, KeepsWords, SameStand}
 use Rattle.dq_growing.specs.Store.{StoreState, IsStore, StandsFor, NoneStandsFor, GoesOnFor, GoesOut, NotesAfter, NotesAnswered, NotesReaped, ReapsFor, RelocatesFor, RemovesFor, ResetsFor, TellsFor, AfterReset, answer_as, expired_as, piece_as, removed_as, ResetsThere}
-use Rattle.dq_growing.proofs.Holding.{CoreRaises, pieces_raise, polls_raise}
+use Rattle.dq_growing.proofs.Holding.{CoreRaises, pieces_raise, polls_raise, sweeps_raise}
 use Rattle.dq_growing.proofs.Keeping.{piece_gone, poll_gone, way_stood}
 use Rattle.dq_growing.proofs.Leasts.{some_not_none}
 use Rattle.dq_growing.proofs.Pairing.{one_or_two}
@@ -537,6 +539,9 @@ module _ {T : Type 0} where
   relocates_lose s t id next r beside did (inl (p0, meant, inr (made, way, is, notes))) = moves_lose s t id next r beside did p0 made way is notes
   relocates_lose s t id next r beside did (inr (nowhere, (is, same))) = none_lost s t (same_none_left s t same)
 
+  opens_left : (s t : StoreState T Sat) → OnlyOpens s t → NoneLeft s t
+  opens_left s t opens = still s t (same_row s.cores t.cores (ap (λ (k : CoreRow T Sat). k.cores) opens.0.1)) (same_users s.notes t.notes opens.1)
+
   -- each entry stands
   same_left : (s t : StoreState T Sat) → SameStand (StandsFor s) (StandsFor t) → NoneLeft s t
   same_left s t same u none e z = let f = same.0 u e z in none f.0 f.1
@@ -600,6 +605,36 @@ module _ {T : Type 0} where
   reaps_lose : (s t : StoreState T Sat) (id : EntryId) (r : Result (Unit {0}) ReapError) → ReapsFor true s id r t → KeepsNumbers s t → LosesNone s t
   reaps_lose s t id r (inl (p0, meant, (on, notes))) numbers = reaps_at s t p0 r on notes numbers
   reaps_lose s t id r (inr (nowhere, (is, same))) numbers = none_lost s t (same_none_left s t same)
+
+  -- a sweep of slots: what stands no more in the core that was swept had been cancelled
+  swept_fate : (from upto n : ℕ) (b c : Core T Sat) → SweepsSome true b from upto n c → c.shard ≡ b.shard → (p : EntryId) (e : Entry T) → IsThere b p e
+      → (o : Option (Entry T)) → (table_at (machine c) p.index).entry ≡ o → ((f : Entry T) × IsThere c p f) ⊎ Cancelled b c p
+  swept_fate from upto n b c did same p e x None at = let looks = did.reaped.2.looks in inr (vanished b c p e x at looks.0 (looks.1 p.index))
+  swept_fate from upto n b c did same p e x (Some f) at =
+      let g = sweeps_raise true b c from upto n did p.index f at in
+      let is = some_is g.0 e (sym g.1 ∙ x.linked) in
+      inl (f, record { shard = x.shard ∙ sym same; linked = at; born = sym g.2 ∙ (ap (λ (z : Entry T). z.born) is ∙ x.born) })
+
+  swept_lost : (s t : StoreState T Sat) (w v : Sweep) → SweepsNext true 256 w s v t → KeepsNumbers s t → LosesNone s t
+  swept_lost s t w v (notes, inl y) numbers u value has none =
+      none_lost s t (still s t (same_row s.cores t.cores (ap (λ (k : CoreRow T Sat). k.cores) y.1)) (same_users s.notes t.notes notes)) u value has none
+  swept_lost s t w v (notes, inr (swept, on, behind)) numbers u value has none =
+      let z = has.1 in
+      let b = on.before in
+      let c = on.after in
+      let is = on_core s.cores t.cores w.place _ on in
+      let gone = stayed s t u z.0 has.0 z.1 z.2 none (same_users s.notes t.notes notes z.0) in
+      ⊎_elim
+      (λ (x : IsThere b z.0 has.0). ⊎_elim
+      (λ (f : (f : Entry T) × IsThere c z.0 f). absurd (gone (f.0, (w.place, c, is, f.1))))
+      (λ (lost : Cancelled b c z.0). inr (cancelled_in s t u z.0 has.0 w.place b c z.1 z.2 on.at is (found_there b z.0 has.0 x) numbers lost))
+      (swept_fate w.slot (w.slot + 256) swept.reaped b c on.did.0 (numbers w.place b c on.at is) z.0 has.0 x _ refl))
+      (λ (y : HasEntry t.cores z.0 has.0). absurd (gone (has.0, y)))
+      (at_or s.cores t.cores w.place _ on z.0 has.0 z.2)
+
+  sweeps_lose : (s t : StoreState T Sat) (looked : Bool) → (looked ≡ true → (w : Sweep) × (v : Sweep) × SweepsNext true 256 w s v t) → (looked ≡ false → t ≡ s) → KeepsNumbers s t → LosesNone s t
+  sweeps_lose s t true swept rests numbers = let y = swept refl in swept_lost s t y.0 y.1 y.2 numbers
+  sweeps_lose s t false swept rests numbers = none_lost s t (same_none_left s t (rests refl))
 
   -- a reset, by what its core and its store keep
 
@@ -701,7 +736,10 @@ loses_none T s t (inr (inr (inr (inr (inr (inr (inl y))))))) = let did = y.1 in 
 loses_none T s t (inr (inr (inr (inr (inr (inr (inr (inl y)))))))) = let did = y.3 in relocates_lose s t y.0 y.1 y.2.0 y.2.1 did did.0
 loses_none T s t (inr (inr (inr (inr (inr (inr (inr (inr (inl y))))))))) = let did = y.2 in reaps_lose s t y.0 y.1 did.0 did.3
 loses_none T s t (inr (inr (inr (inr (inr (inr (inr (inr (inr (inl y)))))))))) = let did = y.3 in none_lost s t did.1.4
-loses_none T s t (inr (inr (inr (inr (inr (inr (inr (inr (inr (inr y)))))))))) = let did = y.1 in none_lost s t (still s t (deferred_row s.cores t.cores y.0 did.0) (same_users s.notes t.notes did.1))
+loses_none T s t (inr (inr (inr (inr (inr (inr (inr (inr (inr (inr (inl y))))))))))) = let did = y.1 in none_lost s t (still s t (deferred_row s.cores t.cores y.0 did.0) (same_users s.notes t.notes did.1))
+loses_none T s t (inr (inr (inr (inr (inr (inr (inr (inr (inr (inr (inr (inl y)))))))))))) = let did = y.2 in none_lost s t (opens_left s t did.0)
+loses_none T s t (inr (inr (inr (inr (inr (inr (inr (inr (inr (inr (inr (inr (inl y))))))))))))) = none_lost s t (still s t (same_row s.cores t.cores (ap (λ (k : CoreRow T Sat). k.cores) y.0)) (kept_users s.notes t.notes y.1))
+loses_none T s t (inr (inr (inr (inr (inr (inr (inr (inr (inr (inr (inr (inr (inr y))))))))))))) = let did = y.1 in sweeps_lose s t y.0 did.0 did.1 did.4
 
 -- over a history
 each_loses_none : {T : Type 0} (log : List (Call (Held T))) (history : IsStoreHistory log) → EachLosesNone log history

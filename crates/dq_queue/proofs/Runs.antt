@@ -115,7 +115,10 @@ module _ {T : Type 0} where
   keeps_id u s t (inr (inr (inr (inr (inr (inr (inr (inl y)))))))) brings used = let did = y.3 in did.1 u used
   keeps_id u s t (inr (inr (inr (inr (inr (inr (inr (inr (inl y))))))))) brings used = let did = y.2 in did.1 u used
   keeps_id u s t (inr (inr (inr (inr (inr (inr (inr (inr (inr (inl y)))))))))) brings used = let did = y.3 in did.1.0 u used
-  keeps_id u s t (inr (inr (inr (inr (inr (inr (inr (inr (inr (inr y)))))))))) brings used = let did = y.1 in did.2 u used
+  keeps_id u s t (inr (inr (inr (inr (inr (inr (inr (inr (inr (inr (inl y))))))))))) brings used = let did = y.1 in did.2 u used
+  keeps_id u s t (inr (inr (inr (inr (inr (inr (inr (inr (inr (inr (inr (inl y)))))))))))) brings used = let did = y.2 in did.3 u used
+  keeps_id u s t (inr (inr (inr (inr (inr (inr (inr (inr (inr (inr (inr (inr (inl y))))))))))))) brings used = y.2 u used
+  keeps_id u s t (inr (inr (inr (inr (inr (inr (inr (inr (inr (inr (inr (inr (inr y))))))))))))) brings used = let did = y.1 in did.2 u used
 
   reset_holds : (u : EntryId) (s t : StoreState T Sat) (id : EntryId) (when : ℕ) (r : Result Key CoreError × Option T) → StoreResets id when r s t → (¬ SetsDeadline u s t) → IsUsedId s u
       → HoldsDeadline s t u
@@ -166,7 +169,10 @@ module _ {T : Type 0} where
   none_set u s t (inr (inr (inr (inr (inr (inr (inr (inl y)))))))) sets used = move_holds u s t y.0 y.1 y.2 y.3 sets used
   none_set u s t (inr (inr (inr (inr (inr (inr (inr (inr (inl y))))))))) sets used = let did = y.2 in did.2 u used
   none_set u s t (inr (inr (inr (inr (inr (inr (inr (inr (inr (inl y)))))))))) sets used = there_holds u s t y.0 y.1 y.2 y.3 sets used
-  none_set u s t (inr (inr (inr (inr (inr (inr (inr (inr (inr (inr y)))))))))) sets used = let did = y.1 in did.3 u used
+  none_set u s t (inr (inr (inr (inr (inr (inr (inr (inr (inr (inr (inl y))))))))))) sets used = let did = y.1 in did.3 u used
+  none_set u s t (inr (inr (inr (inr (inr (inr (inr (inr (inr (inr (inr (inl y)))))))))))) sets used = let did = y.2 in did.4 u used
+  none_set u s t (inr (inr (inr (inr (inr (inr (inr (inr (inr (inr (inr (inr (inl y))))))))))))) sets used = y.3 u used
+  none_set u s t (inr (inr (inr (inr (inr (inr (inr (inr (inr (inr (inr (inr (inr y))))))))))))) sets used = let did = y.1 in did.3 u used
 
   pub holds_due : (u : EntryId) (s t : StoreState T Sat) → IsStoreCall s t → SetsNone u s t → IsUsedId s u → HoldsDeadline s t u
   holds_due u s t did (inl moves) used = let m = moves.5 in m.5 moves.4 u used

@@ -1,6 +1,6 @@
 -- What one call does to what lies behind a shard's lock. Each keeps the ids that entries have had, and
 -- the deadline of each entry but one that it gives another.
-use Rattle.std.specs.Prelude.{◌≡◌, ◌⊎◌, ◌<◌, ◌≤◌, ℕ, true, Option, Some, None, Result, Ok, Err, IfOk, IfErr, IfSome, OnOk, OnErr}
+use Rattle.std.specs.Prelude.{◌≡◌, ◌⊎◌, ◌<◌, ◌≤◌, ℕ, Bool, true, false, Option, Some, None, Result, Ok, Err, IfOk, IfErr, IfSome, OnOk, OnErr}
 use Rattle.dq_ticks.specs.declared.keys.Key.{Key}
 use Rattle.dq_ticks.specs.declared.keys.EntryId.{EntryId}
 use Rattle.dq_core.specs.declared.errors.CoreError.{CoreError}
@@ -11,14 +11,15 @@ use Rattle.dq_core.specs.Core.{Core}
 use Rattle.dq_core.specs.Folds.{IsFoldable}
 use Rattle.dq_growing.specs.declared.cores.TakeError.{TakeError}
 use Rattle.dq_growing.specs.Cores.{HasAt, HasNo, InsertsIn, IsCoreAt}
-use Rattle.dq_growing.specs.Notes.{Book, meant_place}
-use Rattle.dq_growing.specs.Moving.{IfTo, IfCameOut, UnlessTo}
+use Rattle.dq_growing.specs.Notes.{Book, SameNotes, meant_place}
+use Rattle.dq_growing.specs.Moving.{HasOpenRoom, IfTo, IfCameOut, UnlessTo}
 use Rattle.dq_growing.specs.Polls.{DoesPiece, DoesPoll, IfPieceOut, TakesDeferredIn}
 use Rattle.dq_growing.specs.Runs.{IsUsedId, KeepsIds, KeepsIdsBeside, GivesId, HoldsDeadlines, HoldsOtherDeadlines, KeepsItsDeadline, LeavesInForce, NotDueBefore}
 use Rattle.dq_core.specs.declared.errors.ReapError.{ReapError}
 use Rattle.dq_growing.specs.declared.moving.Moved.{Moved}
 use Rattle.dq_growing.specs.declared.moving.NextDeadline.{NextDeadline}
-use Rattle.dq_growing.specs.Sizing.{AllWere, ComesInto, OpensWanted, StaysOpen, WasBeside}
+use Rattle.dq_growing.specs.Sizing.{AllWere, ComesInto, HasClearAt, HasNoRoom, OnlyOpens, OpensWanted, StaysOpen, SweepsNext, WasBeside}
+use Rattle.dq_growing.specs.declared.sweeping.Sweep.{Sweep}
 use Rattle.dq_growing.specs.Stands.{SameStand}
 use Rattle.dq_growing.specs.Store.{StoreState, StandsFor, RemovesFor, TellsFor, ResetsFor, ResetsThere, RelocatesFor, ReapsFor, PollsFor, HasFor, HasOneValue, NoneStandsFor, GoesOut, TakeRefusedFor}
 use Rattle.dq_words.specs.Plays.{Covers}
@@ -168,6 +169,32 @@ module _ {T : Type 0} where
   StoreTakesDeferred r s t =
       TakesDeferredIn s.cores r t.cores × (t.notes ≡ s.notes) × KeepsIds s t × HoldsDeadlines s t
 
+  -- a look for a free slot: another core may be open, and no more changes; the open one has such a slot
+  -- where it is told that one has, and else nothing changes
+  abbrev pub StoreFindsRoom : Bool → Bool → StoreState T Sat → StoreState T Sat → Type 0
+  StoreFindsRoom any found s t =
+      OnlyOpens s t
+      × (found ≡ true → HasOpenRoom t.cores × HasClearAt t.cores t.cores.opened)
+      × (found ≡ false → HasNoRoom any s.cores × (t ≡ s)) × KeepsIds s t × HoldsDeadlines s t
+
+  -- memory is taken ahead, or is refused; no entry changes
+  abbrev pub StoreReserves : StoreState T Sat → StoreState T Sat → Type 0
+  StoreReserves s t =
+      (t.cores ≡ s.cores) × SameNotes s.notes t.notes × KeepsIds s t × HoldsDeadlines s t
+
+  -- cancelled entries are freed at the next slots of some way, if some are looked at; else nothing
+  -- changes
+  abbrev pub StoreSweeps : Bool → StoreState T Sat → StoreState T Sat → Type 0
+  StoreSweeps looked s t =
+      (looked ≡ true → (w : Sweep) × (v : Sweep) × SweepsNext true 256 w s v t)
+      × (looked ≡ false → t ≡ s) × KeepsIds s t × HoldsDeadlines s t × KeepsNumbers s t
+
+  -- a call for the store's size, which gives out no entry
+  abbrev pub IsUpkeep : StoreState T Sat → StoreState T Sat → Type 0
+  IsUpkeep s t =
+      ((any : Bool) × (found : Bool) × StoreFindsRoom any found s t)
+      ⊎ (StoreReserves s t ⊎ ((looked : Bool) × StoreSweeps looked s t))
+
   -- one call took a store from one state to another; a removal of what is due is a removal, or a
   -- look at a deadline
   abbrev pub IsStoreCall : StoreState T Sat → StoreState T Sat → Type 0
@@ -188,4 +215,4 @@ module _ {T : Type 0} where
       ⊎ (((id : EntryId) × (r : Result (Unit {0}) ReapError) × StoreReaps id r s t)
       ⊎ (((id : EntryId) × (when : ℕ) × (r : Result Key CoreError)
       × StoreResetsThere id when r s t)
-      ⊎ ((r : Option T) × StoreTakesDeferred r s t))))))))))
+      ⊎ (((r : Option T) × StoreTakesDeferred r s t) ⊎ IsUpkeep s t))))))))))

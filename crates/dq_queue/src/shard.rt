@@ -2,12 +2,14 @@
 ghost use Rattle.std.specs.Prelude.{◌≡◌, ◌<◌, ◌+◌, ◌++◌, ◌∷◌, true, [], Some, None, IfOk, IfErr, IfSome, IfNone, OnOk, OnErr};
 ghost use Rattle.dq_journal.specs.Once.{IsTold, IsWithNumber};
 ghost use Rattle.dq_journal.specs.Views.{first_witness, new_witness};
-ghost use Rattle.dq_growing.specs.Polls.{IfPieceOut};
+ghost use Rattle.dq_growing.specs.Notes.{HasNoteRoom};
+ghost use Rattle.dq_growing.specs.Polls.{IfPieceOut, NoneLiveIn};
 ghost use Rattle.dq_growing.specs.Store.{IsStore};
 ghost use Rattle.dq_directory.specs.Claims.{IsOf};
 ghost use Rattle.dq_queue.specs.Calls.{StoreInserts, StoreRemoves, StoreRemovesIfDue, StoreResets, StoreResetsThere, StoreTells, StorePolls};
 ghost use Rattle.dq_queue.specs.Calls.{KeepsPromise, StorePollsBeside, StoreTakesDeferred};
 ghost use Rattle.dq_queue.specs.Calls.{StoreTakesIn, StoreRefuses, StoreGives, StoreRelocates, StoreReaps};
+ghost use Rattle.dq_queue.specs.Calls.{StoreFindsRoom, StoreReserves, StoreSweeps};
 ghost use Rattle.dq_queue.specs.Claims.{AreClaimed, AreClaimsOf, BringsNoCore, ClaimsWords, HasClaim, IsOfItsWords, RefusedAsNew};
 ghost use Rattle.dq_queue.specs.Leaving.{NoneIsLostIn};
 ghost use Rattle.dq_queue.specs.Loans.{StoreGivesOut, StoreRefusesBack, StoreTakesBack};
@@ -300,6 +302,76 @@ impl<T, A: Allocator + Clone> Held<T, A> {
         let answer = self.sized.reap(entry);
         self.sized.law();
         answer
+    }
+
+    fn finds_room(&mut self, any_will_do: bool) -> bool
+        ensures number { self.new.number ≡ self.old.number }
+        ensures stores { IsStore self.old.store × IsStore self.new.store }
+        ensures cores { BringsNoCore self.old.store self.new.store }
+        ensures finds { StoreFindsRoom any_will_do result self.old.store self.new.store }
+    {
+        self.sized.law();
+        let answer = self.sized.finds_room(any_will_do);
+        self.sized.law();
+        answer
+    }
+
+    fn reserve(&mut self, cores: usize) -> Result<(), AllocError>
+        ensures number { self.new.number ≡ self.old.number }
+        ensures stores { IsStore self.old.store × IsStore self.new.store }
+        ensures cores { BringsNoCore self.old.store self.new.store }
+        ensures reserves { StoreReserves self.old.store self.new.store }
+        ensures room { OnOk result (HasNoteRoom self.new.store.notes) }
+    {
+        self.sized.law();
+        let answer = self.sized.reserve(cores);
+        self.sized.law();
+        answer
+    }
+
+    fn sweep(&mut self, cancels: u64) -> bool
+        ensures number { self.new.number ≡ self.old.number }
+        ensures stores { IsStore self.old.store × IsStore self.new.store }
+        ensures cores { BringsNoCore self.old.store self.new.store }
+        ensures sweeps { StoreSweeps result self.old.store self.new.store }
+    {
+        self.sized.law();
+        let answer = self.sized.sweep(cancels);
+        self.sized.law();
+        answer
+    }
+}
+
+// Calls for the size and the hint alone: the store stays.
+impl<T, A: Allocator + Clone> Held<T, A> {
+    fn note_left(&mut self, left: u64)
+        ensures { self.new ≡ self.old }
+    {
+        self.sized.note_left(left);
+    }
+
+    fn note_work(&mut self)
+        ensures { self.new ≡ self.old }
+    {
+        self.sized.note_work();
+    }
+
+    fn keep(&mut self, entries: usize)
+        ensures { self.new ≡ self.old }
+    {
+        self.sized.keep(entries);
+    }
+
+    fn note_next(&mut self)
+        ensures { self.new ≡ self.old }
+    {
+        self.sized.note_next();
+    }
+
+    fn call_others(&mut self)
+        ensures { self.new ≡ self.old }
+    {
+        self.sized.call_others();
     }
 }
 
@@ -766,6 +838,101 @@ impl<T, J: Rooms, A: Allocator + Clone> Shard<T, J, A> {
         let answer = self.held.reap(entry);
         self.history.enter_for(&mut me.history, &self.held);
         answer
+    }
+
+    /// Whether a slot is free for an insert: in the open core, or in another one of which half is free, or, where any will
+    /// do, in any. That one is open then. No value that waits for its drop is in the way.
+    pub fn finds_room(&mut self, me: &mut Caller<T, J, A>, any_will_do: bool) -> bool
+        requires { me.old.shard ≡ self.old.held.number }
+        ensures once { MadeOnce me.old
+            (λ s t. StoreFindsRoom any_will_do result s t) me.new }
+        ensures one_more { OneMore self.old me.old self.new }
+        ensures finds { StoreFindsRoom any_will_do result
+            self.old.held.store self.new.held.store }
+        ensures number { self.new.held.number ≡ self.old.held.number }
+        ensures claims { self.new.claims ≡ self.old.claims }
+    {
+        let answer = self.held.finds_room(any_will_do);
+        self.history.enter_for(&mut me.history, &self.held);
+        answer
+    }
+
+    /// Takes memory for `cores` more in the list of cores, and for one note.
+    ///
+    /// # Errors
+    /// If memory is refused.
+    pub fn reserve(&mut self, me: &mut Caller<T, J, A>, cores: usize) -> Result<(), AllocError>
+        requires { me.old.shard ≡ self.old.held.number }
+        ensures once { MadeOnce me.old (λ s t. StoreReserves s t) me.new }
+        ensures one_more { OneMore self.old me.old self.new }
+        ensures reserves { StoreReserves self.old.held.store self.new.held.store }
+        ensures room { OnOk result (HasNoteRoom self.new.held.store.notes) }
+        ensures number { self.new.held.number ≡ self.old.held.number }
+        ensures claims { self.new.claims ≡ self.old.claims }
+    {
+        let answer = self.held.reserve(cores);
+        self.history.enter_for(&mut me.history, &self.held);
+        answer
+    }
+
+    /// Frees cancelled entries at the next slots, 256 at most, unless each was looked at since the last of so many cancels.
+    /// It tells whether it looked at some. No value is dropped: each waits until it is taken out.
+    pub fn sweep(&mut self, me: &mut Caller<T, J, A>, cancels: u64) -> bool
+        requires { me.old.shard ≡ self.old.held.number }
+        ensures once { MadeOnce me.old (λ s t. StoreSweeps result s t) me.new }
+        ensures one_more { OneMore self.old me.old self.new }
+        ensures sweeps { StoreSweeps result self.old.held.store self.new.held.store }
+        ensures number { self.new.held.number ≡ self.old.held.number }
+        ensures claims { self.new.claims ≡ self.old.claims }
+    {
+        let answer = self.held.sweep(cancels);
+        self.history.enter_for(&mut me.history, &self.held);
+        answer
+    }
+}
+
+// Calls for the size and the hint alone. The store stays, so no call is entered.
+impl<T, J: Rooms, A: Allocator + Clone> Shard<T, J, A> {
+    /// Returns the hint: a tick of one millisecond that is not after the deadline of any live entry.
+    pub fn hint(&self) -> u64
+        ensures { NoneLiveIn self.now.held.store.cores result }
+    {
+        self.held.sized.hint()
+    }
+
+    /// Notes that an entry left its core, and that so many are left.
+    pub fn note_left(&mut self, left: u64)
+        ensures { self.new ≡ self.old }
+    {
+        self.held.note_left(left);
+    }
+
+    /// Notes that there may be something to do for the store's size.
+    pub fn note_work(&mut self)
+        ensures { self.new ≡ self.old }
+    {
+        self.held.note_work();
+    }
+
+    /// Keeps memory for so many entries for good.
+    pub fn keep(&mut self, entries: usize)
+        ensures { self.new ≡ self.old }
+    {
+        self.held.keep(entries);
+    }
+
+    /// Looks when the next entry is due, if there is one core, for the hint of the store.
+    pub fn note_next(&mut self)
+        ensures { self.new ≡ self.old }
+    {
+        self.held.note_next();
+    }
+
+    /// Has others come at once, whatever is due: a value waits for its drop.
+    pub fn call_others(&mut self)
+        ensures { self.new ≡ self.old }
+    {
+        self.held.call_others();
     }
 }
 

@@ -12,3 +12,9 @@ returns-clause-keeps g c = rw (← c.self.view_is) c.sweep.ensures.keeps
 
 pub returns-clause-holds : goal.returns-clause-holds
 returns-clause-holds g c = rw (← c.self.view_is) c.sweep.ensures.holds
+
+pub returns-clause-words : goal.returns-clause-words
+returns-clause-words g c = rw (← c.self.view_is) c.sweep.ensures.words
+
+pub returns-clause-sweeps : goal.returns-clause-sweeps
+returns-clause-sweeps g c = rw (← c.self.view_is) c.sweep.ensures.sweeps
