@@ -18,7 +18,7 @@ use Rattle.dq_growing.specs.Runs.{IsUsedId, KeepsIds, KeepsIdsBeside, GivesId, H
 use Rattle.dq_core.specs.declared.errors.ReapError.{ReapError}
 use Rattle.dq_growing.specs.declared.moving.Moved.{Moved}
 use Rattle.dq_growing.specs.declared.moving.NextDeadline.{NextDeadline}
-use Rattle.dq_growing.specs.Sizing.{AllWere, ComesInto, HasClearAt, HasNoRoom, OnlyOpens, OpensWanted, StaysOpen, SweepsNext, WasBeside}
+use Rattle.dq_growing.specs.Sizing.{AllWere, ComesInto, HasClearAt, HasNoRoom, OnlyOpens, OpensOne, OpensWanted, StaysOpen, SweepsNext, WasBeside}
 use Rattle.dq_growing.specs.declared.sweeping.Sweep.{Sweep}
 use Rattle.dq_growing.specs.Stands.{SameStand}
 use Rattle.dq_growing.specs.Store.{StoreState, StandsFor, RemovesFor, TellsFor, ResetsFor, ResetsThere, RelocatesFor, ReapsFor, PollsFor, HasFor, HasOneValue, NoneStandsFor, GoesOut, TakeRefusedFor}
@@ -169,13 +169,14 @@ module _ {T : Type 0} where
   StoreTakesDeferred r s t =
       TakesDeferredIn s.cores r t.cores × (t.notes ≡ s.notes) × KeepsIds s t × HoldsDeadlines s t
 
-  -- a look for a free slot: another core may be open, and no more changes; the open one has such a slot
-  -- where it is told that one has, and else nothing changes
+  -- a look for a free slot: nothing changes, or a core is open that may be opened, and no more does.
+  -- The open one has such a slot where one was found, and it stays open where it has one
   abbrev pub StoreFindsRoom : Bool → Bool → StoreState T Sat → StoreState T Sat → Type 0
   StoreFindsRoom any found s t =
       OnlyOpens s t
       × (found ≡ true → HasOpenRoom t.cores × HasClearAt t.cores t.cores.opened)
       × (found ≡ false → HasNoRoom any s.cores × (t ≡ s)) × KeepsIds s t × HoldsDeadlines s t
+      × (HasClearAt s.cores s.cores.opened → t ≡ s) × ((t ≡ s) ⊎ OpensOne any t.cores)
 
   -- memory is taken ahead, or is refused; no entry changes
   abbrev pub StoreReserves : StoreState T Sat → StoreState T Sat → Type 0

@@ -18,4 +18,4 @@ returns-clause-finds g c =
     let made = c.finds_room-answer in
     let e = made.ensures in
     let P : Held _ → Type 0 = λ h. StoreFindsRoom c.args.any_will_do made.result h.store made.new.self.store in
-    subst P c.self.view_is (e.opens, (λ is. (e.room is, e.clear is)), (λ is. (e.none is, e.kept is)), e.keeps, e.holds)
+    subst P c.self.view_is (e.opens, (λ is. (e.room is, e.clear is)), (λ is. (e.none is, e.kept is)), e.keeps, e.holds, e.stays, e.other)
