@@ -3,15 +3,7 @@
 
 mod kit;
 
-mod apps_checks {
-    //! The expiring cache and idle sessions: the worked rows.
-
-    use crate::tests::kit::same;
-
-    pub mod calls;
-    pub mod rows;
-    pub mod sessions;
-}
+mod apps_checks;
 
 mod checks {
     //! Ticks, packed words and keys, and the laws of them; the worked cases of the queue over plain words and over shared
@@ -58,14 +50,7 @@ mod shard_checks {
     pub mod twins;
 }
 
-mod stream_checks {
-    use crate::tests::kit::same;
-
-    pub mod refusals;
-    pub mod rows;
-    pub mod steps;
-    pub mod streams;
-}
+mod stream_checks;
 
 mod owned {
     //! Tests of the same parts over what the modules beside this one have.
