@@ -1,8 +1,8 @@
 //! A store that keeps itself at the right size, and knows a tick before which nothing in it is due.
 //!
-//! Whoever shares a store behind a lock tells others this tick, the *hint*, so that they take the lock only if something
-//! may be due. It is never later than the deadline of a live entry: an insert and a reset lower it, and a poll that finds
-//! nothing due sets it anew.
+//! Whoever shares a store behind a lock tells others this tick, the *hint*, so that they take the lock only if
+//! something may be due. It is never later than the deadline of a live entry: an insert and a reset lower it, and a
+//! poll that finds nothing due sets it anew.
 
 ghost use Rattle.std.specs.Prelude.{◌≡◌, ◌≤◌, ◌<◌, ◌↔◌, ◌⊎◌, max, min, true, false, length, [], IsTrue, IfSome, IfNone, IfErr, IfOk, OnOk, OnErr, OnSome, unwrap_or};
 ghost use Rattle.std.specs.Fn.{FnOnceReturnsAtMut};
@@ -244,8 +244,8 @@ impl<T, W: Words, A: Allocator + Clone> SizedStore<T, W, A> {
         answer
     }
 
-    /// Gives a live entry the deadline `when` where it is, as [`Store::reset_in_place`] does. The hint is not after `when`
-    /// then.
+    /// Gives a live entry the deadline `when` where it is, as [`Store::reset_in_place`] does. The hint is not after
+    /// `when` then.
     ///
     /// # Errors
     /// As there.
@@ -291,8 +291,8 @@ impl<T, W: Words, A: Allocator + Clone> SizedStore<T, W, A> {
     }
 
     /// Takes an entry on into the open core with the deadline that `next` makes of the one that it has, as
-    /// [`Store::relocate`] does. The hint is not after a deadline that is asked for; else it stays, since the entry is due no
-    /// sooner than it was.
+    /// [`Store::relocate`] does. The hint is not after a deadline that is asked for; else it stays, since the entry is
+    /// due no sooner than it was.
     ///
     /// # Errors
     /// As there.
@@ -373,8 +373,8 @@ impl<T, W: Words, A: Allocator + Clone> SizedStore<T, W, A> {
         value
     }
 
-    /// Notes a tick, of one millisecond, and polls one core, as [`Store::poll`] does. If it finds nothing due, the hint is
-    /// the tick at which to come again.
+    /// Notes a tick, of one millisecond, and polls one core, as [`Store::poll`] does. If it finds nothing due, the hint
+    /// is the tick at which to come again.
     ///
     /// # Errors
     /// `TickTooLarge` beyond the last tick, which is not noted then.
@@ -423,8 +423,8 @@ impl<T, W: Words, A: Allocator + Clone> SizedStore<T, W, A> {
         made
     }
 
-    /// Looks when the next entry is due, if there is one core, so that whoever finds nothing due needs no lock to tell. Of
-    /// several cores that takes as long as a poll.
+    /// Looks when the next entry is due, if there is one core, so that whoever finds nothing due needs no lock to tell.
+    /// Of several cores that takes as long as a poll.
     #[inline(always)]
     pub fn note_next(&mut self)
         ensures hint { NotesNext self.old.store.cores self.old.hint self.new.hint }

@@ -41,8 +41,8 @@ impl<T, J: Rooms, A: Allocator> Model for GrowingQueue<T, J, A> {
 }
 
 impl<T, J: Rooms, A: Allocator> GrowingQueue<T, J, A> {
-    /// A queue of these shards, as many as are named, of which each stands at the place of its number, and of the words of
-    /// its cores.
+    /// A queue of these shards, as many as are named, of which each stands at the place of its number, and of the words
+    /// of its cores.
     pub fn of(row: Vec<Mutex<Shard<T, J, A>>, A>, words: QueueWords<J, A>) -> GrowingQueue<T, J, A>
         requires { vec_len row ≡ J.shards }
         ensures { result ≡ vec_len row }
@@ -50,7 +50,8 @@ impl<T, J: Rooms, A: Allocator> GrowingQueue<T, J, A> {
         GrowingQueue { row, words }
     }
 
-    /// The words of the queue's cores, by which any thread extends and cancels entries, and looks at them, without a lock.
+    /// The words of the queue's cores, by which any thread extends and cancels entries, and looks at them, without a
+    /// lock.
     #[inline]
     pub fn words(&self) -> &QueueWords<J, A>
         ensures { result.now ≡ J.rows }
@@ -134,8 +135,8 @@ impl<T, J: Rooms, A: Allocator> GrowingQueue<T, J, A> {
 }
 
 impl<T, J: Rooms, A: Allocator + Clone> GrowingQueue<T, J, A> {
-    /// Takes the lock of the caller's shard, and puts `value` in, to come out at the tick `when` of one millisecond, and
-    /// returns its key. No value is dropped: one that waits for its drop in the slot that the entry takes comes out
+    /// Takes the lock of the caller's shard, and puts `value` in, to come out at the tick `when` of one millisecond,
+    /// and returns its key. No value is dropped: one that waits for its drop in the slot that the entry takes comes out
     /// beside the key. Constant time, and no memory is taken.
     ///
     /// # Errors
@@ -178,9 +179,9 @@ impl<T, J: Rooms, A: Allocator + Clone> GrowingQueue<T, J, A> {
         answer
     }
 
-    /// Takes the lock of the caller's shard, and takes a live entry out if its current deadline isn't after `tick`, of one
-    /// millisecond, and returns its value with its key and that deadline. It returns none if the deadline is later: then
-    /// the entry stays where it is, with its key. Constant time, and no memory is taken.
+    /// Takes the lock of the caller's shard, and takes a live entry out if its current deadline isn't after `tick`, of
+    /// one millisecond, and returns its value with its key and that deadline. It returns none if the deadline is later:
+    /// then the entry stays where it is, with its key. Constant time, and no memory is taken.
     ///
     /// # Errors
     /// In this order:
@@ -203,8 +204,8 @@ impl<T, J: Rooms, A: Allocator + Clone> GrowingQueue<T, J, A> {
 
     /// Takes the lock of the caller's shard, and gives a live entry the deadline `when`, a tick of one millisecond,
     /// sooner or later than the one that it has, and returns its new key. No value is dropped: one that waits for its
-    /// drop in the slot that the entry goes on in comes out beside the key. Constant time. No memory is taken, but for a
-    /// note where the entry goes on in another core.
+    /// drop in the slot that the entry goes on in comes out beside the key. Constant time. No memory is taken, but for
+    /// a note where the entry goes on in another core.
     ///
     /// # Errors
     /// In this order:
@@ -272,9 +273,9 @@ impl<T, J: Rooms, A: Allocator + Clone> GrowingQueue<T, J, A> {
         answer
     }
 
-    /// Takes the lock of the caller's shard, and notes a tick, of one millisecond, and polls: it takes out one entry whose
-    /// deadline in force is reached by the greatest tick noted, or tells when to come again, or that there may be more. No
-    /// value is dropped: that of each cancelled entry which it reaps waits until it is taken out.
+    /// Takes the lock of the caller's shard, and notes a tick, of one millisecond, and polls: it takes out one entry
+    /// whose deadline in force is reached by the greatest tick noted, or tells when to come again, or that there may be
+    /// more. No value is dropped: that of each cancelled entry which it reaps waits until it is taken out.
     ///
     /// # Errors
     /// `TickTooLarge` beyond the last tick, which is not noted then.
@@ -334,8 +335,8 @@ impl<T, J: Rooms, A: Allocator + Clone> GrowingQueue<T, J, A> {
         answer
     }
 
-    /// Takes the lock of the caller's shard, and takes out a freed value that waits for its drop. It returns none if no value
-    /// waits.
+    /// Takes the lock of the caller's shard, and takes out a freed value that waits for its drop. It returns none if no
+    /// value waits.
     pub fn take_deferred<R: Wait>(&self, rt: &R, me: &mut Caller<T, J, A>) -> Option<T>
         ensures once { MadeOnce me.old (λ s t. StoreTakesDeferred result s t) me.new }
     {

@@ -1,4 +1,5 @@
-//! What lies behind a shard's lock, and the calls that callers make of it there: each is entered once in the shard's history.
+//! What lies behind a shard's lock, and the calls that callers make of it there: each is entered once in the shard's
+//! history.
 ghost use Rattle.std.specs.Prelude.{◌≡◌, ◌<◌, ◌+◌, ◌++◌, ◌∷◌, true, [], Some, None, IfOk, IfErr, IfSome, IfNone, OnOk, OnErr};
 ghost use Rattle.dq_journal.specs.Once.{IsTold, IsWithNumber};
 ghost use Rattle.dq_journal.specs.Views.{first_witness, new_witness};
@@ -29,8 +30,8 @@ use dq_words::{Keeper, OpenWords};
 use std::alloc::{AllocError, Allocator, Global};
 use std::marker::{Brand, Model, PhantomData};
 
-/// Names a queue: how many shards it has and, of each by its number, the history and the register of the cores that are away;
-/// and the directory of its cores' words.
+/// Names a queue: how many shards it has and, of each by its number, the history and the register of the cores that are
+/// away; and the directory of its cores' words.
 pub trait Rooms {
     ghost use Rattle.std.specs.Prelude.{ℕ, List};
     ghost use Rattle.atomic_table.specs.Seated.{TableId};
@@ -375,8 +376,8 @@ impl<T, A: Allocator + Clone> Held<T, A> {
     }
 }
 
-/// A shard, whose history is that which its number names, and the words of whose cores stand in the queue's directory. It
-/// has a register of the cores that are away from it.
+/// A shard, whose history is that which its number names, and the words of whose cores stand in the queue's directory.
+/// It has a register of the cores that are away from it.
 #[derive(Drop)]
 pub struct Shard<T, J: Rooms, A: Allocator = Global> {
     held: Held<T, A>,
@@ -438,8 +439,8 @@ impl<T, J: Rooms, A: Allocator> Caller<T, J, A> {
 }
 
 impl<T, J: Rooms, A: Allocator> Shard<T, J, A> {
-    /// A shard with a history and a register of loans in which nothing is yet, under the names of its number. It has these
-    /// claims of the words of its cores.
+    /// A shard with a history and a register of loans in which nothing is yet, under the names of its number. It has
+    /// these claims of the words of its cores.
     pub fn of(
         held: Held<T, A>,
         claims: Vec<Claim<OpenWords<A>, A>, A>,
@@ -521,9 +522,9 @@ impl<T, J: Rooms, A: Allocator> Shard<T, J, A> {
 }
 
 impl<T, J: Rooms, A: Allocator + Clone> Shard<T, J, A> {
-    /// Puts `value` in, to come out at the tick `when` of one millisecond, and returns its key. No value is dropped: one
-    /// that waits for its drop in the slot that the entry takes comes out beside the key. Constant time, and no memory is
-    /// taken.
+    /// Puts `value` in, to come out at the tick `when` of one millisecond, and returns its key. No value is dropped:
+    /// one that waits for its drop in the slot that the entry takes comes out beside the key. Constant time, and no
+    /// memory is taken.
     ///
     /// # Errors
     /// `value` comes back. In this order:
@@ -571,9 +572,9 @@ impl<T, J: Rooms, A: Allocator + Clone> Shard<T, J, A> {
         answer
     }
 
-    /// Takes a live entry out if its current deadline isn't after `tick`, of one millisecond, and returns its value with its
-    /// key and that deadline. It returns none if the deadline is later: then the entry stays where it is, with its key.
-    /// Constant time, and no memory is taken.
+    /// Takes a live entry out if its current deadline isn't after `tick`, of one millisecond, and returns its value
+    /// with its key and that deadline. It returns none if the deadline is later: then the entry stays where it is, with
+    /// its key. Constant time, and no memory is taken.
     ///
     /// # Errors
     /// In this order:
@@ -599,8 +600,9 @@ impl<T, J: Rooms, A: Allocator + Clone> Shard<T, J, A> {
     }
 
     /// Gives a live entry the deadline `when`, a tick of one millisecond, sooner or later than the one that it has, and
-    /// returns its new key. No value is dropped: one that waits for its drop in the slot that the entry goes on in comes
-    /// out beside the key. Constant time. No memory is taken, but for a note where the entry goes on in another core.
+    /// returns its new key. No value is dropped: one that waits for its drop in the slot that the entry goes on in
+    /// comes out beside the key. Constant time. No memory is taken, but for a note where the entry goes on in another
+    /// core.
     ///
     /// # Errors
     /// In this order:
@@ -756,9 +758,9 @@ impl<T, J: Rooms, A: Allocator + Clone> Shard<T, J, A> {
         answer
     }
 
-    /// Takes a core in whose words are claimed, of a number that no core of the shard ever had. It is open from then on, or
-    /// the one that was still is; it is where that one has no free slot. It takes memory for the lists of cores and of
-    /// claims alone. A core that left comes back by [`Shard::take_back`].
+    /// Takes a core in whose words are claimed, of a number that no core of the shard ever had. It is open from then
+    /// on, or the one that was still is; it is where that one has no free slot. It takes memory for the lists of cores
+    /// and of claims alone. A core that left comes back by [`Shard::take_back`].
     ///
     /// # Errors
     /// The core comes back, and nothing changes. In this order:
@@ -793,10 +795,10 @@ impl<T, J: Rooms, A: Allocator + Clone> Shard<T, J, A> {
         answer
     }
 
-    /// Takes a live entry out of its core and puts it into the open one, with its value and with the deadline that `next`
-    /// makes of the one that it has as it is taken out. The entry keeps its id. No value is dropped: one that waits for
-    /// its drop in the slot that the entry takes comes out beside the answer. Constant time in each core, and memory for
-    /// one note is taken.
+    /// Takes a live entry out of its core and puts it into the open one, with its value and with the deadline that
+    /// `next` makes of the one that it has as it is taken out. The entry keeps its id. No value is dropped: one that
+    /// waits for its drop in the slot that the entry takes comes out beside the answer. Constant time in each core, and
+    /// memory for one note is taken.
     ///
     /// # Errors
     /// Nothing is taken out. In this order:
@@ -840,8 +842,8 @@ impl<T, J: Rooms, A: Allocator + Clone> Shard<T, J, A> {
         answer
     }
 
-    /// Whether a slot is free for an insert: in the open core, or in another one of which half is free, or, where any will
-    /// do, in any. That one is open then. No value that waits for its drop is in the way.
+    /// Whether a slot is free for an insert: in the open core, or in another one of which half is free, or, where any
+    /// will do, in any. That one is open then. No value that waits for its drop is in the way.
     pub fn finds_room(&mut self, me: &mut Caller<T, J, A>, any_will_do: bool) -> bool
         requires { me.old.shard ≡ self.old.held.number }
         ensures once { MadeOnce me.old
@@ -875,8 +877,8 @@ impl<T, J: Rooms, A: Allocator + Clone> Shard<T, J, A> {
         answer
     }
 
-    /// Frees cancelled entries at the next slots, 256 at most, unless each was looked at since the last of so many cancels.
-    /// It tells whether it looked at some. No value is dropped: each waits until it is taken out.
+    /// Frees cancelled entries at the next slots, 256 at most, unless each was looked at since the last of so many
+    /// cancels. It tells whether it looked at some. No value is dropped: each waits until it is taken out.
     pub fn sweep(&mut self, me: &mut Caller<T, J, A>, cancels: u64) -> bool
         requires { me.old.shard ≡ self.old.held.number }
         ensures once { MadeOnce me.old (λ s t. StoreSweeps result s t) me.new }
@@ -937,8 +939,8 @@ impl<T, J: Rooms, A: Allocator + Clone> Shard<T, J, A> {
 }
 
 impl<T: Drop, J: Rooms, A: Allocator + Clone + Drop> Shard<T, J, A> {
-    /// Takes a core out that has drained and isn't needed soon: it isn't the open one, and holds nothing, not even a value
-    /// that waits for its drop. It may come back by [`Shard::take_back`].
+    /// Takes a core out that has drained and isn't needed soon: it isn't the open one, and holds nothing, not even a
+    /// value that waits for its drop. It may come back by [`Shard::take_back`].
     ///
     /// # Errors
     /// If the register of loans has too many holders. Nothing changes, and no call is entered.
@@ -994,8 +996,8 @@ impl<T: Drop, J: Rooms, A: Allocator + Clone + Drop> Shard<T, J, A> {
         }
     }
 
-    /// Takes a core back in that left. It is open from then on, or the one that was still is; it is where that one has no
-    /// free slot. It takes memory for the list of cores alone.
+    /// Takes a core back in that left. It is open from then on, or the one that was still is; it is where that one has
+    /// no free slot. It takes memory for the list of cores alone.
     ///
     /// # Errors
     /// What left comes back, and nothing changes. In this order:

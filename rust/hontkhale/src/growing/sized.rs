@@ -1,8 +1,8 @@
 //! A store that keeps itself at the right size, and knows a tick before which nothing in it is due.
 //!
-//! Whoever shares a store behind a lock tells others this tick, the *hint*, so that they take the lock only if something
-//! may be due. It is never later than the deadline of a live entry: an insert and a reset lower it, and a poll that finds
-//! nothing due sets it anew.
+//! Whoever shares a store behind a lock tells others this tick, the *hint*, so that they take the lock only if
+//! something may be due. It is never later than the deadline of a live entry: an insert and a reset lower it, and a
+//! poll that finds nothing due sets it anew.
 
 use crate::core::{CoreError, DelayCore, Piece, ReapError, Removed, Turn, Words};
 use crate::growing::cores::{Cores, TakeError};
@@ -125,8 +125,8 @@ impl<T, W: Words> SizedStore<T, W> {
         self.store.deadline(entry)
     }
 
-    /// Gives a live entry the deadline `when` where it is, as [`Store::reset_in_place`] does. The hint is not after `when`
-    /// then.
+    /// Gives a live entry the deadline `when` where it is, as [`Store::reset_in_place`] does. The hint is not after
+    /// `when` then.
     ///
     /// # Errors
     /// As there.
@@ -152,8 +152,8 @@ impl<T, W: Words> SizedStore<T, W> {
     }
 
     /// Takes an entry on into the open core with the deadline that `next` makes of the one that it has, as
-    /// [`Store::relocate`] does. The hint is not after a deadline that is asked for; else it stays, since the entry is due no
-    /// sooner than it was.
+    /// [`Store::relocate`] does. The hint is not after a deadline that is asked for; else it stays, since the entry is
+    /// due no sooner than it was.
     ///
     /// # Errors
     /// As there.
@@ -183,8 +183,8 @@ impl<T, W: Words> SizedStore<T, W> {
         self.store.take_deferred()
     }
 
-    /// Notes a tick, of one millisecond, and polls one core, as [`Store::poll`] does. If it finds nothing due, the hint is
-    /// the tick at which to come again.
+    /// Notes a tick, of one millisecond, and polls one core, as [`Store::poll`] does. If it finds nothing due, the hint
+    /// is the tick at which to come again.
     ///
     /// # Errors
     /// `TickTooLarge` beyond the last tick, which is not noted then.
@@ -206,8 +206,8 @@ impl<T, W: Words> SizedStore<T, W> {
         made
     }
 
-    /// Looks when the next entry is due, if there is one core, so that whoever finds nothing due needs no lock to tell. Of
-    /// several cores that takes as long as a poll.
+    /// Looks when the next entry is due, if there is one core, so that whoever finds nothing due needs no lock to tell.
+    /// Of several cores that takes as long as a poll.
     #[inline(always)]
     pub fn note_next(&mut self) {
         if self.store.cores().count() != 1 {

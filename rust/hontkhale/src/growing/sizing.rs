@@ -1,10 +1,10 @@
 //! How a store keeps the right size.
 //!
-//! The open core is exchanged where it is full, where more than half of its slots are worn, and where an eighth of it is
-//! used: the next one has room for twice what is there. The one before drains: what is in it stays, and ends there. Once
-//! nothing is in it, it is folded. Its words stay, so its keys are refused for good, and the next core of its size goes
-//! on with them. The few entries that are left of one are moved into the open one. A core that was made ahead is empty
-//! until it is opened.
+//! The open core is exchanged where it is full, where more than half of its slots are worn, and where an eighth of it
+//! is used: the next one has room for twice what is there. The one before drains: what is in it stays, and ends there.
+//! Once nothing is in it, it is folded. Its words stay, so its keys are refused for good, and the next core of its size
+//! goes on with them. The few entries that are left of one are moved into the open one. A core that was made ahead is
+//! empty until it is opened.
 //!
 //! The numbers here are a policy: any others would keep what the calls of a [`Store`] promise.
 
@@ -18,8 +18,8 @@ use crate::ticks::{EntryId, CAPACITY_LIMIT};
 /// The most cores of a store. A call by an entry's id compares its number with that of each.
 pub const CORES: usize = 64;
 
-/// Each so many ends it is looked whether the cores are of the right size, and at each of the last few: to look takes longer
-/// the more cores there are.
+/// Each so many ends it is looked whether the cores are of the right size, and at each of the last few: to look takes
+/// longer the more cores there are.
 const LOOKS: u64 = 128;
 
 const LAST: u64 = 16;
@@ -38,8 +38,8 @@ pub struct Sizing {
     pub(crate) sweep: Sweep,
 }
 
-// How many slots are free in which no value waits for its drop, at least: values that wait in worn slots count as if they
-// waited in free ones.
+// How many slots are free in which no value waits for its drop, at least: values that wait in worn slots count as if
+// they waited in free ones.
 #[inline(always)]
 fn free<T, W: Words>(core: &DelayCore<T, W>) -> usize {
     let unused = core.capacity() - core.len() - core.worn();
@@ -198,8 +198,8 @@ impl Sizing {
         self.quiet_since = NEVER;
     }
 
-    /// Whether a slot is free for an insert: in the open core, or in another one of which half is free, or, where any will
-    /// do, in any. That one is open then. No value that waits for its drop is in the way.
+    /// Whether a slot is free for an insert: in the open core, or in another one of which half is free, or, where any
+    /// will do, in any. That one is open then. No value that waits for its drop is in the way.
     #[inline(always)]
     pub fn finds_room<T, W: Words>(&mut self, store: &mut Store<T, W>, any_will_do: bool) -> bool {
         if has_open_room(store.cores()) {
@@ -240,8 +240,8 @@ impl Sizing {
         is_worn(open) || self.is_too_large(cores)
     }
 
-    /// The slots of a core that is to be made for an insert that finds no room. None where there are as many cores as may
-    /// be.
+    /// The slots of a core that is to be made for an insert that finds no room. None where there are as many cores as
+    /// may be.
     pub fn capacity_for_insert<T, W: Words>(&self, store: &Store<T, W>) -> Option<usize> {
         let cores = store.cores();
         if cores.count() >= CORES {
@@ -260,8 +260,8 @@ impl Sizing {
         self.capacity_for_insert(store)
     }
 
-    /// Takes a core in that was made: it is open from now on where the open one is to be exchanged or has no room, and waits
-    /// else until it is needed.
+    /// Takes a core in that was made: it is open from now on where the open one is to be exchanged or has no room, and
+    /// waits else until it is needed.
     ///
     /// # Errors
     /// The core comes back, and nothing changes, as [`Store::take_in`] tells.
@@ -329,8 +329,8 @@ impl Sizing {
         None
     }
 
-    // Takes the first core off that has drained, where it isn't needed soon. Else it is the last one, and the next one the
-    // first.
+    // Takes the first core off that has drained, where it isn't needed soon. Else it is the last one, and the next one
+    // the first.
     fn take_first<T, W: Words>(&self, store: &mut Store<T, W>) -> Option<DelayCore<T, W>> {
         let slots = slots(store.cores());
         let core = store.take_drained()?;
@@ -343,8 +343,9 @@ impl Sizing {
         None
     }
 
-    /// Returns an entry that may be moved into the open core, so that its own one drains: the one that is scheduled first
-    /// in a core that isn't open and of which a sixteenth is used at most. It returns none if none is in such a core.
+    /// Returns an entry that may be moved into the open core, so that its own one drains: the one that is scheduled
+    /// first in a core that isn't open and of which a sixteenth is used at most. It returns none if none is in such a
+    /// core.
     pub fn straggler<T, W: Words>(&self, store: &Store<T, W>) -> Option<EntryId> {
         for at in 0..store.cores().count() {
             if let Some(entry) = straggler_in(store, at) {
