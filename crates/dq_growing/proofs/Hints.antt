@@ -377,11 +377,6 @@ module _ {T W : Type 0} where
   pub opens_late : (s k : StoreState T W) (t : ℕ) → OnlyOpens s k → NoneLiveIn s.cores t → NoneLiveIn k.cores t
   opens_late s k t did late = same_late (record s.cores { opened = did.0.0 }) k.cores t did.0.1 late
 
-  pub opened_late : (s k : CoreRow T W) (r : Bool) (place t : ℕ) → (r ≡ true → (place < length s.cores) × (k ≡ record s { opened = place }))
-      → (r ≡ false → (length s.cores ≤ place) × (k ≡ s)) → NoneLiveIn s t → NoneLiveIn k t
-  opened_late s k true place t opens refused late = same_late (record s { opened = place }) k t (opens refl).1 late
-  opened_late s k false place t opens refused late = same_late s k t (refused refl).1 late
-
   pub comes_late : (s k : StoreState T W) (c : Core T W) (t : ℕ) → IsLawfulCore c → ComesInto s c k → NoneLiveIn s.cores t → NoneLiveIn k.cores t
   comes_late s k c t lawful comes late i d at =
       let L : List (Core T W) → Type 0 = λ l. IsCoreAt l i d in

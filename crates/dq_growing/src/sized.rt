@@ -4,7 +4,7 @@
 //! something may be due. It is never later than the deadline of a live entry: an insert and a reset lower it, and a
 //! poll that finds nothing due sets it anew.
 
-ghost use Rattle.std.specs.Prelude.{◌≡◌, ◌≤◌, ◌<◌, ◌↔◌, ◌⊎◌, max, min, true, false, length, [], IsTrue, IfSome, IfNone, IfErr, IfOk, OnOk, OnErr, OnSome, unwrap_or};
+ghost use Rattle.std.specs.Prelude.{◌≡◌, ◌≤◌, ◌<◌, ◌↔◌, ◌⊎◌, max, min, true, false, [], IsTrue, IfSome, IfNone, IfErr, IfOk, OnOk, OnErr, OnSome, unwrap_or};
 ghost use Rattle.std.specs.Fn.{FnOnceReturnsAtMut};
 ghost use Rattle.dq_ticks.specs.Keys.{EntryName};
 ghost use Rattle.dq_core.specs.Folds.{IsFoldable};
@@ -469,33 +469,6 @@ impl<T, W: Words, A: Allocator + Clone> SizedStore<T, W, A> {
         ensures hint { self.new.hint ≡ self.old.hint }
     {
         self.sizing.finds_room(&mut self.store, any_will_do)
-    }
-
-    /// Opens the core at a place, as [`Store::open`] does.
-    pub fn open(&mut self, place: usize) -> bool
-        ensures opens { result ≡ true → (place < length self.old.store.cores.cores)
-            × (self.new.store.cores ≡ record self.old.store.cores { opened = place }) }
-        ensures refused { result ≡ false → (length self.old.store.cores.cores ≤ place)
-            × (self.new.store.cores ≡ self.old.store.cores) }
-        ensures notes { self.new.store.notes ≡ self.old.store.notes }
-        ensures keeps { KeepsIds self.old.store self.new.store }
-        ensures holds { HoldsDeadlines self.old.store self.new.store }
-        ensures rest { KeepsHint self.old self.new }
-    {
-        let opens = self.store.open(place);
-        opens
-    }
-
-    /// Closes the open core, as [`Store::close`] does.
-    pub fn close(&mut self)
-        ensures closes { self.new.store.cores
-            ≡ record self.old.store.cores { opened = length self.old.store.cores.cores } }
-        ensures notes { self.new.store.notes ≡ self.old.store.notes }
-        ensures keeps { KeepsIds self.old.store self.new.store }
-        ensures holds { HoldsDeadlines self.old.store self.new.store }
-        ensures rest { KeepsHint self.old self.new }
-    {
-        self.store.close();
     }
 
     /// Takes memory for `cores` more in the list of cores, and for one note.

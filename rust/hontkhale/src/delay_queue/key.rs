@@ -13,6 +13,7 @@ use std::fmt;
 use std::hash::{Hash, Hasher};
 use std::sync::atomic::Ordering::SeqCst;
 use std::time::{Duration, Instant};
+
 /// The bits of a birth or of a stamp, of an index, and of a core's number in a key.
 const STAMP_BITS: u32 = 20;
 const INDEX_BITS: u32 = 16;
