@@ -1,4 +1,5 @@
-"""What has a `requires` and is reached from safe Rust, and how the list `rust/closed` says that it is closed."""
+"""What has a `requires` and is reached from safe Rust, and how the list `rust/closed` says that it is closed; and which calls
+`DelayQueue` makes of its stores."""
 import re
 
 from patterns import TABLES, made
@@ -38,6 +39,21 @@ class Closed:
     def all_found(self):
         for name in self.ways.keys() - self.found:
             raise Refused(f"rust/closed: `{name}` isn't there, or requires nothing")
+
+
+# A call that a proved shard makes on its store, and what `DelayQueue` does with a shard's. What is read of one changes nothing.
+SHARDS, FRONTS, READS = re.compile(r"\bself\.sized\.(\w+)\("), re.compile(r"\.entries\b(?:\s*\.(\w+)\()?"), {"store", "sizing"}
+
+
+def stores_are_shards(shard, front):
+    """Looks that `DelayQueue` makes no call on a store but those that a proved shard makes, so that they are in its history."""
+    calls = {*SHARDS.findall(shard)} | READS
+    for path, text in front.items():
+        text = re.sub(r"//.*", "", text)
+        for found in FRONTS.finditer(text):
+            if found[1] not in calls:
+                line = text.count("\n", 0, found.start()) + 1
+                raise Refused(f"{path}: line {line}: `{found[1] or 'entries'}` is no call that a proved shard makes on its store")
 
 
 GIVES = re.compile(r"^pub mod (\w+) \{|^(\})|pub use crate::(\w+)::([^;]*);", re.M)

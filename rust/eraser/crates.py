@@ -49,6 +49,9 @@ def sources(hand):
 def erased(hand):
     """The erased text of each file, by its path in the crate."""
     closed = closing.Closed(*(it.read_text(encoding="utf-8") for it in (TOP / "rust" / "closed", OUT / "parts.rs")))
+    front = [OUT / "delay_queue.rs", *(OUT / "delay_queue").glob("*.rs")]
+    shard = hand.applied(TOP / "crates" / "dq_queue" / "src" / "shard.rt")
+    closing.stores_are_shards(shard, {it.relative_to(TOP): it.read_text(encoding="utf-8") for it in front})
     found, fields = sources(hand), {}
     for source in found:
         source.tokens = source.by(ghosts.erased, (ghosts.ghost, ghosts.model, ghosts.tactic))
