@@ -2,7 +2,6 @@
 
 use crate::ticks::{LAST_TICK, LEVELS, REACH};
 use crate::wheels::{Place, WheelError};
-use core::fmt;
 
 /// A hierarchical timing wheel over the indexes below its capacity. Its ticks are milliseconds.
 ///
@@ -159,15 +158,5 @@ impl Wheel {
             self.least().and_then(|index| self.filed(index)) != Some(tick),
             "an index is due"
         );
-    }
-}
-
-impl fmt::Debug for Wheel {
-    fn fmt(&self, f: &mut fmt::Formatter<'_>) -> fmt::Result {
-        f.debug_struct("Wheel")
-            .field("capacity", &self.capacity())
-            .field("tick", &self.tick())
-            .field("next_wake", &self.next_wake())
-            .finish()
     }
 }

@@ -62,14 +62,6 @@ impl<T, E: fmt::Display> fmt::Display for Refused<T, E> {
     }
 }
 
-impl<T, E: fmt::Debug> fmt::Debug for Refused<T, E> {
-    fn fmt(&self, f: &mut fmt::Formatter<'_>) -> fmt::Result {
-        f.debug_struct("Refused")
-            .field("error", &self.error)
-            .finish_non_exhaustive()
-    }
-}
-
 #[cfg(feature = "std")]
 impl<T, E: std::error::Error> std::error::Error for Refused<T, E> {
     fn source(&self) -> Option<&(dyn std::error::Error + 'static)> {

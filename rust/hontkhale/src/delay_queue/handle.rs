@@ -252,11 +252,3 @@ impl<T> Drop for Timeout<T> {
         }
     }
 }
-
-impl<T> fmt::Debug for Timeout<T> {
-    fn fmt(&self, f: &mut fmt::Formatter<'_>) -> fmt::Result {
-        f.debug_struct("Timeout")
-            .field("key", &self.key)
-            .finish_non_exhaustive()
-    }
-}
