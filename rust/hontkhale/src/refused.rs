@@ -49,10 +49,7 @@ impl<T, E> From<(E, T)> for Refused<T, E> {
 
 impl<K, V, E> From<(E, K, V)> for Refused<(K, V), E> {
     fn from((error, key, value): (E, K, V)) -> Refused<(K, V), E> {
-        Refused {
-            error,
-            value: (key, value),
-        }
+        Refused::from((error, (key, value)))
     }
 }
 

@@ -135,8 +135,7 @@ impl<T> Builder<T> {
             inserters: AtomicUsize::new(0),
         });
         if let Source::Manual(clock) = &self.clock {
-            let weak = Arc::downgrade(&common);
-            clock.wakes(move || weak.upgrade().map(|common| common.wake_all()).is_some());
+            clock.wakes(&common);
         }
         let shard = |(at, hint)| Mutex::new(Shard::new(common.id, at, hint));
         DelayQueue::of(&Arc::new(Shared {
