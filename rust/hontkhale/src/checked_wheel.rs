@@ -103,10 +103,8 @@ impl Wheel {
     pub fn link(&mut self, index: usize, filed: u64) {
         let tick = self.tick();
         assert!(self.filed(index).is_none(), "the index is linked");
-        assert!(
-            tick <= filed && filed <= LAST_TICK && filed - tick <= REACH,
-            "the tick is out of the wheel's reach"
-        );
+        let reached = tick..=LAST_TICK.min(tick + REACH);
+        assert!(reached.contains(&filed), "the tick is out of the wheel's reach");
         self.wheel.link(index, filed);
     }
 
@@ -149,14 +147,9 @@ impl Wheel {
     }
 
     fn check_way(&self, limit: u64) {
-        let tick = self.tick();
-        assert!(
-            tick <= limit && limit <= LAST_TICK,
-            "the limit is out of the wheel's range"
-        );
-        assert!(
-            self.least().and_then(|index| self.filed(index)) != Some(tick),
-            "an index is due"
-        );
+        let ahead = self.tick()..=LAST_TICK;
+        assert!(ahead.contains(&limit), "the limit is out of the wheel's range");
+        let first = self.least().and_then(|index| self.filed(index));
+        assert!(first != Some(self.tick()), "an index is due");
     }
 }

@@ -100,9 +100,9 @@ impl Handle {
     /// # Ok::<(), Box<dyn std::error::Error>>(())
     /// ```
     pub fn take<T: 'static>(&self, key: &Key) -> Result<T, KeyError> {
-        let mut value = None::<T>;
-        self.queue()?.take(key, &mut value)?;
-        value.ok_or(KeyError::WrongQueue)
+        let queue = self.queue()?;
+        let shared = queue.as_any().downcast_ref::<Shared<T>>();
+        shared.ok_or(KeyError::WrongQueue)?.remove(key)
     }
 
     /// The deadline of an entry.

@@ -179,11 +179,7 @@ impl Common {
     #[inline(always)]
     pub fn step(&self, key: &Key, step: Step, slowly: impl FnOnce() -> Made, note_end: impl FnOnce()) -> Made {
         // Taken apart here, it comes in registers.
-        let deadline = match self.quick_step(key, step) {
-            Some(Ok(deadline)) => deadline,
-            Some(Err(error)) => return Err(error),
-            None => slowly()?,
-        };
+        let deadline = self.quick_step(key, step).unwrap_or_else(slowly)?;
         if matches!(step, Step::Cancel) {
             self.seen[key.shard()].cancels.fetch_add(1, SeqCst);
             self.uncount(1);
@@ -214,8 +210,8 @@ pub(crate) trait Steps: Send + Sync {
     /// Has those told who wait until the queue is empty, where it is.
     fn note_end(&self);
 
-    /// Puts the value of an entry that it takes out into a place, an `Option` of the queue's type.
-    fn take(&self, key: &Key, place: &mut dyn Any) -> Result<(), KeyError>;
+    /// The queue, for who knows the type of its values.
+    fn as_any(&self) -> &dyn Any;
 }
 
 impl<T: Send + 'static> Steps for Shared<T> {
@@ -227,10 +223,8 @@ impl<T: Send + 'static> Steps for Shared<T> {
         Shared::note_end(self);
     }
 
-    fn take(&self, key: &Key, place: &mut dyn Any) -> Result<(), KeyError> {
-        let place = place.downcast_mut::<Option<T>>().ok_or(KeyError::WrongQueue)?;
-        *place = Some(self.remove(key)?);
-        Ok(())
+    fn as_any(&self) -> &dyn Any {
+        self
     }
 }
 

@@ -140,16 +140,10 @@ impl Parts {
     /// The parts of a start, where they agree with std on moments from just before it until the last tick.
     fn of_start(start: Instant) -> Option<Parts> {
         let parts = Parts::of(start);
-        let lengths = [
-            Duration::ZERO,
-            Duration::from_nanos(1),
-            Duration::from_nanos(999_999_999),
-            Duration::from_secs(1),
-            Duration::from_millis(LAST_TICK),
-        ];
-        let after = lengths.map(|length| start.checked_add(length)).into_iter();
+        let nanos = [0, 1, 999_999_999, 1_000_000_000, LAST_TICK * 1_000_000];
+        let after = nanos.map(|nanos| start.checked_add(Duration::from_nanos(nanos)));
         let before = start.checked_sub(Duration::from_nanos(1));
-        let mut moments = after.chain([before]).flatten();
+        let mut moments = after.into_iter().chain([before]).flatten();
         moments
             .all(|when| Parts::of(when).since(parts) == when.saturating_duration_since(start))
             .then_some(parts)
@@ -159,10 +153,8 @@ impl Parts {
     #[inline(always)]
     fn since(self, start: Parts) -> Duration {
         let (nanos, borrows) = self.nanos.overflowing_sub(start.nanos);
-        let seconds = self
-            .seconds
-            .wrapping_sub(start.seconds)
-            .wrapping_sub(u64::from(borrows));
+        let seconds = self.seconds.wrapping_sub(start.seconds);
+        let seconds = seconds.wrapping_sub(u64::from(borrows));
         if (seconds as i64) < 0 {
             return Duration::ZERO;
         }
