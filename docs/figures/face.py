@@ -23,6 +23,9 @@ MODULE = re.compile(ATTRIBUTES + r"(pub )?mod (\w+)(?:;| \{\n(.*?)^\}\n)", re.M 
 USE = re.compile(r"^(pub )?(?:pub\([\w ]+\) )?use ([^;{]*)(?:\{([^}]*)\})?;", re.M)
 ITEM = re.compile(ATTRIBUTES + rf"(pub )?(?:pub\([\w ]+\) )?((?:const )?(struct|enum|trait|type|fn|const) (\w+){HEAD})" + BODY, re.M | re.S)
 IMPL = re.compile(ATTRIBUTES + rf"(impl\b{HEAD})" + BODY, re.M | re.S)
+# A table of what is shown of types, and a row of it: the generics and the type.
+SHOWS = re.compile(r"^shows! \{\n(.*?)^\}\n", re.M | re.S)
+ROW = re.compile(r"^    \[(.*)\] (.*) \{.*\}\n", re.M)
 # What stands in the body of an item, and of an `impl`, for others to use.
 MEMBERS = {it: re.compile(ATTRIBUTES + "    " + pattern, re.M | re.S) for it, pattern in {
     "struct": r"(pub \w+: [^\n]*),$", "enum": r"(\w(?:[^\n]* \{\n.*?^    \}|[^\n]*)),$",
@@ -49,6 +52,7 @@ class Face:
     def read(self, module, text):
         """Reads a module, and those below: a name is a module's path, an item, or the path of a `use`."""
         text = re.sub(r"(?m)^ *//.*\n", "", text)
+        text = SHOWS.sub(lambda it: ROW.sub(r"impl<\1> Debug for \2 {}\n", it[1]).replace("impl<>", "impl"), text)
         names = self.modules[module] = {}
         for attributes, is_public, name, body in MODULE.findall(text):
             if not is_test(attributes):

@@ -2,7 +2,6 @@
 
 use crate::ticks::{LAST_TICK, LEVELS, REACH};
 use crate::wheels::{Place, WheelError};
-use core::fmt;
 
 /// A hierarchical timing wheel over the indexes below its capacity. Its ticks are milliseconds.
 ///
@@ -104,10 +103,8 @@ impl Wheel {
     pub fn link(&mut self, index: usize, filed: u64) {
         let tick = self.tick();
         assert!(self.filed(index).is_none(), "the index is linked");
-        assert!(
-            tick <= filed && filed <= LAST_TICK && filed - tick <= REACH,
-            "the tick is out of the wheel's reach"
-        );
+        let reached = tick..=LAST_TICK.min(tick + REACH);
+        assert!(reached.contains(&filed), "the tick is out of the wheel's reach");
         self.wheel.link(index, filed);
     }
 
@@ -150,24 +147,9 @@ impl Wheel {
     }
 
     fn check_way(&self, limit: u64) {
-        let tick = self.tick();
-        assert!(
-            tick <= limit && limit <= LAST_TICK,
-            "the limit is out of the wheel's range"
-        );
-        assert!(
-            self.least().and_then(|index| self.filed(index)) != Some(tick),
-            "an index is due"
-        );
-    }
-}
-
-impl fmt::Debug for Wheel {
-    fn fmt(&self, f: &mut fmt::Formatter<'_>) -> fmt::Result {
-        f.debug_struct("Wheel")
-            .field("capacity", &self.capacity())
-            .field("tick", &self.tick())
-            .field("next_wake", &self.next_wake())
-            .finish()
+        let ahead = self.tick()..=LAST_TICK;
+        assert!(ahead.contains(&limit), "the limit is out of the wheel's range");
+        let first = self.least().and_then(|index| self.filed(index));
+        assert!(first != Some(self.tick()), "an index is due");
     }
 }

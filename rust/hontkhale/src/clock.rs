@@ -51,29 +51,31 @@ impl Clock {
 
     /// The first tick that isn't before this moment and a duration, at most [`LAST_TICK`].
     pub fn after(&self, duration: Duration) -> u64 {
-        self.until_start().map_or_else(
-            || rounded_up(self.start.elapsed().saturating_add(duration)),
-            |to_come| rounded_up(duration.saturating_sub(to_come)),
-        )
+        let (passed, to_come) = self.since_start();
+        rounded_up(passed.saturating_add(duration).saturating_sub(to_come))
     }
 
     /// How long it is from this moment to a tick: nothing where it has passed.
     pub fn until(&self, tick: u64) -> Duration {
+        let (passed, to_come) = self.since_start();
         let length = Duration::from_millis(tick);
-        self.until_start().map_or_else(
-            || length.saturating_sub(self.start.elapsed()),
-            |to_come| length.saturating_add(to_come),
-        )
+        length.saturating_add(to_come).saturating_sub(passed)
     }
 
-    // How long it is to tick 0, none where it isn't to come.
-    fn until_start(&self) -> Option<Duration> {
-        self.start.checked_duration_since(Instant::now())
+    // How long ago tick 0 was, and how long it is to come: one of them is nothing.
+    fn since_start(&self) -> (Duration, Duration) {
+        let passed = self.start.elapsed();
+        let to_come = self.start.saturating_duration_since(Instant::now());
+        (passed, to_come)
     }
 }
 
-fn whole(length: Duration) -> u64 {
-    u64::try_from(length.as_millis()).map_or(LAST_TICK, |tick| tick.min(LAST_TICK))
+/// The whole milliseconds of a length, and [`LAST_TICK`] where they are more.
+#[inline]
+pub(crate) fn whole(length: Duration) -> u64 {
+    // Longer ones come to no end, and their milliseconds to no more than a number holds.
+    let seconds = length.as_secs().min(LAST_TICK / 1_000 + 1);
+    LAST_TICK.min(seconds * 1_000 + u64::from(length.subsec_millis()))
 }
 
 fn rounded_up(length: Duration) -> u64 {

@@ -35,7 +35,9 @@ pub use outcomes::{Expired, Piece, Removed, Swept, Tally, Turn};
 pub use plain::{Pending, PlainQueue, PlainTurn};
 pub use queue::DelayCore;
 pub use renew::RenewError;
-pub use slots::{Held, Slots};
+pub use slots::Held;
+#[cfg(all(test, feature = "std"))]
+pub use slots::Slots;
 pub use vec_words::VecWords;
 pub(crate) use words::Steps;
 pub use words::{shown, CallError, Look, Settled, SharedWords, Words};

@@ -1,94 +1,43 @@
 //! How the types are shown that hold entries: by their numbers, and never by an entry's value.
 
+use crate::checked_wheel::Wheel;
 use crate::core::{
     DelayCore, Entries, Folded, Held, LiveEntry, Pending, PlainQueue, PlainTurn, Steps, VecWords, Words,
 };
+use crate::refused::Refused;
 use crate::words::{Caller, Keeper, OpenWords};
 use core::fmt::{Debug, Formatter, Result};
 
-impl<T, W: Words> Debug for DelayCore<T, W> {
-    fn fmt(&self, f: &mut Formatter<'_>) -> Result {
-        f.debug_struct("DelayCore")
-            .field("shard", &self.shard())
-            .field("len", &self.len())
-            .field("capacity", &self.capacity())
-            .field("tick", &self.tick())
-            .field("noted", &self.noted())
-            .field("next_wake", &self.next_wake())
-            .finish_non_exhaustive()
-    }
+/// A `Debug` for each row: `[its generics] its type { .a_call() .a_field }`, whose calls and fields are shown.
+macro_rules! shows {
+    ($([$($generics:tt)*] $name:ident $(<$($argument:tt),*>)? { $(.$shown:ident $(($($none:tt)*))?)* })*) => {$(
+        impl<$($generics)*> core::fmt::Debug for $name $(<$($argument),*>)? {
+            fn fmt(&self, f: &mut core::fmt::Formatter<'_>) -> core::fmt::Result {
+                f.debug_struct(stringify!($name))
+                    $(.field(stringify!($shown), &self.$shown $(($($none)*))?))*
+                    .finish_non_exhaustive()
+            }
+        }
+    )*};
 }
 
-impl<W: Words> Debug for Folded<W> {
-    fn fmt(&self, f: &mut Formatter<'_>) -> Result {
-        f.debug_struct("Folded")
-            .field("shard", &self.shard())
-            .field("noted", &self.noted())
-            .field("capacity", &self.capacity())
-            .field("worn", &self.worn())
-            .finish_non_exhaustive()
-    }
-}
+#[cfg(feature = "std")]
+pub(crate) use shows;
 
-impl Debug for VecWords {
-    fn fmt(&self, f: &mut Formatter<'_>) -> Result {
-        f.debug_struct("VecWords")
-            .field("rows", &self.rows())
-            .finish_non_exhaustive()
-    }
-}
-
-impl Debug for Keeper {
-    fn fmt(&self, f: &mut Formatter<'_>) -> Result {
-        f.debug_struct("Keeper")
-            .field("rows", &self.rows())
-            .finish_non_exhaustive()
-    }
-}
-
-impl Debug for Caller {
-    fn fmt(&self, f: &mut Formatter<'_>) -> Result {
-        f.debug_struct("Caller")
-            .field("cancels", &self.cancels())
-            .finish_non_exhaustive()
-    }
-}
-
-impl Debug for OpenWords {
-    fn fmt(&self, f: &mut Formatter<'_>) -> Result {
-        f.debug_struct("OpenWords")
-            .field("rows", &self.rows())
-            .finish_non_exhaustive()
-    }
-}
-
-impl<T> Debug for Entries<'_, T> {
-    fn fmt(&self, f: &mut Formatter<'_>) -> Result {
-        f.debug_struct("Entries").finish_non_exhaustive()
-    }
-}
-
-impl<T> Debug for LiveEntry<'_, T> {
-    fn fmt(&self, f: &mut Formatter<'_>) -> Result {
-        f.debug_struct("LiveEntry")
-            .field("key", &self.key)
-            .field("deadline", &self.deadline)
-            .finish_non_exhaustive()
-    }
-}
-
-impl<T> Debug for Held<T> {
-    fn fmt(&self, f: &mut Formatter<'_>) -> Result {
-        f.debug_struct("Held").field("born", &self.born).finish_non_exhaustive()
-    }
-}
-
-impl<T> Debug for Pending<T> {
-    fn fmt(&self, f: &mut Formatter<'_>) -> Result {
-        f.debug_struct("Pending")
-            .field("deadline", &self.deadline)
-            .finish_non_exhaustive()
-    }
+shows! {
+    [T, W: Words] DelayCore<T, W> { .shard() .len() .capacity() .tick() .noted() .next_wake() }
+    [W: Words] Folded<W> { .shard() .noted() .capacity() .worn() }
+    [] VecWords { .rows() }
+    [] Keeper { .rows() }
+    [] Caller { .cancels() }
+    [] OpenWords { .rows() }
+    [T] Entries<'_, T> {}
+    [T] LiveEntry<'_, T> { .key .deadline }
+    [T] Held<T> { .born }
+    [T] Pending<T> { .deadline }
+    [T] PlainQueue<T> { .len() .capacity() .tick() .noted() }
+    [] Wheel { .capacity() .tick() .next_wake() }
+    [T, E: Debug] Refused<T, E> { .error }
 }
 
 impl<T> Debug for PlainTurn<T> {
@@ -104,60 +53,45 @@ impl<T> Debug for PlainTurn<T> {
     }
 }
 
-impl<T> Debug for PlainQueue<T> {
-    fn fmt(&self, f: &mut Formatter<'_>) -> Result {
-        f.debug_struct("PlainQueue")
-            .field("len", &self.len())
-            .field("capacity", &self.capacity())
-            .field("tick", &self.tick())
-            .field("noted", &self.noted())
-            .finish_non_exhaustive()
-    }
-}
-
 #[cfg(feature = "std")]
 mod with_std {
     use super::{Debug, Formatter, Result};
     use crate::apps::{CountedCache, IdleSessions, Name, Seen, TtlCache};
     use crate::core::Words;
+    use crate::delay_queue::{DelayQueue, Drain, InsertError, Iter, Timeout, TryIter};
     use crate::directory::{Clerk, Directory};
     use crate::growing::{Cores, Folds, Store};
     use crate::shards::parking::{MillisecondTicks, Parked, ShardStream, Shards};
     use crate::shards::{Handle, ShardState, SharedDelayQueue};
     use std::hash::{BuildHasher, Hash};
 
-    impl<X> Debug for Clerk<X> {
-        fn fmt(&self, f: &mut Formatter<'_>) -> Result {
-            f.debug_struct("Clerk")
-                .field("given", &self.given())
-                .finish_non_exhaustive()
-        }
-    }
-
-    impl<X> Debug for Directory<X> {
-        fn fmt(&self, f: &mut Formatter<'_>) -> Result {
-            f.debug_struct("Directory").finish_non_exhaustive()
-        }
-    }
-
-    impl<T, W: Words> Debug for Cores<T, W> {
-        fn fmt(&self, f: &mut Formatter<'_>) -> Result {
-            f.debug_struct("Cores")
-                .field("count", &self.count())
-                .field("next_wake", &self.next_wake())
-                .finish_non_exhaustive()
-        }
+    shows! {
+        [T] DelayQueue<T> { .len() .is_closed() }
+        [T] Timeout<T> { .key() }
+        [T] InsertError<T> { .kind() }
+        [T] Iter<'_, T> {}
+        [T] TryIter<'_, T> {}
+        [T] Drain<'_, T> {}
+        [X] Clerk<X> { .given() }
+        [X] Directory<X> {}
+        [T, W: Words] Cores<T, W> { .count() .next_wake() }
+        [W: Words] Folds<W> {}
+        [T, W: Words] Store<T, W> {}
+        [T] SharedDelayQueue<T> { .shards() }
+        [T] ShardState<T> { .shard() .len() .capacity() .noted() .next_wake() .parked() }
+        [N: Debug] Parked<N> { .next }
+        [] Handle { .cancels() }
+        [Q: Shards, S, P] ShardStream<'_, Q, S, P> { .place .ended }
+        [] MillisecondTicks {}
+        [K: Eq + Hash, V, S: BuildHasher] TtlCache<K, V, S> { .len() .capacity() .moment() }
+        [K: Eq + Hash, V, S: BuildHasher] CountedCache<K, V, S> { .cache .hits() .misses() }
+        [K, V] Seen<'_, K, V> {}
+        [] IdleSessions { .shards() .idle() }
     }
 
     impl<T, W: Words> Default for Cores<T, W> {
         fn default() -> Cores<T, W> {
             Cores::new()
-        }
-    }
-
-    impl<W: Words> Debug for Folds<W> {
-        fn fmt(&self, f: &mut Formatter<'_>) -> Result {
-            f.debug_struct("Folds").finish_non_exhaustive()
         }
     }
 
@@ -167,102 +101,9 @@ mod with_std {
         }
     }
 
-    impl<T, W: Words> Debug for Store<T, W> {
-        fn fmt(&self, f: &mut Formatter<'_>) -> Result {
-            f.debug_struct("Store").finish_non_exhaustive()
-        }
-    }
-
-    impl<T> Debug for SharedDelayQueue<T> {
-        fn fmt(&self, f: &mut Formatter<'_>) -> Result {
-            f.debug_struct("SharedDelayQueue")
-                .field("shards", &self.shards())
-                .finish_non_exhaustive()
-        }
-    }
-
-    impl<T> Debug for ShardState<T> {
-        fn fmt(&self, f: &mut Formatter<'_>) -> Result {
-            f.debug_struct("ShardState")
-                .field("shard", &self.shard())
-                .field("len", &self.len())
-                .field("capacity", &self.capacity())
-                .field("noted", &self.noted())
-                .field("next_wake", &self.next_wake())
-                .field("parked", &self.parked())
-                .finish_non_exhaustive()
-        }
-    }
-
-    impl<N: Debug> Debug for Parked<N> {
-        fn fmt(&self, f: &mut Formatter<'_>) -> Result {
-            f.debug_struct("Parked")
-                .field("next", &self.next)
-                .finish_non_exhaustive()
-        }
-    }
-
-    impl Debug for Handle {
-        fn fmt(&self, f: &mut Formatter<'_>) -> Result {
-            f.debug_struct("Handle")
-                .field("cancels", &self.cancels())
-                .finish_non_exhaustive()
-        }
-    }
-
-    impl<Q: Shards, S, P> Debug for ShardStream<'_, Q, S, P> {
-        fn fmt(&self, f: &mut Formatter<'_>) -> Result {
-            f.debug_struct("ShardStream")
-                .field("place", &self.place)
-                .field("ended", &self.ended)
-                .finish_non_exhaustive()
-        }
-    }
-
-    impl Debug for MillisecondTicks {
-        fn fmt(&self, f: &mut Formatter<'_>) -> Result {
-            f.debug_struct("MillisecondTicks").finish_non_exhaustive()
-        }
-    }
-
     impl Default for MillisecondTicks {
         fn default() -> MillisecondTicks {
             MillisecondTicks::new()
-        }
-    }
-
-    impl<K: Eq + Hash, V, S: BuildHasher> Debug for TtlCache<K, V, S> {
-        fn fmt(&self, f: &mut Formatter<'_>) -> Result {
-            f.debug_struct("TtlCache")
-                .field("len", &self.len())
-                .field("capacity", &self.capacity())
-                .field("moment", &self.moment())
-                .finish_non_exhaustive()
-        }
-    }
-
-    impl<K: Eq + Hash, V, S: BuildHasher> Debug for CountedCache<K, V, S> {
-        fn fmt(&self, f: &mut Formatter<'_>) -> Result {
-            f.debug_struct("CountedCache")
-                .field("cache", &self.cache)
-                .field("hits", &self.hits())
-                .field("misses", &self.misses())
-                .finish()
-        }
-    }
-
-    impl<K, V> Debug for Seen<'_, K, V> {
-        fn fmt(&self, f: &mut Formatter<'_>) -> Result {
-            f.debug_struct("Seen").finish_non_exhaustive()
-        }
-    }
-
-    impl Debug for IdleSessions {
-        fn fmt(&self, f: &mut Formatter<'_>) -> Result {
-            f.debug_struct("IdleSessions")
-                .field("shards", &self.shards())
-                .field("idle", &self.idle())
-                .finish_non_exhaustive()
         }
     }
 

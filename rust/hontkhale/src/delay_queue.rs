@@ -33,7 +33,6 @@ use dropping::{go_on, lose};
 use key::{refused, Lends, Step};
 use shard::Way;
 use shared::{Asks, Shared, REFUSES};
-use std::fmt;
 use std::mem;
 use std::sync::atomic::Ordering::SeqCst;
 use std::sync::{Arc, Weak};
@@ -292,7 +291,7 @@ impl<T> DelayQueue<T> {
         let _lends = Lends(&self.shared);
         let (mut shard, entry) = (self.shared.lock_of(key)?, key.entry());
         shard.entries.deadline(&entry).map_err(refused)?;
-        let made = with_lock(&mut *shard, key.queue() as usize, |shard| {
+        let made = with_lock(&mut *shard, key.queue as usize, |shard| {
             shard.entries.with_value(&entry, change)
         });
         Ok(made.expect("a live entry"))
@@ -846,15 +845,6 @@ impl<T> Drop for DelayQueue<T> {
 impl<T> Default for DelayQueue<T> {
     fn default() -> DelayQueue<T> {
         DelayQueue::new()
-    }
-}
-
-impl<T> fmt::Debug for DelayQueue<T> {
-    fn fmt(&self, f: &mut fmt::Formatter<'_>) -> fmt::Result {
-        f.debug_struct("DelayQueue")
-            .field("len", &self.len())
-            .field("is_closed", &self.is_closed())
-            .finish_non_exhaustive()
     }
 }
 

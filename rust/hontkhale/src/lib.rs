@@ -85,7 +85,6 @@ mod fresh;
 #[cfg(feature = "std")]
 mod hasher;
 mod index;
-mod law;
 #[cfg(feature = "std")]
 mod locks;
 mod memory;
@@ -128,20 +127,6 @@ pub mod iter {
 // and which are written by hand since.
 #[cfg(all(test, feature = "std"))]
 #[rustfmt::skip]
-// The tests keep the shape of their source, and ask for a newer Rust than the crate.
-#[allow(
-    clippy::assertions_on_constants,
-    clippy::drop_non_drop,
-    clippy::empty_line_after_outer_attr,
-    clippy::incompatible_msrv,
-    clippy::let_unit_value,
-    clippy::needless_range_loop,
-    clippy::ok_expect,
-    clippy::redundant_closure,
-    clippy::type_complexity,
-    clippy::unit_arg,
-    clippy::useless_format
-)]
 mod tests;
 
 #[cfg(all(doctest, feature = "std"))]

@@ -61,10 +61,8 @@ impl fmt::Write for Text {
 #[cfg(feature = "std")]
 pub(crate) fn text_of(what: fmt::Arguments<'_>) -> Result<String, AllocError> {
     let mut text = Text(String::new());
-    match fmt::write(&mut text, what) {
-        Ok(()) => Ok(text.0),
-        Err(fmt::Error) => Err(AllocError),
-    }
+    fmt::write(&mut text, what).map_err(|_| AllocError)?;
+    Ok(text.0)
 }
 
 /// Growth that may be refused.

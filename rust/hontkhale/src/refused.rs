@@ -49,24 +49,13 @@ impl<T, E> From<(E, T)> for Refused<T, E> {
 
 impl<K, V, E> From<(E, K, V)> for Refused<(K, V), E> {
     fn from((error, key, value): (E, K, V)) -> Refused<(K, V), E> {
-        Refused {
-            error,
-            value: (key, value),
-        }
+        Refused::from((error, (key, value)))
     }
 }
 
 impl<T, E: fmt::Display> fmt::Display for Refused<T, E> {
     fn fmt(&self, f: &mut fmt::Formatter<'_>) -> fmt::Result {
         self.error.fmt(f)
-    }
-}
-
-impl<T, E: fmt::Debug> fmt::Debug for Refused<T, E> {
-    fn fmt(&self, f: &mut fmt::Formatter<'_>) -> fmt::Result {
-        f.debug_struct("Refused")
-            .field("error", &self.error)
-            .finish_non_exhaustive()
     }
 }
 

@@ -1,5 +1,6 @@
 //! What a queue is made by.
 
+use crate::debug::shows;
 use crate::delay_queue::dropping::DropQueue;
 use crate::delay_queue::shard::{Seen, Shard};
 use crate::delay_queue::shared::{Common, Shared, NEXT_QUEUE};
@@ -11,7 +12,6 @@ use crate::locks::Mutex;
 use crate::shards::SHARD_LIMIT;
 use crate::ticks::LAST_STAMP;
 use std::alloc::{handle_alloc_error, Layout};
-use std::fmt;
 use std::marker::PhantomData;
 use std::sync::atomic::{AtomicUsize, Ordering::SeqCst};
 use std::sync::Arc;
@@ -135,8 +135,7 @@ impl<T> Builder<T> {
             inserters: AtomicUsize::new(0),
         });
         if let Source::Manual(clock) = &self.clock {
-            let weak = Arc::downgrade(&common);
-            clock.wakes(move || weak.upgrade().map(|common| common.wake_all()).is_some());
+            clock.wakes(&common);
         }
         let shard = |(at, hint)| Mutex::new(Shard::new(common.id, at, hint));
         DelayQueue::of(&Arc::new(Shared {
@@ -149,13 +148,6 @@ impl<T> Builder<T> {
     }
 }
 
-impl<T> fmt::Debug for Builder<T> {
-    fn fmt(&self, f: &mut fmt::Formatter<'_>) -> fmt::Result {
-        f.debug_struct("Builder")
-            .field("shards", &self.shards)
-            .field("max_entries", &self.max_entries)
-            .field("clock", &self.clock)
-            .field("start", &self.start)
-            .finish_non_exhaustive()
-    }
+shows! {
+    [T] Builder<T> { .shards .max_entries .clock .start }
 }

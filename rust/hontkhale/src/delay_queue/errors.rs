@@ -68,14 +68,6 @@ impl<T> InsertError<T> {
     }
 }
 
-impl<T> fmt::Debug for InsertError<T> {
-    fn fmt(&self, f: &mut fmt::Formatter<'_>) -> fmt::Result {
-        f.debug_struct("InsertError")
-            .field("kind", &self.kind)
-            .finish_non_exhaustive()
-    }
-}
-
 impl<T> fmt::Display for InsertError<T> {
     fn fmt(&self, f: &mut fmt::Formatter<'_>) -> fmt::Result {
         self.kind.fmt(f)

@@ -100,9 +100,9 @@ impl Handle {
     /// # Ok::<(), Box<dyn std::error::Error>>(())
     /// ```
     pub fn take<T: 'static>(&self, key: &Key) -> Result<T, KeyError> {
-        let mut value = None::<T>;
-        self.queue()?.take(key, &mut value)?;
-        value.ok_or(KeyError::WrongQueue)
+        let queue = self.queue()?;
+        let shared = queue.as_any().downcast_ref::<Shared<T>>();
+        shared.ok_or(KeyError::WrongQueue)?.remove(key)
     }
 
     /// The deadline of an entry.
@@ -250,13 +250,5 @@ impl<T> Drop for Timeout<T> {
             let removed = shared.remove(&self.key);
             let _ = removed.map(|value| shared.deferred.drop_value(value));
         }
-    }
-}
-
-impl<T> fmt::Debug for Timeout<T> {
-    fn fmt(&self, f: &mut fmt::Formatter<'_>) -> fmt::Result {
-        f.debug_struct("Timeout")
-            .field("key", &self.key)
-            .finish_non_exhaustive()
     }
 }

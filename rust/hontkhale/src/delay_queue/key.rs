@@ -14,10 +14,9 @@ use std::hash::{Hash, Hasher};
 use std::sync::atomic::Ordering::SeqCst;
 use std::time::{Duration, Instant};
 
-/// The bits of a birth or of a stamp, of an index, and of a core's number in a key.
+/// The bits of a birth or of a stamp, and of an index, in a key.
 const STAMP_BITS: u32 = 20;
 const INDEX_BITS: u32 = 16;
-const NUMBER_BITS: u32 = 32;
 
 /// The name of an entry of a [`DelayQueue`](crate::DelayQueue), from its insert to its end.
 ///
@@ -44,8 +43,10 @@ const NUMBER_BITS: u32 = 32;
 /// ```
 #[derive(Clone, Copy)]
 pub struct Key {
-    /// The number of the queue, and that of the core.
-    place: u64,
+    /// The number of the queue.
+    pub(crate) queue: u32,
+    /// The number of the core.
+    core: u32,
     /// The shard, the index, the birth, and the stamp that the entry had when the key was made.
     entry: u64,
 }
@@ -56,13 +57,10 @@ impl Key {
         let name = (shard as u64) << INDEX_BITS | u64::from(entry.index());
         let born = name << STAMP_BITS | u64::from(entry.born());
         Key {
-            place: u64::from(queue) << NUMBER_BITS | u64::from(entry.shard()),
+            queue,
+            core: entry.shard(),
             entry: born << STAMP_BITS | u64::from(key.stamp()),
         }
-    }
-
-    pub(crate) fn queue(&self) -> u32 {
-        (self.place >> NUMBER_BITS) as u32
     }
 
     /// The shard's place.
@@ -70,16 +68,10 @@ impl Key {
         (self.entry >> (INDEX_BITS + 2 * STAMP_BITS)) as usize
     }
 
-    /// The core's number.
-    #[inline(always)]
-    pub(crate) fn number(&self) -> u32 {
-        self.place as u32
-    }
-
     pub(crate) fn entry(&self) -> ticks::EntryId {
         let index = (self.entry >> (2 * STAMP_BITS)) as u16;
         let born = (self.entry >> STAMP_BITS) as u32 & ((1 << STAMP_BITS) - 1);
-        ticks::EntryId::new(self.number(), u32::from(index), born)
+        ticks::EntryId::new(self.core, u32::from(index), born)
     }
 
     /// The core's own key.
@@ -88,8 +80,8 @@ impl Key {
     }
 
     /// What is the same in all keys of the entry.
-    fn name(&self) -> (u64, u64) {
-        (self.place, self.entry >> STAMP_BITS)
+    fn name(&self) -> (u32, u32, u64) {
+        (self.queue, self.core, self.entry >> STAMP_BITS)
     }
 }
 
@@ -123,7 +115,7 @@ impl fmt::Debug for Key {
     fn fmt(&self, f: &mut fmt::Formatter<'_>) -> fmt::Result {
         let entry = self.entry();
         f.debug_struct("Key")
-            .field("queue", &self.queue())
+            .field("queue", &self.queue)
             .field("shard", &self.shard())
             .field("core", &entry.shard())
             .field("index", &entry.index())
@@ -164,10 +156,10 @@ impl Common {
     /// an earlier stamp, and an entry that was moved is found as removed.
     #[inline(always)]
     fn quick_step(&self, key: &Key, step: Step) -> Option<Made> {
-        if key.queue() != self.id {
+        if key.queue != self.id {
             return Some(Err(KeyError::WrongQueue));
         }
-        match step.make(self.words.get(key.number())?, &key.inner()) {
+        match step.make(self.words.get(key.core)?, &key.inner()) {
             Ok(deadline) => Some(Ok(deadline)),
             Err(CallError::TooFar { .. }) => Some(Err(KeyError::TooFar)),
             Err(CallError::Ended { how }) if !matches!(how, Look::LookRemoved(_)) => Some(Err(KeyError::Ended)),
@@ -179,11 +171,7 @@ impl Common {
     #[inline(always)]
     pub fn step(&self, key: &Key, step: Step, slowly: impl FnOnce() -> Made, note_end: impl FnOnce()) -> Made {
         // Taken apart here, it comes in registers.
-        let deadline = match self.quick_step(key, step) {
-            Some(Ok(deadline)) => deadline,
-            Some(Err(error)) => return Err(error),
-            None => slowly()?,
-        };
+        let deadline = self.quick_step(key, step).unwrap_or_else(slowly)?;
         if matches!(step, Step::Cancel) {
             self.seen[key.shard()].cancels.fetch_add(1, SeqCst);
             self.uncount(1);
@@ -197,7 +185,7 @@ impl Common {
     /// Raises the deadline of a live entry to a tick where that isn't sooner, without a lock, and tells whether it did.
     #[inline(always)]
     pub fn is_later(&self, key: &Key, tick: u64) -> bool {
-        let Some(words) = self.words.get(key.number()).filter(|_| key.queue() == self.id) else {
+        let Some(words) = self.words.get(key.core).filter(|_| key.queue == self.id) else {
             return false;
         };
         let key = key.inner();
@@ -214,8 +202,8 @@ pub(crate) trait Steps: Send + Sync {
     /// Has those told who wait until the queue is empty, where it is.
     fn note_end(&self);
 
-    /// Puts the value of an entry that it takes out into a place, an `Option` of the queue's type.
-    fn take(&self, key: &Key, place: &mut dyn Any) -> Result<(), KeyError>;
+    /// The queue, for who knows the type of its values.
+    fn as_any(&self) -> &dyn Any;
 }
 
 impl<T: Send + 'static> Steps for Shared<T> {
@@ -227,10 +215,8 @@ impl<T: Send + 'static> Steps for Shared<T> {
         Shared::note_end(self);
     }
 
-    fn take(&self, key: &Key, place: &mut dyn Any) -> Result<(), KeyError> {
-        let place = place.downcast_mut::<Option<T>>().ok_or(KeyError::WrongQueue)?;
-        *place = Some(self.remove(key)?);
-        Ok(())
+    fn as_any(&self) -> &dyn Any {
+        self
     }
 }
 
@@ -260,7 +246,7 @@ impl<T> Shared<T> {
     /// The shard of a key of this queue.
     #[inline(always)]
     pub fn lock_of(&self, key: &Key) -> Result<Locked<'_, T>, KeyError> {
-        if key.queue() != self.common.id {
+        if key.queue != self.common.id {
             return Err(KeyError::WrongQueue);
         }
         Ok(self.lock(key.shard()))

@@ -6,7 +6,6 @@ use crate::delay_queue::shard::{Way, STEPS};
 use crate::delay_queue::shared::Shared;
 use crate::delay_queue::waking::{Seat, Wakes};
 use crate::delay_queue::Expired;
-use std::fmt;
 use std::thread;
 use std::time::{Duration, Instant};
 
@@ -285,18 +284,6 @@ impl<T> Iterator for TryIter<'_, T> {
     }
 }
 
-impl<T> fmt::Debug for Iter<'_, T> {
-    fn fmt(&self, f: &mut fmt::Formatter<'_>) -> fmt::Result {
-        f.debug_struct("Iter").finish_non_exhaustive()
-    }
-}
-
-impl<T> fmt::Debug for TryIter<'_, T> {
-    fn fmt(&self, f: &mut fmt::Formatter<'_>) -> fmt::Result {
-        f.debug_struct("TryIter").finish_non_exhaustive()
-    }
-}
-
 /// What waits in a queue, taken out one entry after the other.
 #[must_use = "an iterator does nothing until it is asked"]
 pub struct Drain<'q, T> {
@@ -346,12 +333,6 @@ impl<T> Iterator for Drain<'_, T> {
             self.shared.drop_deferred();
         }
         taken
-    }
-}
-
-impl<T> fmt::Debug for Drain<'_, T> {
-    fn fmt(&self, f: &mut fmt::Formatter<'_>) -> fmt::Result {
-        f.debug_struct("Drain").finish_non_exhaustive()
     }
 }
 

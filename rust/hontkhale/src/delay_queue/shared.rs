@@ -169,8 +169,8 @@ impl Common {
     }
 
     /// Wakes all who wait.
-    pub fn wake_all(&self) {
-        go_on(self.receivers.wake_all(self.time.tick()));
+    pub fn wake_all(&self) -> thread::Result<()> {
+        self.receivers.wake_all(self.time.tick())
     }
 
     /// Has a receiver leave the line where it is there.

@@ -122,10 +122,9 @@ impl Stats {
         let mut sum = 0;
         for (power, count) in (1..).zip(self.lateness) {
             sum += count;
-            let below = if power < POWERS {
-                Duration::from_millis(1 << power)
-            } else {
-                Duration::MAX
+            let below = match power {
+                POWERS => Duration::MAX,
+                power => Duration::from_millis(1 << power),
             };
             metrics.bucket("lateness_seconds", below, sum);
         }

@@ -1,12 +1,13 @@
 //! From where a queue has the time.
 
+use crate::clock::whole;
 use crate::delay_queue::dropping::{first_panic, go_on};
+use crate::delay_queue::shared::Common;
 use crate::ticks::LAST_TICK;
 use std::fmt;
 use std::hash::{Hash, Hasher};
-use std::panic::{catch_unwind, AssertUnwindSafe};
 use std::sync::atomic::{AtomicU64, Ordering::SeqCst};
-use std::sync::{Arc, Mutex, MutexGuard, PoisonError};
+use std::sync::{Arc, Mutex, MutexGuard, PoisonError, Weak};
 use std::time::{Duration, Instant};
 
 /// A clock that stands still until it is advanced, for tests. A clone is the same clock.
@@ -30,13 +31,10 @@ use std::time::{Duration, Instant};
 #[derive(Clone)]
 pub struct ManualClock(Arc<Manual>);
 
-/// Wakes whoever waits for the time of one queue. False where there is no such queue any more.
-type Wakes = Box<dyn Fn() -> bool + Send + Sync>;
-
 struct Manual {
     start: Instant,
     passed: AtomicU64,
-    queues: Mutex<Vec<Arc<Wakes>>>,
+    queues: Mutex<Vec<Weak<Common>>>,
 }
 
 impl ManualClock {
@@ -64,28 +62,19 @@ impl ManualClock {
         let passed = &self.0.passed;
         let _ = passed.fetch_update(SeqCst, SeqCst, |passed| Some(passed.saturating_add(by)));
         let queues = self.queues().clone();
-        let mut gone = Vec::new();
-        let woken = first_panic(queues.iter().map(|wakes| {
-            catch_unwind(AssertUnwindSafe(|| {
-                if !wakes() {
-                    gone.push(Arc::clone(wakes));
-                }
-            }))
-        }));
-        if !gone.is_empty() {
-            self.queues()
-                .retain(|wakes| !gone.iter().any(|other| Arc::ptr_eq(wakes, other)));
-        }
+        let left = queues.iter().filter_map(Weak::upgrade);
+        let woken = first_panic(left.map(|queue| queue.wake_all()));
+        self.queues().retain(|queue| queue.strong_count() > 0);
         go_on(woken);
     }
 
-    fn queues(&self) -> MutexGuard<'_, Vec<Arc<Wakes>>> {
+    fn queues(&self) -> MutexGuard<'_, Vec<Weak<Common>>> {
         self.0.queues.lock().unwrap_or_else(PoisonError::into_inner)
     }
 
-    /// From now on an advance makes that call, until it returns false.
-    pub(crate) fn wakes(&self, queue: impl Fn() -> bool + Send + Sync + 'static) {
-        self.queues().push(Arc::new(Box::new(queue)));
+    /// From now on an advance wakes whoever waits for the time of that queue.
+    pub(crate) fn wakes(&self, queue: &Arc<Common>) {
+        self.queues().push(Arc::downgrade(queue));
     }
 }
 
@@ -122,11 +111,7 @@ struct Parts {
 }
 
 impl Hasher for Parts {
-    #[inline(always)]
-    fn write_i64(&mut self, seconds: i64) {
-        self.seconds = seconds as u64;
-    }
-
+    // Signed ones come here, too.
     #[inline(always)]
     fn write_u64(&mut self, seconds: u64) {
         self.seconds = seconds;
@@ -155,16 +140,10 @@ impl Parts {
     /// The parts of a start, where they agree with std on moments from just before it until the last tick.
     fn of_start(start: Instant) -> Option<Parts> {
         let parts = Parts::of(start);
-        let lengths = [
-            Duration::ZERO,
-            Duration::from_nanos(1),
-            Duration::from_nanos(999_999_999),
-            Duration::from_secs(1),
-            Duration::from_millis(LAST_TICK),
-        ];
-        let after = lengths.map(|length| start.checked_add(length)).into_iter();
+        let nanos = [0, 1, 999_999_999, 1_000_000_000, LAST_TICK * 1_000_000];
+        let after = nanos.map(|nanos| start.checked_add(Duration::from_nanos(nanos)));
         let before = start.checked_sub(Duration::from_nanos(1));
-        let mut moments = after.chain([before]).flatten();
+        let mut moments = after.into_iter().chain([before]).flatten();
         moments
             .all(|when| Parts::of(when).since(parts) == when.saturating_duration_since(start))
             .then_some(parts)
@@ -174,10 +153,8 @@ impl Parts {
     #[inline(always)]
     fn since(self, start: Parts) -> Duration {
         let (nanos, borrows) = self.nanos.overflowing_sub(start.nanos);
-        let seconds = self
-            .seconds
-            .wrapping_sub(start.seconds)
-            .wrapping_sub(u64::from(borrows));
+        let seconds = self.seconds.wrapping_sub(start.seconds);
+        let seconds = seconds.wrapping_sub(u64::from(borrows));
         if (seconds as i64) < 0 {
             return Duration::ZERO;
         }
@@ -223,7 +200,7 @@ impl Time {
     /// The present tick.
     #[inline]
     pub fn tick(&self) -> u64 {
-        rounded_down(self.passed())
+        whole(self.passed())
     }
 
     /// The first tick that isn't before a moment, or one beyond the last. It reads no clock.
@@ -247,7 +224,7 @@ impl Time {
     pub fn tick_in(&self, after: Duration) -> u64 {
         let passed = self.passed();
         if after.is_zero() {
-            return rounded_down(passed);
+            return whole(passed);
         }
         rounded_up(passed.saturating_add(after)).0
     }
@@ -302,13 +279,6 @@ impl Time {
 #[inline(never)]
 fn passed_by_std(start: Instant, when: Instant) -> Duration {
     when.saturating_duration_since(start)
-}
-
-#[inline]
-fn rounded_down(length: Duration) -> u64 {
-    // Longer ones come to no end, and their milliseconds to no more than a number holds.
-    let seconds = length.as_secs().min(LAST_TICK / 1_000 + 1);
-    LAST_TICK.min(seconds * 1_000 + u64::from(length.subsec_millis()))
 }
 
 /// The first tick that isn't before the end of a length, or one beyond the last, and how many nanoseconds that end is before it.

@@ -1,9 +1,28 @@
 //! Tests of the proved parts, which were erased once from tests in Rattle and are written by hand since. What they are
 //! given stands in kit.rs.
 
+// They keep the shape of their source, and ask for a newer Rust than the crate.
+#![allow(
+    clippy::assertions_on_constants,
+    clippy::drop_non_drop,
+    clippy::empty_line_after_outer_attr,
+    clippy::incompatible_msrv,
+    clippy::let_unit_value,
+    clippy::needless_range_loop,
+    clippy::ok_expect,
+    clippy::redundant_closure,
+    clippy::type_complexity,
+    clippy::unit_arg,
+    clippy::useless_format
+)]
+
 mod kit;
 
 mod apps_checks;
+
+// What reads the memory that a call left by a panic.
+#[path = "../../tests/panics/mod.rs"]
+mod panics;
 
 mod checks {
     //! Ticks, packed words and keys, and the laws of them; the worked cases of the queue over plain words and over shared

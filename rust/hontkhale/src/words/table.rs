@@ -127,24 +127,27 @@ enum Made {
 #[inline(always)]
 fn made(_: Made) {}
 
-/// Counts it, for tests of what a call makes.
 #[cfg(all(test, feature = "std"))]
-fn made(what: Made) {
-    counted::MADE.with(|made| {
-        let (loads, steps) = made.get();
-        made.set(match what {
-            Made::Load => (loads + 1, steps),
-            Made::Step => (loads, steps + 1),
-        });
-    });
-}
+use counted::made;
 
 #[cfg(all(test, feature = "std"))]
 pub(crate) mod counted {
+    use super::Made;
     use std::cell::Cell;
 
     std::thread_local! {
-        pub(super) static MADE: Cell<(usize, usize)> = const { Cell::new((0, 0)) };
+        static MADE: Cell<(usize, usize)> = const { Cell::new((0, 0)) };
+    }
+
+    /// Counts it, for tests of what a call makes.
+    pub(super) fn made(what: Made) {
+        MADE.with(|made| {
+            let (loads, steps) = made.get();
+            made.set(match what {
+                Made::Load => (loads + 1, steps),
+                Made::Step => (loads, steps + 1),
+            });
+        });
     }
 
     /// What a call answers, and how many loads and how many other steps of tables' words it made in this thread.

@@ -77,7 +77,6 @@ queues! {
     sweep() -> usize,
     sweep_some(from: usize, count: usize) -> Swept,
     clear() -> usize,
-    check_law() -> Result<(), &'static str>,
 }
 
 // Who makes the calls by key.
@@ -280,10 +279,7 @@ impl<Q: Queue, C: ByKey<Q>> Play<Q, C> {
         match draw.below(8) {
             0 => assert_eq!(self.queue.sweep(), self.model.sweep(), "sweep"),
             1 if draw.one_in(4) => assert_eq!(self.queue.clear(), self.model.clear(), "clear"),
-            2 => {
-                self.compares_wheel();
-                assert_eq!(self.queue.check_law(), Ok(()), "the law");
-            }
+            2 => self.compares_wheel(),
             _ => {
                 let (from, count) = (draw.below(80) as usize, draw.below(80) as usize);
                 assert_eq!(

@@ -1,7 +1,7 @@
 //! Code of a program that counts, and panics where it is told to; and the runs of a call over it.
 
-use hontkhale::parts::owner::{Key, Tally, Turn};
-use hontkhale::parts::streams::TickSource;
+use crate::parts::owner::{Key, Tally, Turn};
+use crate::parts::streams::TickSource;
 use std::cell::{Cell, RefCell};
 use std::panic::{catch_unwind, AssertUnwindSafe};
 use std::sync::Arc;

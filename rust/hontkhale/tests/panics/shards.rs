@@ -1,9 +1,9 @@
 //! The calls of a shared queue by name, by a shard in hand and by a stream, with a task that is parked.
 
 use super::kit::{deadline_of, key, panics_in_turn, user_code, waker, At, Keys, Subject, Value, CAPACITY};
-use hontkhale::parts::owner::{Key, Piece, Tally};
-use hontkhale::parts::shards::{Handle, QueueConfig, SharedDelayQueue};
-use hontkhale::parts::streams::ExpiredStream;
+use crate::parts::owner::{Key, Piece, Tally};
+use crate::parts::shards::{Handle, QueueConfig, SharedDelayQueue};
+use crate::parts::streams::ExpiredStream;
 use std::num::NonZeroU32;
 use std::task::{Context, Poll};
 

@@ -7,16 +7,15 @@
 // The tests ask for a newer Rust than the crate, and drop what a call gives whatever its type is.
 #![allow(clippy::incompatible_msrv, clippy::drop_non_drop, dropping_copy_types)]
 
-#[path = "panics/kit.rs"]
 mod kit;
-#[path = "panics/shards.rs"]
+mod law;
 mod shards;
 
 mod owner {
     //! The calls of one owner's queue.
 
     use super::kit::{deadline_of, key, panics_in_turn, Keys, Subject, Value, CAPACITY};
-    use hontkhale::parts::owner::{DelayCore, Key, Piece, Tally, VecWords};
+    use crate::parts::owner::{DelayCore, Key, Piece, Tally, VecWords};
 
     type Queue = DelayCore<Value, VecWords>;
 

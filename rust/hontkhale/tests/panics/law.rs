@@ -149,7 +149,6 @@ impl<T, W: Words> DelayCore<T, W> {
     ///
     /// # Errors
     /// What isn't as it has to be.
-    #[doc(hidden)]
     pub fn check_law(&mut self) -> Result<(), Broken> {
         wheel_holds(&self.wheel)?;
         slots_hold(&self.slots)?;
@@ -182,14 +181,12 @@ impl<T, W: Words> DelayCore<T, W> {
     }
 }
 
-#[cfg(feature = "std")]
 impl<T> crate::shards::ShardState<T> {
     /// Goes through all that the shard keeps, for tests: its queue, and that a parked poller waits for no later tick
     /// than the next wake.
     ///
     /// # Errors
     /// What isn't as it has to be.
-    #[doc(hidden)]
     pub fn check_law(&mut self) -> Result<(), Broken> {
         self.watched.core.check_law()?;
         let next_wake = self.next_wake();
@@ -202,7 +199,6 @@ impl<T> crate::shards::ShardState<T> {
     }
 }
 
-#[cfg(test)]
 mod tests {
     use super::Broken;
     use crate::core::{CoreConfig, DelayCore, Steps, VecWords};
@@ -330,5 +326,81 @@ mod tests {
         };
         let missed: Vec<&str> = PLANTS.iter().filter_map(missed).collect();
         assert!(missed.is_empty(), "{missed:?}");
+    }
+}
+
+#[path = "../models/draw.rs"]
+mod draw;
+
+mod drawn {
+    //! Drawn calls of a queue over plain words, and over shared ones.
+
+    use super::draw::{calls, Draw};
+    use crate::core::{CoreConfig, DelayCore, VecWords, Words};
+    use crate::ticks::{Key, LAST_TICK};
+    use crate::words::{numbered_queue, Keeper};
+
+    type Over<W> = DelayCore<Box<u64>, W>;
+
+    /// A call by a key: an extend to a tick, or a cancel.
+    type ByKey<'c, W> = &'c mut dyn FnMut(&mut Over<W>, &Key, Option<u64>);
+
+    fn call<W: Words>(queue: &mut Over<W>, draw: &mut Draw, keys: &mut Vec<Key>, by_key: ByKey<'_, W>) {
+        let tick = queue.noted() + draw.of_bits(12);
+        let (near, far) = (tick + draw.of_bits(37), LAST_TICK - draw.of_bits(37));
+        let when = draw.one_of(&[tick, near, far]);
+        let most = draw.below(70);
+        let key = draw.one_of(&keys[keys.len().saturating_sub(100)..]);
+        match draw.below(20) {
+            0..=5 => keys.extend(queue.insert(Box::new(when), when).ok()),
+            6 | 7 => keys.extend(queue.reset(&key.entry(), when).ok()),
+            8 => drop(queue.remove(&key.entry())),
+            9 => drop(queue.reap(&key.entry())),
+            10 | 11 => by_key(queue, &key, Some(when)),
+            12 | 13 => by_key(queue, &key, None),
+            14 => drop(queue.poll(tick)),
+            15 => drop(queue.poll_deferring(tick)),
+            16 | 17 => drop(queue.poll_some(tick, most as u32)),
+            18 => drop(queue.sweep_some(draw.below(70) as usize, most as usize)),
+            _ if draw.one_in(8) => drop(queue.clear()),
+            _ => drop(queue.sweep()),
+        }
+    }
+
+    /// A round of calls, after each of which the law is gone through, and after a fold of the queue that is cleared.
+    fn play<W: Words>(mut queue: Over<W>, draw: &mut Draw, by_key: ByKey<'_, W>) {
+        let mut keys = vec![queue.insert(Box::new(1), 1).expect("a slot")];
+        for _ in 0..200 {
+            call(&mut queue, draw, &mut keys, by_key);
+            assert_eq!(queue.check_law(), Ok(()), "after a call");
+        }
+        queue.clear();
+        let folded = queue.fold().ok().expect("a queue that holds nothing");
+        let mut unfolded: Over<W> = folded.unfold().ok().expect("memory");
+        assert_eq!(unfolded.check_law(), Ok(()), "after a fold");
+    }
+
+    #[test]
+    fn the_law_holds_after_each_drawn_call() {
+        let mut draw = Draw::new(71);
+        for _ in 0..calls() / 1_000 {
+            let config = CoreConfig {
+                shard: 0,
+                capacity: draw.one_of(&[1, 2, 3, 5, 16, 64, 70]),
+                last_stamp: draw.one_of(&[1, 2, 7, 200, 1_048_575]),
+            };
+            let words = VecWords::new(config.capacity).expect("memory");
+            let plain = Over::<VecWords>::new(config, words).ok().expect("a queue");
+            play(plain, &mut draw, &mut |queue, key, when| match when {
+                Some(when) => drop(queue.extend(key, when)),
+                None => drop(queue.cancel(key)),
+            });
+            let mut shared = numbered_queue(config).expect("a queue");
+            let mut caller = shared.issue().expect("a caller");
+            play(shared, &mut draw, &mut |_: &mut Over<Keeper>, key, when| match when {
+                Some(when) => drop(caller.extend(key, when)),
+                None => drop(caller.cancel(key)),
+            });
+        }
     }
 }
