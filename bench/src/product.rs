@@ -137,14 +137,23 @@ impl<'c> Product<'c> {
     #[inline(always)]
     fn take(&self) -> Option<Expired<u64>> {
         black_box(Instant::now());
-        self.queue.try_recv().ok()
+        self.queue.try_recv().ok().or_else(|| self.take_behind())
     }
 
     /// A burst of what is due, where something is.
     #[inline(always)]
     fn take_many(&self, row: &mut Vec<Expired<u64>>) -> bool {
         black_box(Instant::now());
-        self.queue.try_recv_many(row, BURST).is_ok()
+        if self.queue.try_recv_many(row, BURST).is_err() {
+            row.extend(self.take_behind());
+        }
+        !row.is_empty()
+    }
+
+    /// What stands behind more entries than a call goes over.
+    #[cold]
+    fn take_behind(&self) -> Option<Expired<u64>> {
+        self.queue.try_iter().next()
     }
 
     fn tick_of(&self, moment: Instant) -> u64 {
@@ -250,7 +259,7 @@ impl Sharded for Product<'_> {
     }
 
     fn poll_alone(&mut self, _shard: usize, _tick: u64) -> Option<(u64, u64)> {
-        let out = self.queue.try_recv().ok()?;
+        let out = self.take()?;
         Some((out.value, self.tick_of(out.deadline)))
     }
 }

@@ -510,11 +510,12 @@ impl<T> DelayQueue<T> {
     }
 
     /// Takes an entry out that is due, and waits at most that long until one is: for ever where no clock reaches that moment,
-    /// as with [`Duration::MAX`]. With a time of zero it doesn't wait. The time is counted by the queue's clock: with a
+    /// as with [`Duration::MAX`]. With a time of zero it doesn't wait, and looks no further than a
+    /// [`try_recv`](DelayQueue::try_recv). The time is counted by the queue's clock: with a
     /// [`ManualClock`] it passes by [`advance`](ManualClock::advance) alone, which wakes whoever waits.
     ///
     /// # Errors
-    /// - `Timeout` if none came due in time.
+    /// - `Timeout` if none was found in time.
     /// - `Closed` if the queue is closed and nothing is due.
     ///
     /// ```
@@ -533,10 +534,11 @@ impl<T> DelayQueue<T> {
         self.shared.receive_within(timeout)
     }
 
-    /// Takes an entry out that is due, and waits until `when` at most, by the queue's clock. Where that is over it doesn't wait.
+    /// Takes an entry out that is due, and waits until `when` at most, by the queue's clock. Where that is over it doesn't wait,
+    /// and looks no further than a [`try_recv`](DelayQueue::try_recv).
     ///
     /// # Errors
-    /// - `Timeout` if none came due in time.
+    /// - `Timeout` if none was found in time.
     /// - `Closed` if the queue is closed and nothing is due.
     pub fn recv_deadline(&self, when: Instant) -> Result<Expired<T>, RecvTimeoutError> {
         self.shared.receive(Some(when))
@@ -544,8 +546,12 @@ impl<T> DelayQueue<T> {
 
     /// Takes an entry out that is due now. It takes the locks of those shards alone in which something may be due.
     ///
+    /// It never takes long: a call goes over some 2,000 entries at most that don't come out, since they were cancelled or have a
+    /// later deadline, or drops as many values, and then returns `Empty`. The next call goes on there.
+    /// [`try_iter`](DelayQueue::try_iter) goes on until nothing is due.
+    ///
     /// # Errors
-    /// - `Empty` if nothing is due by now.
+    /// - `Empty` if nothing that is due by now was found.
     /// - `Closed` if the queue is closed and nothing is due.
     ///
     /// ```
@@ -586,10 +592,11 @@ impl<T> DelayQueue<T> {
     }
 
     /// Appends entries that are due now to a row, at most so many, and returns how many. It takes several under one lock. It
-    /// returns 0 only where `most` is 0.
+    /// returns 0 only where `most` is 0. As a [`try_recv`](DelayQueue::try_recv) it leaves a rest to the next call, so it may
+    /// return fewer than are due.
     ///
     /// # Errors
-    /// - `Empty` if nothing is due by now.
+    /// - `Empty` if nothing that is due by now was found.
     /// - `Closed` if the queue is closed and nothing is due.
     pub fn try_recv_many(&self, row: &mut Vec<Expired<T>>, most: usize) -> Result<usize, TryRecvError> {
         self.shared.try_receive_many(row, most)
@@ -600,7 +607,8 @@ impl<T> DelayQueue<T> {
         Iter { shared: &self.shared }
     }
 
-    /// What is due now, one entry after the other: each step is a [`try_recv`](DelayQueue::try_recv).
+    /// What is due now, one entry after the other, until nothing is due. A step may take longer than a
+    /// [`try_recv`](DelayQueue::try_recv).
     pub fn try_iter(&self) -> TryIter<'_, T> {
         TryIter { shared: &self.shared }
     }

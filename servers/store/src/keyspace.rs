@@ -189,9 +189,7 @@ impl Keyspace {
     /// Takes off every key that is due by now. Those that others take out of the queue meanwhile are off too then.
     fn take_off_all(&self) {
         let taker = lock(&self.takers[KEEPERS]);
-        while let Ok(out) = self.queue.try_recv() {
-            self.lose(&out);
-        }
+        self.queue.try_iter().for_each(|out| self.lose(&out));
         drop(taker);
         self.takers[..KEEPERS].iter().for_each(|it| drop(lock(it)));
     }

@@ -109,7 +109,7 @@ impl Error for KeyError {}
 /// Why a [`DelayQueue`](crate::DelayQueue) gives no entry to who doesn't wait.
 #[derive(Clone, Copy, Debug, PartialEq, Eq)]
 pub enum TryRecvError {
-    /// Nothing is due by now.
+    /// Nothing that is due by now was found.
     Empty,
     /// The queue is closed, and nothing is due: nothing comes out any more.
     Closed,
@@ -129,7 +129,7 @@ impl Error for TryRecvError {}
 /// Why a [`DelayQueue`](crate::DelayQueue) gives no entry to who waits for a time.
 #[derive(Clone, Copy, Debug, PartialEq, Eq)]
 pub enum RecvTimeoutError {
-    /// Nothing came due in time.
+    /// Nothing that is due was found in time.
     Timeout,
     /// The queue is closed, and nothing is due: nothing comes out any more.
     Closed,

@@ -114,32 +114,34 @@ impl<T> Shared<T> {
     }
 
     /// A bounded part of what keeps a shard of the right size. Where memory is refused it is done later. It tells whether more
-    /// is left, but for entries that are to be moved.
+    /// may be left, but for entries that are to be moved.
     #[cold]
     pub fn maintain(&self, at: usize) -> bool {
-        let mut is_moving = false;
+        // To fold a core, or to make one, takes the longest: it is done once.
+        let mut is_done = false;
         for _ in 0..STEPS {
             // A program's clock isn't read under a lock.
             let now = self.common.time.tick();
             let wanted = |shard: &Shard<T>| shard.wanted(self.common.seen[at].cancels());
             let mut shard = self.lock(at);
-            let drained = shard.entries.take_needless();
-            let is_making = drained.is_none() && wanted(&shard).is_some();
-            is_moving = drained.is_none() && !is_making && shard.move_straggler(now);
+            let drained = if is_done { None } else { shard.entries.take_needless() };
+            let is_making = !is_done && drained.is_none() && wanted(&shard).is_some();
+            let is_moving = drained.is_none() && !is_making && shard.move_straggler(now);
             go_on(shard.end());
             match drained {
                 Some(core) => self.fold(at, core),
+                None if is_moving => continue,
                 // Another thread may have made it meanwhile.
                 None if is_making && self.make_wanted(at, |shard| Ok(wanted(shard))) == Ok(true) => {}
-                None if is_moving => {}
-                None => return false,
+                None => break,
             }
+            is_done = true;
         }
         // What is moved is moved on by a receiver that has time.
-        if !is_moving {
+        if is_done {
             self.lock(at).entries.note_work();
         }
-        !is_moving
+        is_done
     }
 
     /// Folds a core that has drained, and keeps it unless it is worn.
@@ -157,21 +159,19 @@ impl<T> Shared<T> {
     pub fn free_cancelled(&self, at: usize) {
         let cancels = self.common.seen[at].cancels();
         (0..SWEEPS).all(|_| self.lock(at).sweep(cancels));
-        self.drop_deferred();
+        while self.drop_some() {}
     }
 
     /// A bounded part of what is done where nothing is due: cancelled entries are freed and their values dropped, and the shards
-    /// brought to the right size.
-    pub fn maintain_all(&self) {
-        if !self.common.seen.iter().all(Seen::is_quiet) {
-            self.bring_to_size();
-        }
-        self.drop_deferred();
+    /// brought to the right size. It tells whether more is to be done before a receiver sleeps.
+    pub fn maintain_all(&self) -> bool {
+        let has_more = !self.common.seen.iter().all(Seen::is_quiet) && self.bring_to_size();
+        self.drop_some() || has_more
     }
 
-    /// Looks for cancelled entries in one of the shards, and brings each to the right size.
+    /// Looks for cancelled entries in one of the shards, and brings each to the right size, up to one of which more is left.
     #[cold]
-    fn bring_to_size(&self) {
+    fn bring_to_size(&self) -> bool {
         let count = self.common.seen.len();
         let from = (self.common.time.tick() % count as u64) as usize;
         let mut is_swept = false;
@@ -180,10 +180,11 @@ impl<T> Shared<T> {
             is_swept = is_swept || shard.sweep(self.common.seen[at].cancels());
             let is_busy = shard.entries.sizing().is_busy(shard.entries.store());
             drop(shard);
-            if is_busy {
-                self.maintain(at);
+            if is_busy && self.maintain(at) {
+                return true;
             }
         }
+        false
     }
 
     /// Makes room for so many entries, and keeps it.

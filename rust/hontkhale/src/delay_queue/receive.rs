@@ -6,18 +6,19 @@ use crate::delay_queue::shard::{Way, STEPS};
 use crate::delay_queue::shared::Shared;
 use crate::delay_queue::waking::{Seat, Wakes};
 use crate::delay_queue::Expired;
+use std::sync::atomic::Ordering::SeqCst;
 use std::thread;
 use std::time::{Duration, Instant};
 
 /// How many entries are taken out under one lock.
 const TAKEN_AT_ONCE: usize = 64;
-/// How many entries may have left a shard, cancelled ones among them, under a lock that is kept.
-const FEW: usize = 2 * TAKEN_AT_ONCE;
 /// Up to how many entries of a core a thread polls as a whole. In pieces an entry takes longer, but the lock is held for no more
 /// steps, however many entries there are.
 const POLLED_WHOLE: usize = 8_192;
-/// How often a lock is taken, at most, before a task is polled again, or a thread drops what was freed meanwhile.
-pub(crate) const TURNS: usize = 4;
+/// By how many steps the next one of several is polled for at first: it is mostly due, and else another core may be next.
+const FIRST_STEPS: u32 = 4;
+/// How many turns a call makes in which nothing comes out: each takes a lock for 256 steps, or drops as many values.
+const TURNS: usize = 8;
 
 /// What some steps came to.
 pub(crate) enum Step<R> {
@@ -38,37 +39,48 @@ impl<T> Drop for Place<'_, T> {
 }
 
 impl<T> Shared<T> {
-    /// What a first look or `take` takes, as soon as one takes something, and why nothing from `until` on, or once the queue is
-    /// closed. Values that were freed are dropped here, before something is in hand and outside the line.
-    fn wait_for<R>(
-        &self,
-        until: Option<Instant>,
-        mut step: Step<R>,
-        mut take: impl FnMut() -> Step<R>,
-    ) -> Result<R, RecvTimeoutError> {
+    /// What `take` takes, as soon as it takes something, and why nothing from `until` on, or once the queue is closed. Values that
+    /// were freed are dropped here, before something is in hand and outside the line.
+    fn wait_for<R>(&self, until: Option<Instant>, mut take: impl FnMut() -> Step<R>) -> Result<R, RecvTimeoutError> {
         let mut over = None;
         loop {
-            match step {
+            match self.look(&mut take) {
                 Step::Took(taken) => return Ok(taken),
-                Step::Works => {}
-                Step::Rests => {
-                    if let Some(over) = over {
-                        self.drop_deferred();
-                        return Err(over);
-                    }
-                    // What was put in before a close, or was due in time, comes out by one look more.
-                    over = self.over(until);
-                    if over.is_none() {
-                        self.maintain_all();
-                        if let Some(taken) = self.wait_in_line(until, &mut take) {
-                            return Ok(taken);
-                        }
-                    }
+                Step::Works if self.is_late(until) => return Err(RecvTimeoutError::Timeout),
+                Step::Works => continue,
+                Step::Rests => {}
+            }
+            if let Some(over) = over {
+                self.drop_some();
+                return Err(over);
+            }
+            // What was put in before a close, or was due in time, comes out by one look more.
+            over = self.over(until);
+            if over.is_none() {
+                while self.maintain_all() {}
+                if let Some(taken) = self.wait_in_line(until, &mut take) {
+                    return Ok(taken);
                 }
             }
-            self.drop_deferred();
-            step = take();
         }
+    }
+
+    /// What `take` takes in some turns. Values that were freed are dropped before each: those are turns as well.
+    #[inline(always)]
+    fn look<R>(&self, mut take: impl FnMut() -> Step<R>) -> Step<R> {
+        let mut turns = 0;
+        while turns < TURNS {
+            turns += 1 + usize::from(self.drop_some());
+            match take() {
+                Step::Works => {}
+                step => return step,
+            }
+        }
+        Step::Works
+    }
+
+    fn is_late(&self, until: Option<Instant>) -> bool {
+        until.is_some_and(|until| until <= self.common.time.now())
     }
 
     /// Why a wait is over, where it is.
@@ -76,8 +88,7 @@ impl<T> Shared<T> {
         if self.common.is_closed() {
             return Some(RecvTimeoutError::Closed);
         }
-        let is_late = until.is_some_and(|until| until <= self.common.time.now());
-        is_late.then_some(RecvTimeoutError::Timeout)
+        self.is_late(until).then_some(RecvTimeoutError::Timeout)
     }
 
     /// What `take` takes; none once it has more to do, values are to be dropped, or the wait is over.
@@ -110,7 +121,7 @@ impl<T> Shared<T> {
         }
     }
 
-    /// Takes an entry out that is due, by a poll that is a whole one of cores of at most so many entries.
+    /// Takes an entry out that is due, under one lock, by a poll that is a whole one of cores of at most so many entries.
     #[inline(always)]
     pub fn try_poll(&self, whole: usize) -> Step<Expired<T>> {
         let now = self.common.time.tick();
@@ -118,7 +129,7 @@ impl<T> Shared<T> {
             return Step::Rests;
         };
         let mut shard = self.lock(at);
-        let piece = match shard.is_small(whole) {
+        let piece = match shard.is_small(whole, self.common.seen[at].cancels.load(SeqCst)) {
             true => shard.entries.poll(now),
             false => shard.entries.poll_some(now, STEPS),
         };
@@ -131,31 +142,21 @@ impl<T> Shared<T> {
         Step::Took(Expired { key, deadline, value })
     }
 
-    /// An entry that is due, where some turns find one.
-    pub fn take_one(&self) -> Step<Expired<T>> {
-        for _ in 0..TURNS {
-            match self.try_poll(POLLED_WHOLE) {
-                Step::Works => {}
-                step => return step,
-            }
-        }
-        Step::Works
-    }
-
-    /// Takes entries that are due, at most so many, and tells how many. It ends where some turns found none.
+    /// Takes entries that are due, at most so many, and tells how many. It ends where the steps under a lock find none, or few for
+    /// some turns.
     fn take_some(&self, row: &mut Vec<Expired<T>>, most: usize) -> Step<usize> {
         let now = self.common.time.tick();
         let (before, mut turns) = (row.len(), 0);
-        while row.len() - before < most {
+        while row.len() - before < most && turns < TURNS {
             let Some(at) = self.common.most_due(now) else {
                 break;
             };
             let left = most - (row.len() - before);
-            self.take_under_lock(at, now, row, left);
-            turns += 1;
-            if row.len() == before && turns == TURNS {
+            let is_done = self.take_under_lock(at, now, row, left);
+            if row.len() == before && !is_done {
                 return Step::Works;
             }
+            turns += usize::from(!is_done);
         }
         match row.len() - before {
             0 => Step::Rests,
@@ -163,49 +164,47 @@ impl<T> Shared<T> {
         }
     }
 
-    /// The same of a shard, under one lock.
-    fn take_under_lock(&self, at: usize, now: u64, row: &mut Vec<Expired<T>>, most: usize) {
-        let first = row.len();
-        let room = TAKEN_AT_ONCE.min(most);
-        row.reserve(room);
+    /// The same of a shard, under one lock. It tells whether it took all that it may, or that are due; else its steps were made.
+    fn take_under_lock(&self, at: usize, now: u64, row: &mut Vec<Expired<T>>, most: usize) -> bool {
+        let (first, full) = (row.len(), row.len() + TAKEN_AT_ONCE.min(most));
+        row.reserve(full - first);
         let mut shard = self.lock(at);
-        let is_whole = shard.is_small(POLLED_WHOLE);
-        let linked = shard.linked();
-        let mut is_next = false;
-        while row.len() < first + room {
+        let is_whole = shard.is_small(POLLED_WHOLE, self.common.seen[at].cancels.load(SeqCst));
+        let (mut left, mut steps) = (STEPS, FIRST_STEPS);
+        while row.len() < full && left > 0 {
+            steps = steps.min(left);
+            left -= if is_whole { 0 } else { steps };
             let piece = match is_whole {
                 true => shard.entries.poll(now),
-                false => shard.entries.poll_some(now, STEPS),
+                false => shard.entries.poll_some(now, steps),
             };
             match shard.polled(piece, now) {
                 Step::Took((key, tick, value)) => {
-                    is_next = false;
+                    steps = FIRST_STEPS;
                     let deadline = self.common.time.moment(tick);
                     row.push(Expired { key, deadline, value });
-                    if !is_whole && linked - shard.linked() > FEW {
-                        break;
-                    }
                 }
-                // Another core is next. The lock is kept for one that has nothing to give, while few cancelled entries were
-                // reaped under it.
-                Step::Works if is_whole && !is_next && linked - shard.linked() <= FEW => is_next = true,
+                // Another core is next. The lock is kept for one that has nothing to give.
+                Step::Works if !is_whole || steps == FIRST_STEPS => steps *= 2,
                 Step::Works | Step::Rests => break,
             }
         }
-        if row.len() == first + room {
+        let is_full = row.len() == full;
+        if is_full {
             shard.entries.note_next();
         }
         self.leave(shard, row.len() - first);
+        is_full || left > 0
     }
 }
 
 impl<T> Shared<T> {
     /// An entry that is due, once one is; none from a moment on.
     pub fn receive(&self, until: Option<Instant>) -> Result<Expired<T>, RecvTimeoutError> {
-        self.drop_deferred();
+        self.drop_some();
         match self.try_poll(POLLED_WHOLE) {
             Step::Took(expired) => Ok(expired),
-            step => self.wait_for(until, step, || self.take_one()),
+            _ => self.wait_for(until, || self.try_poll(POLLED_WHOLE)),
         }
     }
 
@@ -218,14 +217,13 @@ impl<T> Shared<T> {
         if most == 0 {
             return 0;
         }
-        self.wait_for(None, Step::Works, || self.take_some(row, most))
-            .unwrap_or(0)
+        self.wait_for(None, || self.take_some(row, most)).unwrap_or(0)
     }
 
     /// One call is all that a program makes of a receive: what is taken apart between two goes through memory twice.
     #[inline(never)]
     pub fn try_receive(&self) -> Result<Expired<T>, TryRecvError> {
-        self.taken_now(|| self.take_one())
+        self.taken_now(|| self.try_poll(POLLED_WHOLE))
     }
 
     pub fn try_receive_many(&self, row: &mut Vec<Expired<T>>, most: usize) -> Result<usize, TryRecvError> {
@@ -235,19 +233,18 @@ impl<T> Shared<T> {
         self.taken_now(|| self.take_some(row, most))
     }
 
-    /// What is taken, or why nothing where nothing is due. What was freed is dropped while nothing is in hand. It is called at one
-    /// place alone, so that it is inlined there.
+    /// What is taken, or why nothing. It is called at one place alone, so that it is inlined there.
     #[inline(always)]
     fn taken_now<R>(&self, mut take: impl FnMut() -> Step<R>) -> Result<R, TryRecvError> {
         let mut error = TryRecvError::Empty;
         loop {
-            self.drop_deferred();
-            match take() {
+            match self.look(&mut take) {
                 Step::Took(taken) => return Ok(taken),
-                Step::Works => continue,
-                Step::Rests => self.maintain_all(),
+                Step::Works => return Err(TryRecvError::Empty),
+                Step::Rests => {}
             }
             if error == TryRecvError::Closed || !self.common.is_closed() {
+                self.maintain_all();
                 return Err(error);
             }
             // It may have been put in just before the close.
@@ -280,7 +277,12 @@ impl<T> Iterator for TryIter<'_, T> {
     type Item = Expired<T>;
 
     fn next(&mut self) -> Option<Expired<T>> {
-        self.shared.try_receive().ok()
+        loop {
+            let (received, common) = (self.shared.try_receive().ok(), &self.shared.common);
+            if received.is_some() || common.most_due(common.time.tick()).is_none() {
+                return received;
+            }
+        }
     }
 }
 
@@ -327,42 +329,60 @@ impl<T> Iterator for Drain<'_, T> {
 
     fn next(&mut self) -> Option<(Key, Instant, T)> {
         // What was cancelled is dropped while nothing is in hand.
-        self.shared.drop_deferred();
+        while self.shared.drop_some() {}
         let taken = self.next_on_the_way();
-        if taken.is_none() {
-            self.shared.drop_deferred();
-        }
+        while taken.is_none() && self.shared.drop_some() {}
         taken
     }
 }
 
 #[cfg(test)]
 mod tests {
-    use super::{Step, FEW, POLLED_WHOLE};
+    use super::{Step, POLLED_WHOLE, STEPS, TURNS};
+    use crate::delay_queue::shared::Shared;
+    use crate::index::looked;
     use crate::locks::taken;
-    use crate::{DelayQueue, ManualClock};
+    use crate::{DelayQueue, Expired, ManualClock, RecvTimeoutError, TryRecvError};
     use std::panic::catch_unwind;
+    use std::sync::Arc;
     use std::time::Duration;
 
-    /// More than the turns of a look come to, in cores that aren't polled as a whole.
-    const MANY: usize = 4 * (POLLED_WHOLE + 1_024);
+    /// More entries than a call has steps for, in cores that are polled in pieces, and in such as are polled as a whole.
+    const MANY: [u64; 2] = [20_000, 8_000];
+    /// How many steps a call makes, and how many values it drops. A step looks at thirty indexes at most.
+    const MOST: usize = TURNS * STEPS as usize;
 
-    /// A queue of one shard in which many entries are due, all but each so many cancelled, and then another one.
-    fn cancelled(but: usize) -> DelayQueue<String> {
-        let clock = ManualClock::new();
+    type Tries = fn(&DelayQueue<Arc<()>>) -> Option<Expired<Arc<()>>>;
+
+    /// Calls that wait for nothing, and return what they took.
+    const TRIES: [Tries; 3] = [
+        |queue| queue.try_recv().ok(),
+        |queue| queue.recv_timeout(Duration::ZERO).ok(),
+        |queue| {
+            let mut row = Vec::new();
+            queue.try_recv_many(&mut row, 64).ok().and_then(|_| row.pop())
+        },
+    ];
+
+    /// A queue of one shard in which so many entries are due, all cancelled, and then another one; and what each has as its value.
+    fn cancelled(many: u64) -> (DelayQueue<Arc<()>>, Arc<()>) {
+        let (clock, value) = (ManualClock::new(), Arc::new(()));
         let queue = DelayQueue::builder().shards(1).clock(&clock).build();
-        let insert = |value: String, after| queue.insert(value, Duration::from_millis(after)).expect("room");
-        let keys: Vec<_> = (0..MANY).map(|number| insert(number.to_string(), 1)).collect();
-        insert("due".to_string(), 2);
-        let ends = keys.iter().enumerate().filter(|(number, _)| (number + 1) % but != 0);
-        ends.for_each(|(_, key)| _ = queue.cancel(key).expect("it waits"));
+        let insert = |after| {
+            queue
+                .insert(Arc::clone(&value), Duration::from_millis(after))
+                .expect("room")
+        };
+        let keys: Vec<_> = (0..many).map(|_| insert(1)).collect();
+        insert(2);
+        keys.iter().for_each(|key| _ = queue.cancel(key).expect("it waits"));
         clock.advance(Duration::from_millis(2));
-        queue
+        (queue, value)
     }
 
     /// What is linked in the shard.
-    fn linked(queue: &DelayQueue<String>) -> usize {
-        queue.shared.lock(0).linked()
+    fn linked<T>(shared: &Shared<T>) -> usize {
+        shared.lock(0).linked()
     }
 
     #[test]
@@ -380,57 +400,133 @@ mod tests {
 
     #[test]
     fn few_entries_are_freed_under_one_lock() {
-        let (queue, mut row) = (cancelled(100), Vec::new());
-        while linked(&queue) > 0 {
-            let before = linked(&queue);
-            queue
-                .shared
-                .take_under_lock(0, queue.shared.common.time.tick(), &mut row, 64);
-            assert!(before - linked(&queue) <= FEW + POLLED_WHOLE);
-        }
-        assert_eq!(row.len(), MANY / 100 + 1);
-        let queue = cancelled(MANY + 1);
-        loop {
-            let before = linked(&queue);
-            let step = queue.shared.try_poll(POLLED_WHOLE);
-            assert!(before - linked(&queue) <= POLLED_WHOLE);
-            if let Step::Took(expired) = step {
-                break assert_eq!(expired.value, "due");
+        for many in MANY {
+            let ((queue, _), mut row) = (cancelled(many), Vec::new());
+            let shared = &queue.shared;
+            while row.is_empty() {
+                let before = linked(shared);
+                shared.take_under_lock(0, 2, &mut row, 64);
+                assert!(before - linked(shared) <= STEPS as usize);
             }
+            let (queue, _) = cancelled(many);
+            let shared = &queue.shared;
+            while linked(shared) > 0 {
+                let before = linked(shared);
+                shared.try_poll(POLLED_WHOLE);
+                assert!(before - linked(shared) <= STEPS as usize);
+            }
+        }
+    }
+
+    #[test]
+    fn a_call_that_waits_for_nothing_frees_few_entries_and_the_next_one_goes_on() {
+        for (tries, many) in TRIES.iter().flat_map(|tries| MANY.map(|many| (tries, many))) {
+            let (queue, value) = cancelled(many);
+            let (mut out, mut calls) = (None, 0);
+            while out.is_none() {
+                let (left, waits) = (linked(&queue.shared), Arc::strong_count(&value));
+                let looks = looked::by(|| out = tries(&queue));
+                calls += 1;
+                assert!(looks <= 30 * MOST, "{looks}");
+                assert!(left - linked(&queue.shared) <= MOST);
+                assert!(waits - Arc::strong_count(&value) <= MOST);
+            }
+            assert!(calls > 1 && linked(&queue.shared) == 0);
+            assert!(tries(&queue).is_none() && Arc::strong_count(&value) == 2);
+        }
+    }
+
+    #[test]
+    fn a_slot_of_many_entries_is_opened_by_calls_of_few_steps() {
+        const FAR: Duration = Duration::from_millis(1 << 24);
+        for tries in TRIES {
+            let (clock, value) = (ManualClock::new(), Arc::new(()));
+            let queue = DelayQueue::builder().shards(1).clock(&clock).build();
+            let insert = |after| {
+                queue
+                    .insert(Arc::clone(&value), FAR + Duration::from_millis(after))
+                    .expect("room")
+            };
+            (0..MANY[0]).for_each(|after| _ = insert(1_000_000 + after));
+            insert(1);
+            assert!(tries(&queue).is_none());
+            clock.advance(FAR + Duration::from_millis(1));
+            let (mut out, mut calls) = (None, 0);
+            while out.is_none() {
+                let looks = looked::by(|| out = tries(&queue));
+                calls += 1;
+                assert!(looks <= 30 * MOST, "{looks}");
+            }
+            assert!(calls > 1 && queue.len() as u64 == MANY[0]);
         }
     }
 
     /// No clock goes on, so a receiver that sleeps never wakes.
     #[test]
-    fn no_receive_ends_while_more_may_be_due() {
-        type Receive = fn(&DelayQueue<String>) -> Option<String>;
-        let receives: [Receive; 4] = [
-            |queue| queue.recv().map(|expired| expired.value),
-            |queue| queue.try_recv().ok().map(|expired| expired.value),
-            |queue| queue.recv_timeout(Duration::ZERO).ok().map(|expired| expired.value),
-            |queue| {
-                let mut row = Vec::new();
-                queue.recv_many(&mut row, 64);
-                row.pop().map(|expired| expired.value)
-            },
+    fn no_receive_sleeps_or_ends_while_more_may_be_due() {
+        type Receive = fn(&DelayQueue<Arc<()>>) -> usize;
+        let receives: [Receive; 5] = [
+            |queue| queue.recv().into_iter().count(),
+            |queue| queue.recv_timeout(Duration::MAX).into_iter().count(),
+            |queue| queue.recv_many(&mut Vec::new(), 64),
+            |queue| queue.try_iter().count(),
+            |queue| queue.receiver().iter().take(1).count(),
         ];
         for (receive, is_closed) in receives.iter().flat_map(|receive| [(receive, false), (receive, true)]) {
-            let queue = cancelled(MANY + 1);
+            let (queue, _) = cancelled(MANY[0]);
             if is_closed {
                 queue.close();
             }
-            assert_eq!(receive(&queue).as_deref(), Some("due"));
+            assert_eq!((receive(&queue), linked(&queue.shared)), (1, 0));
         }
-        let queue = cancelled(MANY + 1);
-        assert!(matches!(queue.shared.take_one(), Step::Works) && linked(&queue) > 1);
+    }
+
+    #[test]
+    fn a_call_that_waits_for_nothing_says_closed_only_where_nothing_is_left() {
+        let (queue, _) = cancelled(MANY[0]);
+        queue.close();
+        assert!(matches!(
+            queue.recv_timeout(Duration::ZERO),
+            Err(RecvTimeoutError::Timeout)
+        ));
+        assert!(matches!(
+            queue.try_recv_many(&mut Vec::new(), 64),
+            Err(TryRecvError::Empty)
+        ));
+        let next = || loop {
+            match queue.try_recv() {
+                Err(TryRecvError::Empty) => {}
+                received => break received,
+            }
+        };
+        assert!(next().is_ok() && queue.is_empty());
+        assert!(matches!(next(), Err(TryRecvError::Closed)));
+        assert!(matches!(
+            queue.recv_timeout(Duration::ZERO),
+            Err(RecvTimeoutError::Closed)
+        ));
+    }
+
+    /// To fold a core takes the longest. A receiver that may sleep folds them all before.
+    #[test]
+    fn a_call_that_waits_for_nothing_folds_one_core() {
+        let cores = |queue: &DelayQueue<Arc<()>>| queue.shared.lock(0).cores().count();
+        let (queue, _) = cancelled(MANY[0]);
+        let mut most = 0;
+        for _ in 0..100 {
+            let before = cores(&queue);
+            let _ = queue.try_recv();
+            most = most.max(before.saturating_sub(cores(&queue)));
+        }
+        assert_eq!((most, cores(&queue)), (1, 1));
     }
 
     #[test]
     fn what_was_put_in_just_before_the_close_comes_out() {
         let queue = DelayQueue::new();
         let mut is_first = true;
-        let received = queue.shared.wait_for(None, Step::Works, || {
-            let step = queue.shared.take_one();
+        let received = queue.shared.wait_for(None, || {
+            let step = queue.shared.try_poll(POLLED_WHOLE);
             if std::mem::take(&mut is_first) {
                 queue.insert("due", Duration::ZERO).expect("room");
                 queue.close();
@@ -471,7 +567,7 @@ mod tests {
         }
         let mut row = Vec::new();
         assert_eq!(queue.try_recv_many(&mut row, 2), Ok(2));
-        let (is_empty, locks) = taken::by(|| matches!(queue.shared.take_one(), Step::Rests));
+        let (is_empty, locks) = taken::by(|| matches!(queue.shared.try_poll(POLLED_WHOLE), Step::Rests));
         assert_eq!((is_empty, locks), (true, 0));
     }
 

@@ -2,7 +2,7 @@
 //! poll it again. A task joins the line of receivers where it has nothing to take, and leaves it with what it takes.
 
 use crate::delay_queue::errors::{RecvTimeoutError, TryRecvError};
-use crate::delay_queue::receive::{Step, TURNS};
+use crate::delay_queue::receive::Step;
 use crate::delay_queue::shared::Shared;
 use crate::delay_queue::waking::{Seat, Wakes};
 use crate::delay_queue::{DelayQueue, Expired, Iter, TryIter};
@@ -10,6 +10,9 @@ use std::fmt;
 use std::sync::Arc;
 use std::task::{Context, Poll, Waker};
 use std::time::{Duration, Instant};
+
+/// How often a poll takes a lock, at most.
+const TURNS: usize = 4;
 
 /// Receives from a [`DelayQueue`], in a thread or in a task, and ends by itself.
 ///
@@ -98,7 +101,7 @@ impl<T> Receiver<T> {
     /// As [`DelayQueue::recv_timeout`].
     ///
     /// # Errors
-    /// - `Timeout` if none came due in time.
+    /// - `Timeout` if none was found in time.
     /// - `Closed` if the receiver has ended.
     pub fn recv_timeout(&self, timeout: Duration) -> Result<Expired<T>, RecvTimeoutError> {
         self.shared.receive_within(timeout)
@@ -107,7 +110,7 @@ impl<T> Receiver<T> {
     /// As [`DelayQueue::recv_deadline`].
     ///
     /// # Errors
-    /// - `Timeout` if none came due in time.
+    /// - `Timeout` if none was found in time.
     /// - `Closed` if the receiver has ended.
     pub fn recv_deadline(&self, when: Instant) -> Result<Expired<T>, RecvTimeoutError> {
         self.shared.receive(Some(when))
@@ -116,7 +119,7 @@ impl<T> Receiver<T> {
     /// As [`DelayQueue::try_recv`].
     ///
     /// # Errors
-    /// - `Empty` if nothing is due by now.
+    /// - `Empty` if nothing that is due by now was found.
     /// - `Closed` if the receiver has ended.
     pub fn try_recv(&self) -> Result<Expired<T>, TryRecvError> {
         self.shared.try_receive()
@@ -130,7 +133,7 @@ impl<T> Receiver<T> {
     /// As [`DelayQueue::try_recv_many`].
     ///
     /// # Errors
-    /// - `Empty` if nothing is due by now.
+    /// - `Empty` if nothing that is due by now was found.
     /// - `Closed` if the receiver has ended.
     pub fn try_recv_many(&self, row: &mut Vec<Expired<T>>, most: usize) -> Result<usize, TryRecvError> {
         self.shared.try_receive_many(row, most)
@@ -141,7 +144,7 @@ impl<T> Receiver<T> {
         Iter { shared: &self.shared }
     }
 
-    /// What is due now, one entry after the other: each step is a [`try_recv`](Receiver::try_recv).
+    /// As [`DelayQueue::try_iter`].
     pub fn try_iter(&self) -> TryIter<'_, T> {
         TryIter { shared: &self.shared }
     }
@@ -152,8 +155,8 @@ impl<T> Receiver<T> {
     /// what comes sooner than it waits for, and once the receiver ends. The caller polls again at
     /// [`wake_at`](Receiver::wake_at), too: the queue has no timer. A first one that isn't polled then is passed over after a
     /// moment.
-    /// A poll takes a shard's lock four times at most, each time for 256 steps; where more is to do it is pending, and wakes its
-    /// task at once.
+    /// A poll goes over some 1,000 entries at most that don't come out, and drops as many values; where more is to do it is
+    /// pending, and wakes its task at once.
     ///
     /// The values of cancelled entries are dropped here, before something is in hand, and while no lock is held.
     pub fn poll_recv(&mut self, cx: &mut Context<'_>) -> Poll<Option<Expired<T>>> {
@@ -169,7 +172,7 @@ impl<T> Receiver<T> {
         self.wake_at = None;
         for _ in 0..TURNS {
             let shared = &self.shared;
-            shared.drop_deferred();
+            shared.drop_some();
             // It is asked first: what was put in before a close comes out.
             let is_closed = shared.common.is_closed();
             match take(shared) {
@@ -180,6 +183,8 @@ impl<T> Receiver<T> {
                 Step::Works => {}
                 // Nobody sleeps any more, and no place in line is of use.
                 Step::Rests if is_closed => return Poll::Ready(None),
+                // More is left to do, before it sleeps.
+                Step::Rests if shared.maintain_all() => break,
                 Step::Rests => {
                     if let Some(tick) = self.sleep(cx.waker()) {
                         self.wake_at = self.shared.common.time.moment_of(tick);
@@ -195,7 +200,6 @@ impl<T> Receiver<T> {
     /// Sleeps in line, at most until the tick that it tells; none where something came meanwhile.
     fn sleep(&mut self, waker: &Waker) -> Option<u64> {
         let common = &self.shared.common;
-        self.shared.maintain_all();
         // Whoever leads looks at the hints once more as it sleeps.
         let (until, now) = (common.least_hint(), common.time.tick());
         if until <= now {
@@ -250,10 +254,12 @@ impl<'r, T> IntoIterator for &'r Receiver<T> {
 
 #[cfg(test)]
 mod tests {
+    use super::TURNS;
+    use crate::delay_queue::shard::STEPS;
     use crate::delay_queue::{Key, ManualClock};
     use crate::index::looked;
     use crate::{DelayQueue, Receiver};
-    use std::sync::atomic::{AtomicBool, Ordering::SeqCst};
+    use std::sync::atomic::{AtomicBool, AtomicUsize, Ordering::SeqCst};
     use std::sync::mpsc::channel;
     use std::sync::Arc;
     use std::task::{Context, Poll, Wake, Waker};
@@ -277,6 +283,48 @@ mod tests {
 
     impl Wake for Sleeps {
         fn wake(self: Arc<Self>) {}
+    }
+
+    #[derive(Default)]
+    struct Counts(AtomicUsize);
+
+    impl Wake for Counts {
+        fn wake(self: Arc<Self>) {
+            self.0.fetch_add(1, SeqCst);
+        }
+    }
+
+    /// The entry that is due stands behind them.
+    #[test]
+    fn a_poll_frees_few_entries_and_folds_one_core_and_wakes_its_task_for_the_rest() {
+        const MOST: usize = TURNS * STEPS as usize;
+        let (clock, value) = (ManualClock::new(), Arc::new(()));
+        let queue = DelayQueue::builder().shards(1).clock(&clock).build();
+        let insert = |after| {
+            queue
+                .insert(Arc::clone(&value), Duration::from_millis(after))
+                .expect("room")
+        };
+        let keys: Vec<Key> = (0..20_000).map(|_| insert(1)).collect();
+        insert(2);
+        keys.iter().for_each(|key| _ = queue.cancel(key).expect("it waits"));
+        clock.advance(Duration::from_millis(2));
+        let (mut receiver, wakes) = (queue.receiver(), Arc::<Counts>::default());
+        let waker = Waker::from(Arc::clone(&wakes));
+        let seen = || {
+            let shard = queue.shared.lock(0);
+            (shard.linked(), shard.cores().count(), Arc::strong_count(&value))
+        };
+        let (mut outs, mut polls) = (0, 0);
+        while wakes.0.load(SeqCst) + outs == polls {
+            let (linked, cores, values) = seen();
+            outs += usize::from(receiver.poll_recv(&mut Context::from_waker(&waker)).is_ready());
+            polls += 1;
+            let after = seen();
+            assert!(linked - after.0 <= MOST && cores <= after.1 + 1 && values - after.2 <= MOST);
+        }
+        assert_eq!((outs, seen()), (1, (0, 1, 1)));
+        assert!(polls > 20_000 / MOST);
     }
 
     #[test]

@@ -173,16 +173,17 @@ impl<T> Shard<T> {
 
 /// How entries come out.
 impl<T> Shard<T> {
-    /// Whether no core has more than so many entries.
+    /// Whether no core has more than so many entries, and few of them are cancelled, once so many cancels were accepted.
     #[inline(always)]
-    pub fn is_small(&self, most: usize) -> bool {
-        self.counts.left <= most as u64 || self.has_small_cores(most)
+    pub fn is_small(&self, most: usize, cancels: u64) -> bool {
+        cancels <= STEPS.into() && self.counts.left <= most as u64 || self.has_small_cores(most, cancels)
     }
 
     /// The same by the cores themselves. Inlined, it would cost each receive from a shard of many entries some more.
     #[inline(never)]
-    fn has_small_cores(&self, most: usize) -> bool {
-        self.cores().all(|core| core.len() <= most)
+    fn has_small_cores(&self, most: usize, cancels: u64) -> bool {
+        let are_few = |linked| cancels.saturating_sub(self.counts.left - linked as u64) <= STEPS.into();
+        self.cores().all(|core| core.len() <= most) && (cancels <= STEPS.into() || are_few(self.linked()))
     }
 
     /// Notes what a poll at a tick came to.
