@@ -283,7 +283,7 @@ fn worn_cores_go() {
         let key = queue.insert(value, 10);
         assert!(queue.remove(&key).is_some());
     }
-    assert!(queue.capacity() < 1_000, "{}", queue.capacity());
+    assert!(queue.capacity() < 1_000 && queue.worn() < 1_000, "{} and {}", queue.capacity(), queue.worn());
     assert_eq!(queue.remove(&stays).map(|out| out.data), Some(0));
 }
 

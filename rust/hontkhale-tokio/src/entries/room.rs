@@ -37,19 +37,18 @@ impl<T> Entries<T> {
         open.is_some_and(|open| free(open) > open.deferred())
     }
 
-    /// Opens the core that has the most room, or else a new one.
+    /// Opens the core that has the most room, or else a new one; then those that have drained are worn, and go.
     #[cold]
     pub(super) fn make_room(&mut self) {
         let rooms = self.cores().map(|core| free(core).saturating_sub(core.deferred())).enumerate();
-        match rooms.max_by_key(|(_, room)| *room) {
-            Some((place, 1..)) => _ = self.store.open(place),
-            _ if self.promised == 0 => self.add_core(self.next_slots()),
-            _ => {
-                let slots = self.promised.min(CAPACITY_LIMIT);
-                self.add_core(slots);
-                self.promised -= slots;
-            }
+        if let Some((place, 1..)) = rooms.max_by_key(|(_, room)| *room) {
+            self.store.open(place);
+            return;
         }
+        self.fold_drained();
+        let slots = if self.promised > 0 { self.promised.min(CAPACITY_LIMIT) } else { self.next_slots() };
+        self.add_core(slots);
+        self.promised = self.promised.saturating_sub(slots);
     }
 
     /// How many slots the next core has, by the entries that there are: twice the last one's where no slot is worn.
@@ -75,7 +74,7 @@ impl<T> Entries<T> {
         }
     }
 
-    /// Adds a core of so many slots, which is open then. A core that has drained, and isn't the open one, is folded or goes.
+    /// Adds a core of so many slots, which is open then.
     fn add_core(&mut self, slots: usize) {
         assert!(self.store.cores().count() < CORES, "max entries exceeded");
         let slots = rounded(slots);
