@@ -33,23 +33,17 @@ impl Budget {
         (piece > 0).then_some(piece)
     }
 
-    /// Takes one step, and tells whether there was one.
-    pub fn takes_step(&mut self) -> bool {
-        let is_left = self.left > 0;
-        self.take(u32::from(is_left));
-        is_left
+    /// Whether a step is left.
+    pub fn has_step(&self) -> bool {
+        self.left > 0
     }
 
+    /// Takes so many steps, of those that are left.
     #[inline]
-    fn take(&mut self, steps: u32) {
+    pub fn take(&mut self, steps: u32) {
         if self.left < u32::MAX {
             self.left -= steps;
         }
-    }
-
-    /// Takes a step back that wasn't made.
-    pub fn give_back(&mut self) {
-        self.left = self.left.saturating_add(1);
     }
 
     /// Notes that a call made all of its steps: the next one is given twice as many, so that there are few calls.

@@ -6,10 +6,10 @@
 //! entry stays in its slot until a poll drops it.
 
 use crate::key::{Expired, Key, Name, MOST_CORES};
-use crate::shared::{Names, Shared, Step};
+use crate::shared::{Names, Shared};
 use hontkhale::parts::directory::Clerk;
 use hontkhale::parts::growing::{Cores, Folds, Moved, NextDeadline, Store};
-use hontkhale::parts::owner::{CallError, CoreError, DelayCore, EntryId, Keeper, Look, OpenWords, Removed, LAST_TICK};
+use hontkhale::parts::owner::{CallError, CoreError, DelayCore, EntryId, Keeper, Look, OpenWords, Removed};
 use std::sync::mpsc::{channel, Receiver};
 use std::sync::{Arc, Mutex};
 
@@ -23,7 +23,7 @@ pub(crate) use polls::{AFTER_LOOK, ASKED};
 type Core<T> = DelayCore<T, Keeper>;
 
 pub(crate) struct Entries<T> {
-    shared: Arc<Shared>,
+    pub shared: Arc<Shared>,
     store: Store<T, Keeper>,
     folds: Folds<Keeper>,
     clerk: Clerk<OpenWords>,
@@ -74,11 +74,6 @@ impl<T> Entries<T> {
         entries
     }
 
-    #[inline]
-    pub fn shared(&self) -> &Arc<Shared> {
-        &self.shared
-    }
-
     /// From here on handles find each entry, also one that hasn't its first name any more.
     pub fn share(&mut self) {
         if self.has_handles {
@@ -102,7 +97,7 @@ impl<T> Entries<T> {
     /// The id under which the store has the entry of a key, none where the key is another queue's.
     #[inline]
     fn entry(&self, key: &Key) -> Option<EntryId> {
-        (key.queue() == self.shared.number).then(|| key.entry())
+        (key.queue == self.shared.number).then(|| key.entry())
     }
 
     /// Puts a value in, whose deadline isn't beyond the last tick.
@@ -121,13 +116,10 @@ impl<T> Entries<T> {
         }
     }
 
-    /// Gives the entry of a key another deadline.
+    /// Gives the entry of a key another deadline, which isn't beyond the last tick.
     #[inline]
     pub fn reset(&mut self, key: &Key, when: u64) -> Result<(), CoreError> {
         let when = when.max(self.tick);
-        if when > LAST_TICK {
-            return Err(CoreError::TooFar { limit: LAST_TICK });
-        }
         let entry = self.entry(key).ok_or(CoreError::Missing)?;
         if self.has_handles {
             self.reset_shared(key, when)?;
@@ -146,7 +138,8 @@ impl<T> Entries<T> {
     fn reset_shared(&mut self, key: &Key, when: u64) -> Result<(), CoreError> {
         let entry = key.entry();
         if self.store.deadline(&entry)? <= when {
-            return self.shared.step(key, Step::Extend(when)).map(drop).ok_or(CoreError::Missing);
+            let extended = self.shared.step(key, |words, key| words.extend(key, when));
+            return extended.map(drop).ok_or(CoreError::Missing);
         }
         let shared = Arc::clone(&self.shared);
         let mut names = shared.names();
@@ -200,7 +193,7 @@ impl<T> Entries<T> {
     /// Notes where an entry is, and its stamp.
     fn note_name(&mut self, names: &mut Names, key: &Key, stamp: u32) {
         let name = self.store.place(&key.entry()).map(|place| Name::of(&place, stamp));
-        names.extend(name.map(|name| (key.name(), name)));
+        names.extend(name.map(|name| (key.name, name)));
         self.has_names = true;
     }
 
@@ -229,7 +222,7 @@ impl<T> Entries<T> {
     #[cold]
     fn forget_name(&mut self, key: &Key) {
         let mut names = self.shared.names();
-        names.remove(&key.name());
+        names.remove(&key.name);
         self.has_names = !names.is_empty();
     }
 
@@ -280,10 +273,6 @@ impl<T> Entries<T> {
     /// The entries, those among them that were cancelled and not yet freed.
     pub fn len(&self) -> usize {
         self.cores().map(DelayCore::len).sum()
-    }
-
-    pub fn is_empty(&self) -> bool {
-        self.cores().all(DelayCore::is_empty)
     }
 
     /// The entries that handles cancelled and that weren't freed yet.

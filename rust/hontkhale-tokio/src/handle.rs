@@ -1,6 +1,6 @@
 use crate::key::Key;
-use crate::shared::{Shared, Step};
-use hontkhale::parts::owner::LAST_TICK;
+use crate::shared::Shared;
+use hontkhale::parts::owner::{OpenWords, LAST_TICK};
 use std::error::Error;
 use std::fmt;
 use std::sync::Arc;
@@ -82,7 +82,8 @@ impl Handle {
         if tick > LAST_TICK {
             return Err(EntryError::TooFar);
         }
-        let deadline = self.step(key, Step::Extend(tick))?;
+        let extended = self.shared.step(key, |words, key| words.extend(key, tick));
+        let deadline = extended.ok_or(EntryError::Ended)?;
         Ok(self.shared.clock.moment(deadline))
     }
 
@@ -105,14 +106,9 @@ impl Handle {
     /// # }
     /// ```
     pub fn cancel(&self, key: &Key) -> Result<Instant, EntryError> {
-        let deadline = self.step(key, Step::Cancel)?;
+        let deadline = self.shared.step(key, OpenWords::cancel).ok_or(EntryError::Ended)?;
         self.shared.tell_cancel(key);
         Ok(self.shared.clock.moment(deadline))
-    }
-
-    #[inline(always)]
-    fn step(&self, key: &Key, step: Step) -> Result<u64, EntryError> {
-        self.shared.step(key, step).ok_or(EntryError::Ended)
     }
 }
 

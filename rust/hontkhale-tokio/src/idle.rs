@@ -38,12 +38,7 @@ use tokio::time::Instant;
 /// nothing times out. A connection may be used in any runtime.
 #[derive(Clone, Debug, Default)]
 pub struct IdleTimeouts {
-    shared: Arc<Timeouts>,
-}
-
-/// What the owner, its clones and the connections share, but not the task, which ends with the queue.
-#[derive(Debug, Default)]
-struct Timeouts {
+    /// The connections have clones of it and the task has none, so the task ends with them.
     queue: SharedQueue<Arc<Waits>>,
     has_task: Arc<AtomicBool>,
 }
@@ -69,14 +64,12 @@ impl IdleTimeouts {
     /// If it is called outside of a runtime and no task runs, if memory is refused, or if 3 million connections a processor, of
     /// up to 16 processors, are there already.
     pub fn wrap<IO>(&self, io: IO, after: Duration) -> IdleTimeout<IO> {
-        self.shared.run();
-        let (timeouts, waits) = (Arc::clone(&self.shared), Arc::<Waits>::default());
+        self.run();
+        let (timeouts, waits) = (self.clone(), Arc::<Waits>::default());
         let place = timeouts.place(&waits, after);
         IdleTimeout { io, entry: Entry { timeouts, place, after, waits } }
     }
-}
 
-impl Timeouts {
     /// A connection's key and deadline, none where that is too far.
     fn place(&self, waits: &Arc<Waits>, after: Duration) -> Option<(Key, Instant)> {
         let deadline = Instant::now().checked_add(after)?;
@@ -211,7 +204,7 @@ pub struct IdleTimeout<IO> {
 
 #[derive(Debug)]
 struct Entry {
-    timeouts: Arc<Timeouts>,
+    timeouts: IdleTimeouts,
     /// The connection's key in the queue and a deadline that it has or had, nothing where it never times out.
     place: Option<(Key, Instant)>,
     after: Duration,
@@ -353,7 +346,7 @@ impl<IO: AsyncWrite + Unpin> AsyncWrite for IdleTimeout<IO> {
 
 #[cfg(test)]
 mod tests {
-    use super::{IdleTimeout, IdleTimeouts, SharedQueue, Timeouts, Waits, WakerCell};
+    use super::{IdleTimeout, IdleTimeouts, SharedQueue, Waits, WakerCell};
     use std::io::ErrorKind;
     use std::panic::{catch_unwind, AssertUnwindSafe};
     use std::sync::atomic::{AtomicUsize, Ordering::SeqCst};
@@ -368,7 +361,7 @@ mod tests {
     #[tokio::test(start_paused = true)]
     async fn the_task_ends_once_the_owner_and_all_connections_are_gone() {
         let timeouts = IdleTimeouts::new();
-        let has_task = Arc::clone(&timeouts.shared.has_task);
+        let has_task = Arc::clone(&timeouts.has_task);
         let connections =
             [Duration::from_secs(30), Duration::MAX].map(|after| timeouts.clone().wrap(duplex(8).0, after));
         drop(timeouts);
@@ -438,7 +431,7 @@ mod tests {
         server.write_u8(1).await.expect("a thread's first extend takes the lock");
         sleep(Duration::from_millis(2)).await;
         let (key, before) = server.entry.place.expect("it has a timeout");
-        let queue = timeouts.shared.queue.clone();
+        let queue = timeouts.queue.clone();
         let ((holds, is_held), (moved, has_moved)) = (mpsc::channel(), mpsc::channel());
         let holder = thread::spawn(move || {
             let holding = |_: &Arc<Waits>| {
@@ -492,7 +485,7 @@ mod tests {
     #[tokio::test(start_paused = true)]
     async fn a_connection_for_which_there_is_no_place_is_refused() {
         let queue = SharedQueue::builder().max_entries(1).build().into();
-        let timeouts = IdleTimeouts { shared: Arc::new(Timeouts { queue, ..Timeouts::default() }) };
+        let timeouts = IdleTimeouts { queue, ..IdleTimeouts::default() };
         let wrap = || timeouts.wrap(duplex(8).0, Duration::from_secs(30));
         let first = wrap();
         assert!(catch_unwind(AssertUnwindSafe(wrap)).is_err());

@@ -14,10 +14,10 @@ pub(crate) const MOST_CORES: u32 = 1 << (u64::BITS - STAMP_BITS - SLOT_BITS);
 #[derive(Clone, Copy, PartialEq, Eq, Hash)]
 pub struct Key {
     /// The number of the queue, which no other queue of the program has.
-    queue: u64,
-    /// Two numbers in all: a key that was just made is copied from two stores, and not from four, for which a wider load would
-    /// wait.
-    name: Name,
+    pub(crate) queue: u64,
+    /// The name that the entry had at first. Two numbers in all: a key that was just made is copied from two stores, and not from
+    /// four, for which a wider load would wait.
+    pub(crate) name: Name,
 }
 
 /// A core's number, a slot there, and a stamp. An entry's first name is where it was put, and the stamp of its birth.
@@ -61,18 +61,6 @@ impl Key {
     #[inline]
     pub(crate) fn of(queue: u64, entry: &EntryId) -> Key {
         Key { queue, name: Name::of(entry, entry.born()) }
-    }
-
-    /// The number of the queue.
-    #[inline]
-    pub(crate) fn queue(&self) -> u64 {
-        self.queue
-    }
-
-    /// The name that the entry had at first.
-    #[inline]
-    pub(crate) fn name(&self) -> Name {
-        self.name
     }
 
     /// The id under which the store has the entry.

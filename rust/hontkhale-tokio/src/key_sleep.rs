@@ -1,5 +1,5 @@
 use crate::shared_queue::SharedQueue;
-use crate::timer::TaskTimer;
+use crate::timer::Timer;
 use futures_core::ready;
 use hontkhale::{Key, KeyError};
 use std::fmt;
@@ -41,7 +41,7 @@ use tokio::time::Instant;
 pub struct KeySleep<T> {
     queue: SharedQueue<T>,
     key: Key,
-    timer: TaskTimer,
+    timer: Timer,
 }
 
 // No value is ever pinned.
@@ -49,7 +49,7 @@ impl<T> Unpin for KeySleep<T> {}
 
 impl<T> KeySleep<T> {
     pub(crate) fn of(queue: &SharedQueue<T>, key: &Key) -> KeySleep<T> {
-        KeySleep { queue: queue.clone(), key: *key, timer: TaskTimer::default() }
+        KeySleep { queue: queue.clone(), key: *key, timer: Timer::default() }
     }
 
     /// The key of the entry.

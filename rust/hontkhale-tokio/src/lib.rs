@@ -17,7 +17,6 @@ mod stream;
 #[cfg(test)]
 mod tests;
 mod timer;
-mod unique_ids;
 
 pub use handle::{EntryError, Handle};
 pub use hontkhale;

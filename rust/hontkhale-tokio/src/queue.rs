@@ -5,11 +5,11 @@ use crate::key::{Expired, Key};
 use crate::numbers::{Latest, Numbers};
 use crate::timer::Timer;
 use futures_core::Stream;
-use hontkhale::parts::owner::{CoreError, Piece, Turn, LAST_STAMP, LAST_TICK};
+use hontkhale::parts::owner::{Piece, Turn, LAST_STAMP, LAST_TICK};
 use std::fmt;
 use std::pin::Pin;
 use std::sync::Arc;
-use std::task::{Context, Poll, Waker};
+use std::task::{Context, Poll};
 use std::time::Duration;
 use tokio::time::Instant;
 
@@ -43,8 +43,7 @@ pub struct DelayQueue<T> {
     /// The greatest tick that is known to be over.
     reached: u64,
     timer: Timer,
-    /// The task that waits until the tick `armed`: an insert or reset before that wakes it.
-    waker: Option<Waker>,
+    /// Until when the timer's task waits: an insert or reset before that tick wakes it.
     armed: u64,
     /// Whether an entry was reset since the task began to wait.
     has_resets: bool,
@@ -99,7 +98,6 @@ impl<T> DelayQueue<T> {
             entries: Entries::new(capacity, last_stamp),
             reached: 0,
             timer: Timer::default(),
-            waker: None,
             armed: 0,
             has_resets: false,
             has_changes: false,
@@ -163,7 +161,7 @@ impl<T> DelayQueue<T> {
     /// ```
     #[track_caller]
     pub fn insert_at(&mut self, value: T, when: Instant) -> Key {
-        let tick = self.entries.shared().clock.tick_at(when);
+        let tick = self.entries.shared.clock.tick_at(when);
         assert!(tick <= LAST_TICK, "invalid deadline: beyond the last tick, {LAST_TICK}");
         // A waker that panics takes no key along.
         self.wake_before(tick);
@@ -190,9 +188,6 @@ impl<T> DelayQueue<T> {
     /// the time is advanced by a millisecond, as is tokio's `sleep_until(Instant::now())`. In a runtime that began with paused
     /// time, and went on by whole milliseconds, it is ready.
     pub fn poll_expired(&mut self, cx: &mut Context<'_>) -> Poll<Option<Expired<T>>> {
-        if self.streak.is_over() {
-            return self.end_streak(cx);
-        }
         if self.armed > 0 && self.armed < NEVER {
             if self.waits_on(cx) {
                 return Poll::Pending;
@@ -201,7 +196,8 @@ impl<T> DelayQueue<T> {
             self.look();
         }
         let mut budget = self.fresh;
-        if !self.entries.heed_news(&mut budget) {
+        // A row of entries ends as the budget does: what handles cancelled is dropped before.
+        if !self.entries.heed_news(&mut budget) || self.streak.is_over() {
             return self.give_way(cx);
         }
         if self.budget == u32::MAX {
@@ -242,17 +238,16 @@ impl<T> DelayQueue<T> {
             }
             match piece {
                 Ok(Piece::Answer(Turn::Out(out))) => return Poll::Ready(Some(self.entries.expired(out))),
-                Ok(Piece::Answer(rest)) => match self.entries.wake(&rest, self.reached) {
-                    Some(wake) => {
-                        if self.waits_for(wake, cx) {
-                            return Poll::Pending;
-                        }
-                    }
-                    None => {
-                        self.arm(NEVER, cx);
+                Ok(Piece::Answer(rest)) => {
+                    let Some(wake) = self.entries.wake(&rest, self.reached) else {
+                        self.timer.note_task(cx.waker());
+                        self.arm(NEVER);
                         return Poll::Ready(None);
+                    };
+                    if self.waits_for(wake, cx) {
+                        return Poll::Pending;
                     }
-                },
+                }
                 Ok(Piece::Working) => budget.grow(),
                 Err(_) => unreachable!("a tick that the clock showed"),
             }
@@ -288,24 +283,15 @@ impl<T> DelayQueue<T> {
         self.armed = 0;
         self.timer.leave();
         self.streak.count();
-        self.latest.note(deadline, self.reached, &self.entries.shared().clock);
+        self.latest.note(deadline, self.reached, &self.entries.shared.clock);
     }
 
     /// Whether the task that waits goes on waiting: nothing was changed that it waits for, and its timer hasn't fired.
     #[inline]
     fn waits_on(&mut self, cx: &mut Context<'_>) -> bool {
         // It was given nothing since it waits, so there is no row to end.
-        let is_as_it_was = !self.has_changes && !self.entries.has_news() && self.waits_as(cx.waker());
+        let is_as_it_was = !self.has_changes && !self.entries.has_news() && self.timer.is_of(cx.waker());
         is_as_it_was && self.timer.poll_again(cx).is_pending()
-    }
-
-    /// Drops what handles cancelled, as each poll does, and lets other tasks have their turn.
-    #[cold]
-    fn end_streak(&mut self, cx: &mut Context<'_>) -> Poll<Option<Expired<T>>> {
-        let mut budget = self.fresh;
-        // Where the budget is spent before, the next poll goes on.
-        self.entries.heed_news(&mut budget);
-        self.give_way(cx)
     }
 
     /// Wakes the task at once: other tasks run before it comes again.
@@ -327,40 +313,29 @@ impl<T> DelayQueue<T> {
 
     /// The tick that the clock shows is left to the timer, which rounds a moment within it up.
     fn note_clock(&mut self) {
-        let over = self.entries.shared().clock.tick_over();
+        let over = self.entries.shared.clock.tick_over();
         self.reached = self.reached.max(over.saturating_sub(1).min(LAST_TICK));
     }
 
     /// Sleeps until a tick. Ready where it is reached.
     fn poll_sleep(&mut self, wake: u64, cx: &mut Context<'_>) -> Poll<()> {
-        let moment = self.entries.shared().clock.moment(wake);
-        if !self.waits_as(cx.waker()) {
-            self.timer.leave();
-        }
+        let moment = self.entries.shared.clock.moment(wake);
+        self.timer.note_task(cx.waker());
         if self.timer.poll_until(moment, cx).is_ready() {
             self.reached = wake;
             return Poll::Ready(());
         }
         self.streak.end();
-        self.arm(wake, cx);
+        self.arm(wake);
         Poll::Pending
     }
 
     /// Notes that the task waits until a tick.
-    fn arm(&mut self, wake: u64, cx: &mut Context<'_>) {
+    fn arm(&mut self, wake: u64) {
         self.armed = wake;
         self.has_resets = false;
         self.has_changes = false;
         self.has_looked = false;
-        if !self.waits_as(cx.waker()) {
-            self.waker = Some(cx.waker().clone());
-        }
-    }
-
-    /// Whether that task waited last.
-    #[inline]
-    fn waits_as(&self, waker: &Waker) -> bool {
-        self.waker.as_ref().is_some_and(|task| task.will_wake(waker))
     }
 
     /// Wakes the task if it waits for a later tick.
@@ -389,7 +364,7 @@ impl<T> DelayQueue<T> {
     #[cold]
     fn wake(&mut self) {
         self.armed = 0;
-        if let Some(waker) = self.waker.take() {
+        if let Some(waker) = self.timer.task.take() {
             waker.wake();
         }
     }
@@ -466,17 +441,15 @@ impl<T> DelayQueue<T> {
     /// - `Ended` if no entry is in the queue under that key: it came out, was removed or cancelled.
     #[inline]
     pub fn try_reset_at(&mut self, key: &Key, when: Instant) -> Result<(), EntryError> {
-        let tick = self.entries.shared().clock.tick_at(when);
-        match self.entries.reset(key, tick) {
-            Ok(()) => {
-                self.has_changes = true;
-                self.wake_before(tick);
-                self.wake_to_step();
-                Ok(())
-            }
-            Err(CoreError::TooFar { .. }) => Err(EntryError::TooFar),
-            Err(_) => Err(EntryError::Ended),
+        let tick = self.entries.shared.clock.tick_at(when);
+        if tick > LAST_TICK {
+            return Err(EntryError::TooFar);
         }
+        self.entries.reset(key, tick).map_err(|_| EntryError::Ended)?;
+        self.has_changes = true;
+        self.wake_before(tick);
+        self.wake_to_step();
+        Ok(())
     }
 
     /// Gives an entry the deadline `timeout` from now, earlier or later than it had, under the same key. Constant time.
@@ -496,17 +469,14 @@ impl<T> DelayQueue<T> {
     /// [`try_deadline`](DelayQueue::try_deadline).
     #[track_caller]
     pub fn deadline(&self, key: &Key) -> Instant {
-        match self.try_deadline(key) {
-            Some(deadline) => deadline,
-            None => panic!("invalid key"),
-        }
+        self.try_deadline(key).expect("invalid key")
     }
 
     /// The deadline of an entry, to which a handle may have extended it; none if no entry is in the queue under that key.
     /// Constant time.
     pub fn try_deadline(&self, key: &Key) -> Option<Instant> {
         let tick = self.entries.deadline(key)?;
-        Some(self.entries.shared().clock.moment(tick))
+        Some(self.entries.shared.clock.moment(tick))
     }
 
     /// The key of the entry that the next poll gives, unless one that comes sooner is put in before, or a [`Handle`] extends
@@ -552,7 +522,7 @@ impl<T> DelayQueue<T> {
 
     /// Whether there is no entry.
     pub fn is_empty(&self) -> bool {
-        self.entries.is_empty()
+        self.len() == 0
     }
 
     /// Makes room for at least so many more entries. It takes memory for 65,536 of them at most, and for as many more each time
@@ -622,7 +592,7 @@ impl<T> DelayQueue<T> {
     /// # }
     /// ```
     pub fn numbers(&self) -> Numbers {
-        let clock = &self.entries.shared().clock;
+        let clock = &self.entries.shared.clock;
         let cancelled = self.entries.cancelled();
         let late = self.entries.least().map_or(0, |deadline| clock.tick_over().saturating_sub(deadline));
         self.latest.note_late(late);
@@ -630,7 +600,7 @@ impl<T> DelayQueue<T> {
             waiting: self.len() - cancelled,
             cancelled,
             worn: self.entries.worn(),
-            handles: Arc::strong_count(self.entries.shared()) - 1,
+            handles: Arc::strong_count(&self.entries.shared) - 1,
             late: Duration::from_millis(late),
             latest: self.latest.ask(),
         }
@@ -652,7 +622,7 @@ impl<T> DelayQueue<T> {
     /// ```
     pub fn handle(&mut self) -> Handle {
         self.entries.share();
-        Handle::of(self.entries.shared().clone())
+        Handle::of(self.entries.shared.clone())
     }
 }
 

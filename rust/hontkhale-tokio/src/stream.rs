@@ -1,6 +1,6 @@
 use crate::budget::Streak;
 use crate::shared_queue::{Expired, SharedQueue};
-use crate::timer::TaskTimer;
+use crate::timer::Timer;
 use futures_core::{ready, Stream};
 use hontkhale::Receiver;
 use std::fmt;
@@ -42,7 +42,7 @@ use tokio::time::Instant;
 #[must_use = "a stream does nothing until it is polled"]
 pub struct QueueStream<T> {
     receiver: Receiver<T>,
-    timer: TaskTimer,
+    timer: Timer,
     streak: Streak,
 }
 
@@ -52,7 +52,7 @@ impl<T> Unpin for QueueStream<T> {}
 impl<T> QueueStream<T> {
     pub(crate) fn of(queue: &SharedQueue<T>) -> QueueStream<T> {
         let receiver = queue.get_ref().receiver();
-        QueueStream { receiver, timer: TaskTimer::default(), streak: Streak::default() }
+        QueueStream { receiver, timer: Timer::default(), streak: Streak::default() }
     }
 
     /// The next entry that expires; none once the queue is [closed](SharedQueue::close) and nothing is due, or nothing waits and

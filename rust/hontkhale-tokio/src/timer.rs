@@ -11,6 +11,8 @@ use tokio::time::{sleep_until, Instant, Sleep};
 #[derive(Default)]
 pub(crate) struct Timer {
     sleep: Option<Pin<Box<Sleep>>>,
+    /// The task that was noted last, in whose runtime the timer is.
+    pub task: Option<Waker>,
     /// Whether the next wait may be in another runtime than the last.
     is_left: bool,
 }
@@ -20,6 +22,21 @@ impl Timer {
     #[inline]
     pub fn leave(&mut self) {
         self.is_left = true;
+    }
+
+    /// Whether that task was noted last.
+    #[inline]
+    pub fn is_of(&self, waker: &Waker) -> bool {
+        self.task.as_ref().is_some_and(|task| task.will_wake(waker))
+    }
+
+    /// Notes the task that is to wait. Another one than before may be in another runtime, and then the timer is of no use there.
+    #[inline]
+    pub fn note_task(&mut self, waker: &Waker) {
+        if !self.is_of(waker) {
+            self.task = Some(waker.clone());
+            self.leave();
+        }
     }
 
     /// Sleeps on where a poll was pending: ready where that moment is reached, or the next wait may be in another runtime.
@@ -48,34 +65,6 @@ impl Timer {
         }
         self.is_left = false;
         sleep.as_mut().poll(cx)
-    }
-}
-
-/// A timer of whichever task polls it.
-#[derive(Default)]
-pub(crate) struct TaskTimer {
-    timer: Timer,
-    /// The task that polled last, in whose runtime the timer is.
-    task: Option<Waker>,
-}
-
-impl TaskTimer {
-    /// Where another task polls than before it may be in another runtime, and then the timer is of no use there.
-    pub fn note_task(&mut self, waker: &Waker) {
-        if !matches!(&self.task, Some(task) if task.will_wake(waker)) {
-            self.task = Some(waker.clone());
-            self.timer.leave();
-        }
-    }
-
-    /// The next wait may be in another runtime.
-    pub fn leave(&mut self) {
-        self.timer.leave();
-    }
-
-    /// Sleeps until a moment: ready where it is reached.
-    pub fn poll_until(&mut self, moment: Instant, cx: &mut Context<'_>) -> Poll<()> {
-        self.timer.poll_until(moment, cx)
     }
 }
 

@@ -130,12 +130,10 @@ impl<T> Entries<T> {
     #[cold]
     fn heed(&mut self, budget: &mut Budget) -> bool {
         self.drop_freed();
-        while budget.takes_step() {
+        while budget.has_step() {
             let cancelled = self.cancelled.get_mut().unwrap_or_else(PoisonError::into_inner);
-            let Ok(key) = cancelled.try_recv() else {
-                budget.give_back();
-                return true;
-            };
+            let Ok(key) = cancelled.try_recv() else { return true };
+            budget.take(1);
             self.heeded += 1;
             if self.has_names {
                 self.forget_name(&key);

@@ -23,33 +23,31 @@ fn rounded(slots: usize) -> usize {
     part * slots.div_ceil(part)
 }
 
-/// Whether less than a quarter of the slots have an entry. To move the entries of a fuller core would take as much memory, for
-/// where they are now, as it gives back.
-fn is_sparse<T>(core: &Core<T>) -> bool {
-    4 * core.len() < core.capacity()
-}
-
 impl<T> Entries<T> {
     /// Whether the open core has a free slot in which no value waits for its drop.
     #[inline(always)]
     pub(super) fn has_room(&self) -> bool {
-        let open = self.store.cores().get(self.store.cores().opened());
-        open.is_some_and(|open| free(open) > open.deferred())
+        self.open_core().is_some_and(|open| free(open) > open.deferred())
     }
 
-    /// Opens the core that has the most room, or else a new one.
+    /// The core into which entries are put, none where it is yet to be made.
+    #[inline(always)]
+    fn open_core(&self) -> Option<&Core<T>> {
+        self.store.cores().get(self.store.cores().opened())
+    }
+
+    /// Opens the core that has the most room, or else a new one; then those that have drained are worn, and go.
     #[cold]
     pub(super) fn make_room(&mut self) {
         let rooms = self.cores().map(|core| free(core).saturating_sub(core.deferred())).enumerate();
-        match rooms.max_by_key(|(_, room)| *room) {
-            Some((place, 1..)) => _ = self.store.open(place),
-            _ if self.promised == 0 => self.add_core(self.next_slots()),
-            _ => {
-                let slots = self.promised.min(CAPACITY_LIMIT);
-                self.add_core(slots);
-                self.promised -= slots;
-            }
+        if let Some((place, 1..)) = rooms.max_by_key(|(_, room)| *room) {
+            self.store.open(place);
+            return;
         }
+        self.fold_drained();
+        let slots = if self.promised > 0 { self.promised.min(CAPACITY_LIMIT) } else { self.next_slots() };
+        self.add_core(slots);
+        self.promised = self.promised.saturating_sub(slots);
     }
 
     /// How many slots the next core has, by the entries that there are: twice the last one's where no slot is worn.
@@ -75,7 +73,7 @@ impl<T> Entries<T> {
         }
     }
 
-    /// Adds a core of so many slots, which is open then. A core that has drained, and isn't the open one, is folded or goes.
+    /// Adds a core of so many slots, which is open then.
     fn add_core(&mut self, slots: usize) {
         assert!(self.store.cores().count() < CORES, "max entries exceeded");
         let slots = rounded(slots);
@@ -128,7 +126,7 @@ impl<T> Entries<T> {
 
     /// Takes every entry out. Where a value's drop panics, the entries that are left stay as they are.
     pub fn clear(&mut self) {
-        self.free_cancelled();
+        self.heed_news(&mut Budget::of(u32::MAX));
         for core in 0..self.store.cores().count() {
             while let Some((_, entry)) = self.linked_from(core, 0) {
                 if self.remove(&self.key(&entry)).is_none() {
@@ -139,36 +137,26 @@ impl<T> Entries<T> {
         }
     }
 
-    /// Frees all that handles cancelled, and drops the values.
-    fn free_cancelled(&mut self) {
-        self.heed_news(&mut Budget::of(u32::MAX));
-    }
-
-    /// Lets the empty cores go.
+    /// Lets the empty cores go, the open one too.
     pub fn shrink_to_fit(&mut self) {
         self.promised = 0;
-        self.let_empty_go();
-    }
-
-    /// Folds each core that has drained, the open one too.
-    fn let_empty_go(&mut self) {
-        if self.cores().any(|core| !core.is_empty()) {
+        if self.open_core().map_or(true, DelayCore::is_empty) {
             let filled = self.cores().position(|core| !core.is_empty());
-            if self.store.cores().get(self.store.cores().opened()).is_some_and(DelayCore::is_empty) {
-                filled.map(|place| self.store.open(place));
+            match filled {
+                Some(filled) => _ = self.store.open(filled),
+                None => self.store.close(),
             }
-        } else {
-            self.store.close();
         }
         self.fold_drained();
         self.shared.names().shrink_to_fit();
     }
 
-    /// Moves the entries of sparse cores to new ones of no more slots than they need.
+    /// Moves the entries of cores of which less than a quarter is used to new ones of no more slots than they need. To move those of
+    /// a fuller core would take as much memory, for where they are now, as it gives back.
     pub fn compact(&mut self) {
-        self.free_cancelled();
-        self.promised = 0;
-        let mut sparse: Vec<&Core<T>> = self.cores().filter(|core| is_sparse(core) && !core.is_empty()).collect();
+        self.heed_news(&mut Budget::of(u32::MAX));
+        let is_sparse = |core: &&Core<T>| !core.is_empty() && 4 * core.len() < core.capacity();
+        let mut sparse: Vec<&Core<T>> = self.cores().filter(is_sparse).collect();
         // What gives back the most for an entry that is moved goes first.
         sparse.sort_by_key(|core| CAPACITY_LIMIT * core.len() / core.capacity());
         let mut entries = sparse.iter().map(|core| core.len()).sum();
@@ -180,7 +168,7 @@ impl<T> Entries<T> {
             self.leave_core(number, &mut entries);
             self.fold_drained();
         }
-        self.let_empty_go();
+        self.shrink_to_fit();
     }
 
     /// Moves the entries of a core to new ones: of so many entries, which are left to be moved.
