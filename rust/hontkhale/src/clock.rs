@@ -1,5 +1,6 @@
 //! Instants and durations as ticks.
 
+#[cfg(feature = "all-parts")]
 use crate::shards::parking::TickSource;
 use crate::ticks::LAST_TICK;
 use std::time::{Duration, Instant};
@@ -80,6 +81,7 @@ fn rounded_up(length: Duration) -> u64 {
     whole(length.saturating_add(Duration::from_nanos(999_999)))
 }
 
+#[cfg(feature = "all-parts")]
 impl TickSource for Clock {
     fn now(&mut self) -> u64 {
         self.tick()

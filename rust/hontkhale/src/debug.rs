@@ -1,8 +1,8 @@
 //! How the types are shown that hold entries: by their numbers, and never by an entry's value.
 
-use crate::core::{
-    DelayCore, Entries, Folded, Held, LiveEntry, Pending, PlainQueue, PlainTurn, Steps, VecWords, Words,
-};
+use crate::core::{DelayCore, Entries, Folded, Held, LiveEntry, Steps, VecWords, Words};
+#[cfg(feature = "all-parts")]
+use crate::core::{Pending, PlainQueue, PlainTurn};
 use crate::words::{Caller, Keeper, OpenWords};
 use core::fmt::{Debug, Formatter, Result};
 
@@ -83,6 +83,7 @@ impl<T> Debug for Held<T> {
     }
 }
 
+#[cfg(feature = "all-parts")]
 impl<T> Debug for Pending<T> {
     fn fmt(&self, f: &mut Formatter<'_>) -> Result {
         f.debug_struct("Pending")
@@ -91,6 +92,7 @@ impl<T> Debug for Pending<T> {
     }
 }
 
+#[cfg(feature = "all-parts")]
 impl<T> Debug for PlainTurn<T> {
     fn fmt(&self, f: &mut Formatter<'_>) -> Result {
         match self {
@@ -104,6 +106,7 @@ impl<T> Debug for PlainTurn<T> {
     }
 }
 
+#[cfg(feature = "all-parts")]
 impl<T> Debug for PlainQueue<T> {
     fn fmt(&self, f: &mut Formatter<'_>) -> Result {
         f.debug_struct("PlainQueue")
@@ -118,13 +121,9 @@ impl<T> Debug for PlainQueue<T> {
 #[cfg(feature = "std")]
 mod with_std {
     use super::{Debug, Formatter, Result};
-    use crate::apps::{CountedCache, IdleSessions, Name, Seen, TtlCache};
     use crate::core::Words;
     use crate::directory::{Clerk, Directory};
     use crate::growing::{Cores, Folds, Store};
-    use crate::shards::parking::{MillisecondTicks, Parked, ShardStream, Shards};
-    use crate::shards::{Handle, ShardState, SharedDelayQueue};
-    use std::hash::{BuildHasher, Hash};
 
     impl<X> Debug for Clerk<X> {
         fn fmt(&self, f: &mut Formatter<'_>) -> Result {
@@ -172,6 +171,15 @@ mod with_std {
             f.debug_struct("Store").finish_non_exhaustive()
         }
     }
+}
+
+#[cfg(all(feature = "std", feature = "all-parts"))]
+mod of_all_parts {
+    use super::{Debug, Formatter, Result};
+    use crate::apps::{CountedCache, IdleSessions, Name, Seen, TtlCache};
+    use crate::shards::parking::{MillisecondTicks, Parked, ShardStream, Shards};
+    use crate::shards::{Handle, ShardState, SharedDelayQueue};
+    use std::hash::{BuildHasher, Hash};
 
     impl<T> Debug for SharedDelayQueue<T> {
         fn fmt(&self, f: &mut Formatter<'_>) -> Result {

@@ -182,7 +182,7 @@ impl<T, W: Words> DelayCore<T, W> {
     }
 }
 
-#[cfg(feature = "std")]
+#[cfg(all(feature = "std", feature = "all-parts"))]
 impl<T> crate::shards::ShardState<T> {
     /// Goes through all that the shard keeps, for tests: its queue, and that a parked poller waits for no later tick
     /// than the next wake.

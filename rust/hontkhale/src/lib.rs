@@ -74,6 +74,7 @@
 
 extern crate alloc;
 
+#[cfg(feature = "all-parts")]
 mod checked_wheel;
 #[cfg(feature = "std")]
 mod clock;
@@ -92,7 +93,7 @@ mod memory;
 pub mod parts;
 mod refused;
 
-#[cfg(feature = "std")]
+#[cfg(all(feature = "std", feature = "all-parts"))]
 mod apps;
 #[cfg(feature = "std")]
 mod bell;
@@ -101,11 +102,11 @@ mod core;
 mod directory;
 #[cfg(feature = "std")]
 mod growing;
-#[cfg(feature = "std")]
+#[cfg(all(feature = "std", feature = "all-parts"))]
 mod replay;
-#[cfg(feature = "std")]
+#[cfg(all(feature = "std", feature = "all-parts"))]
 mod shards;
-#[cfg(feature = "std")]
+#[cfg(all(feature = "std", feature = "all-parts"))]
 mod stream;
 mod ticks;
 mod wheels;
@@ -126,7 +127,7 @@ pub mod iter {
 
 // Tests of the proved parts, which keep the shape of the tests in Rattle from which they were erased once
 // and which are written by hand since.
-#[cfg(all(test, feature = "std"))]
+#[cfg(all(test, feature = "std", feature = "all-parts"))]
 #[rustfmt::skip]
 // The tests keep the shape of their source, and ask for a newer Rust than the crate.
 #[allow(

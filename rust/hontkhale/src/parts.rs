@@ -29,6 +29,7 @@ pub use crate::clock::Clock;
 pub use crate::memory::AllocError;
 pub use crate::refused::Refused;
 
+#[cfg(feature = "all-parts")]
 pub mod wheel {
     //! The timing wheel alone, for whoever keeps values by indexes.
 
@@ -44,16 +45,20 @@ pub mod owner {
     //! Its keys, entries and errors are those of [`shards`](crate::parts::shards) too.
 
     pub use crate::core::{
-        BadNumber, CallError, CoreConfig, CoreError, DelayCore, Entries, Expired, Folded, LiveEntry, Look, Pending,
-        Piece, PlainQueue, PlainTurn, ReapError, Removed, RenewError, SharedWords, Swept, Tally, Turn, VecWords, Words,
+        BadNumber, CallError, CoreConfig, CoreError, DelayCore, Entries, Expired, Folded, LiveEntry, Look, Piece,
+        ReapError, Removed, RenewError, SharedWords, Swept, Tally, Turn, VecWords, Words,
     };
-    pub use crate::ticks::{is_same_entry, is_same_key, EntryId, Key, CAPACITY_LIMIT, LAST_STAMP, LAST_TICK};
-    #[cfg(feature = "std")]
+    #[cfg(feature = "all-parts")]
+    pub use crate::core::{Pending, PlainQueue, PlainTurn};
+    #[cfg(feature = "all-parts")]
+    pub use crate::ticks::{is_same_entry, is_same_key};
+    pub use crate::ticks::{EntryId, Key, CAPACITY_LIMIT, LAST_STAMP, LAST_TICK};
+    #[cfg(all(feature = "std", feature = "all-parts"))]
     pub use crate::words::ManyTurn;
     pub use crate::words::{numbered_queue, shared_queue, Caller, Keeper, OpenWords, WordsError, HANDLE_LIMIT};
 }
 
-#[cfg(feature = "std")]
+#[cfg(all(feature = "std", feature = "all-parts"))]
 pub mod shards {
     //! Delay queues behind locks, one a shard, whose entries are extended and cancelled without them.
 
@@ -63,7 +68,7 @@ pub mod shards {
     };
 }
 
-#[cfg(feature = "std")]
+#[cfg(all(feature = "std", feature = "all-parts"))]
 pub mod streams {
     //! Streams of the entries that expire in a shard, for a task. No other crate's queue has a [`ShardStream`]: the bound
     //! [`Shards`] is that of [`SharedDelayQueue`](crate::parts::shards::SharedDelayQueue) alone.
@@ -74,21 +79,21 @@ pub mod streams {
     };
 }
 
-#[cfg(feature = "std")]
+#[cfg(all(feature = "std", feature = "all-parts"))]
 pub mod cache {
     //! Values that are kept under a key until their deadline.
 
     pub use crate::apps::{CountedCache, MemoAnswer, PutAnswer, Seen, TtlCache};
 }
 
-#[cfg(feature = "std")]
+#[cfg(all(feature = "std", feature = "all-parts"))]
 pub mod sessions {
     //! Sessions that end once nobody has touched them for a time.
 
     pub use crate::apps::{IdleSessions, Name};
 }
 
-#[cfg(feature = "std")]
+#[cfg(all(feature = "std", feature = "all-parts"))]
 pub mod replay {
     //! The replay of a script of delays, from bytes to bytes: what is written is a function of the bytes that are read.
 

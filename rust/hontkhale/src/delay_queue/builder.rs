@@ -8,7 +8,6 @@ use crate::delay_queue::waking::Waiting;
 use crate::delay_queue::DelayQueue;
 use crate::directory::Clerk;
 use crate::locks::Mutex;
-use crate::shards::SHARD_LIMIT;
 use crate::ticks::LAST_STAMP;
 use std::alloc::{handle_alloc_error, Layout};
 use std::fmt;
@@ -17,6 +16,9 @@ use std::sync::atomic::{AtomicUsize, Ordering::SeqCst};
 use std::sync::Arc;
 use std::thread;
 use std::time::Instant;
+
+/// The most shards of a queue.
+const MOST_SHARDS: usize = 64;
 
 /// What a [`DelayQueue`] is made by, as [`DelayQueue::builder`] begins it.
 ///
@@ -62,7 +64,7 @@ impl<T> Builder<T> {
     /// for another number. With 1 all threads use one shard. Without this call they are as many as the machine runs threads, 2 to
     /// 16.
     pub fn shards(mut self, shards: usize) -> Builder<T> {
-        self.shards = shards.clamp(1, SHARD_LIMIT);
+        self.shards = shards.clamp(1, MOST_SHARDS);
         self
     }
 

@@ -123,12 +123,12 @@ enum Made {
     Step,
 }
 
-#[cfg(not(all(test, feature = "std")))]
+#[cfg(not(all(test, feature = "std", feature = "all-parts")))]
 #[inline(always)]
 fn made(_: Made) {}
 
 /// Counts it, for tests of what a call makes.
-#[cfg(all(test, feature = "std"))]
+#[cfg(all(test, feature = "std", feature = "all-parts"))]
 fn made(what: Made) {
     counted::MADE.with(|made| {
         let (loads, steps) = made.get();
@@ -139,7 +139,7 @@ fn made(what: Made) {
     });
 }
 
-#[cfg(all(test, feature = "std"))]
+#[cfg(all(test, feature = "std", feature = "all-parts"))]
 pub(crate) mod counted {
     use std::cell::Cell;
 
