@@ -10,11 +10,16 @@
 //! |---|---|---|
 //! | one owner | [`DelayCore`](owner::DelayCore), made by [`with_capacity`](owner::DelayCore::with_capacity) | [`owner`] |
 //! | one owner, whose entries any thread extends and cancels | [`shared_queue`](owner::shared_queue), with a [`Caller`](owner::Caller) for each thread, or [`OpenWords`](owner::OpenWords) | [`owner`] |
-//! | many threads, shards behind locks | [`SharedDelayQueue`](shards::SharedDelayQueue), with a [`Handle`](shards::Handle) for each thread | [`shards`] |
-//! | whoever keeps values by indexes | [`Wheel`](wheel::Wheel), the timing wheel alone | [`wheel`] |
-//! | tasks that wait for a shard | [`ExpiredStream`](streams::ExpiredStream) | [`streams`] |
-//! | a cache; sessions that time out | [`TtlCache`](cache::TtlCache), [`CountedCache`](cache::CountedCache); [`IdleSessions`](sessions::IdleSessions) | [`cache`], [`sessions`] |
-//! | a script of delays, from bytes to bytes | [`run`](replay::run) | [`replay`] |
+//!
+//! With the feature `all-parts` there are these too, the last four with `std` alone:
+//!
+//! | Who has it | Type | Module |
+//! |---|---|---|
+//! | whoever keeps values by indexes | `Wheel`, the timing wheel alone | `wheel` |
+//! | many threads, shards behind locks | `SharedDelayQueue`, with a `Handle` for each thread | `shards` |
+//! | tasks that wait for a shard | `ExpiredStream` | `streams` |
+//! | a cache; sessions that time out | `TtlCache`, `CountedCache`; `IdleSessions` | `cache`, `sessions` |
+//! | a script of delays, from bytes to bytes | `run` | `replay` |
 //!
 //! A stream has a call `poll_next` of its own, since the crate depends on no other;
 //! `futures::stream::poll_fn(|cx| stream.poll_next(cx))` makes a `Stream` of it.
@@ -41,8 +46,6 @@ pub mod wheel {
 pub mod owner {
     //! The queue of one owner, alone or with callers that extend and cancel its entries from other threads; or over
     //! [`OpenWords`], by which any thread does so with no caller.
-    //!
-    //! Its keys, entries and errors are those of [`shards`](crate::parts::shards) too.
 
     pub use crate::core::{
         BadNumber, CallError, CoreConfig, CoreError, DelayCore, Entries, Expired, Folded, LiveEntry, Look, Piece,
