@@ -1,7 +1,5 @@
 //! Instants and durations as ticks.
 
-#[cfg(feature = "all-parts")]
-use crate::shards::parking::TickSource;
 use crate::ticks::LAST_TICK;
 use std::time::{Duration, Instant};
 
@@ -82,7 +80,7 @@ fn rounded_up(length: Duration) -> u64 {
 }
 
 #[cfg(feature = "all-parts")]
-impl TickSource for Clock {
+impl crate::shards::parking::TickSource for Clock {
     fn now(&mut self) -> u64 {
         self.tick()
     }

@@ -17,9 +17,6 @@ use std::sync::Arc;
 use std::thread;
 use std::time::Instant;
 
-/// The most shards of a queue.
-const MOST_SHARDS: usize = 64;
-
 /// What a [`DelayQueue`] is made by, as [`DelayQueue::builder`] begins it.
 ///
 /// ```
@@ -64,7 +61,7 @@ impl<T> Builder<T> {
     /// for another number. With 1 all threads use one shard. Without this call they are as many as the machine runs threads, 2 to
     /// 16.
     pub fn shards(mut self, shards: usize) -> Builder<T> {
-        self.shards = shards.clamp(1, MOST_SHARDS);
+        self.shards = shards.clamp(1, 64);
         self
     }
 
