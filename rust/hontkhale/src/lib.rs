@@ -44,10 +44,11 @@
 //!
 //! # Features
 //!
-//! `std` is on by default. Without it the crate has no std, but alloc, and of the [`parts`] the queue of one owner, and callers.
+//! `std` is on by default. Without it the crate has no std, but alloc, and of the [`parts`] the queue of one owner, and
+//! callers.
 //!
-//! `all-parts` adds the [`parts`] that a [`DelayQueue`] has no use for: the timing wheel alone, shards behind locks, streams, a
-//! cache, sessions and the replay of scripts.
+//! `all-parts` adds the [`parts`] that a [`DelayQueue`] has no use for: the timing wheel alone, and with `std` shards
+//! behind locks, streams, a cache, sessions and the replay of scripts.
 //!
 //! `proved-bounds` turns off the bounds checks that the proofs have made idle, in one module of four functions, which
 //! has the only `unsafe` of the crate. It is sound, since what the proofs require of a caller is required of nobody

@@ -11,7 +11,7 @@
 //! | one owner | [`DelayCore`](owner::DelayCore), made by [`with_capacity`](owner::DelayCore::with_capacity) | [`owner`] |
 //! | one owner, whose entries any thread extends and cancels | [`shared_queue`](owner::shared_queue), with a [`Caller`](owner::Caller) for each thread, or [`OpenWords`](owner::OpenWords) | [`owner`] |
 //!
-//! With the feature `all-parts` there are these too, the last four with `std` alone:
+//! With the feature `all-parts` there are these too; the last four ask for `std` as well:
 //!
 //! | Who has it | Type | Module |
 //! |---|---|---|
