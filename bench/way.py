@@ -1,5 +1,5 @@
 """How long the way of an entry is from its insert to whoever receives it, and how much stands beside what is proved: counts of a tree,
-which may be that of another commit, as `git worktree add` makes one.
+which may be that of another commit, as `git worktree add` makes one. Of public items those count that the default features give.
 """
 
 import pathlib
@@ -84,11 +84,10 @@ def by_sources(tree):
     by_hand = [source / it for it in (tree / "rust" / "eraser" / "written_by_hand").read_text(encoding="utf-8").split()]
     front = [it for it in by_hand if {"delay_queue", "delay_queue.rs"} & {*it.relative_to(source).parts}]
     fields = [it for path in front for it in shared_fields(text_of(path))]
-    # once each, by however many paths others have it
-    public = face.Face("hontkhale", tree)
-    modules = [it for it in public.lines if it.startswith("pub mod ")]
+    # by the default features, and once each, by however many paths others have it
+    public = face.Face("hontkhale", tree).by_default
     # Before they stood in a file for each function, each edit was a file.
     edits = (it.read_text(encoding="utf-8").count("\nedit: ") or 1 for it in tree.glob("crates/*/edits/*.edit*"))
     return {"by-hand": code([*by_hand, *tree.glob("rust/hontkhale-*/src/**/*.rs")]), "front": code(front),
             "atomics": sum("Atomic" in it for it in fields), "locks": sum("Atomic" not in it for it in fields),
-            "public": len(public.paths) + len(modules), "edits": sum(edits), "crates": len([*tree.glob("crates/*/src")])}
+            "public": len(public), "edits": sum(edits), "crates": len([*tree.glob("crates/*/src")])}

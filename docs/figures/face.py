@@ -2,7 +2,8 @@
 lays them out: each item behind the path by which others have it, with what its source says.
 
 The lists stand in docs/public, so that a change of what others may call is seen where the change is read. What a public line
-names of the crate has to be public too: else nobody could write that name.
+names of the crate has to be public too: else nobody could write that name. Behind what a program gets by the feature `all-parts`
+alone that stands as a comment.
 """
 
 import re
@@ -20,7 +21,7 @@ ATTRIBUTES = r"^((?: *#\[(?:[^\[\]]|\[[^\]]*\])*\]\n)*)"
 HEAD = r"(?:\[[^\]]*\]|[^;{\[])*"
 BODY = r"(?:;|\{(\}|.*?^\}))"
 MODULE = re.compile(ATTRIBUTES + r"(pub )?mod (\w+)(?:;| \{\n(.*?)^\}\n)", re.M | re.S)
-USE = re.compile(r"^(pub )?(?:pub\([\w ]+\) )?use ([^;{]*)(?:\{([^}]*)\})?;", re.M)
+USE = re.compile(ATTRIBUTES + r"(pub )?(?:pub\([\w ]+\) )?use ([^;{]*)(?:\{([^}]*)\})?;", re.M)
 ITEM = re.compile(ATTRIBUTES + rf"(pub )?(?:pub\([\w ]+\) )?((?:const )?(struct|enum|trait|type|fn|const) (\w+){HEAD})" + BODY, re.M | re.S)
 IMPL = re.compile(ATTRIBUTES + rf"(impl\b{HEAD})" + BODY, re.M | re.S)
 # A table of what is shown of types, and a row of it: the generics and the type.
@@ -31,10 +32,15 @@ MEMBERS = {it: re.compile(ATTRIBUTES + "    " + pattern, re.M | re.S) for it, pa
     "struct": r"(pub \w+: [^\n]*),$", "enum": r"(\w(?:[^\n]* \{\n.*?^    \}|[^\n]*)),$",
     "trait": rf"((?:fn|const|type) {HEAD})", "impl": rf"(pub (?:const |async )?(?:fn|const) {HEAD})"}.items()}
 SHOWN = re.compile(r"#\[(?:derive|non_exhaustive|doc\(hidden\)).*\]")
+ALL_PARTS = "all-parts"
 
 
 def is_test(attributes):
     return re.search(r"\bcfg\(.*\btest\b", attributes) is not None
+
+
+def remark(attributes):
+    return f" // {ALL_PARTS}" if ALL_PARTS in attributes else ""
 
 
 class Face:
@@ -42,8 +48,9 @@ class Face:
 
     def __init__(self, crate, top=TOP):
         self.source, self.list, self.faults = top / "rust" / crate / "src", LISTS / f"{crate}.txt", set()
-        # what each module has, by name, and whether that is public; the `impl`s; the public items, and by which paths
-        self.modules, self.impls, self.paths = {}, [], {}
+        # what each module has, by name, whether that is public, and its attributes; the `impl`s; the public items, and by which
+        # paths; and which of them and of the modules are there by default
+        self.modules, self.impls, self.paths, self.by_default = {}, [], {}, set()
         self.read((), text_of(self.source / "lib.rs"))
         self.lines = sorted(set(self.publish((), crate.replace("-", "_"))))
         for (module, name), its in sorted(self.paths.items(), key=lambda it: min(it[1], key=len)):
@@ -56,12 +63,12 @@ class Face:
         names = self.modules[module] = {}
         for attributes, is_public, name, body in MODULE.findall(text):
             if not is_test(attributes):
-                names[name] = ((*module, name), is_public)
+                names[name] = ((*module, name), is_public, attributes)
                 self.read(names[name][0], textwrap.dedent(body) or text_of(self.source.joinpath(*module, f"{name}.rs")))
-        for is_public, path, group in USE.findall(MODULE.sub("", text)):
+        for attributes, is_public, path, group in USE.findall(MODULE.sub("", text)):
             its = [(path + it).removesuffix("::self") for it in re.findall(r"[\w:]+", group)] if group else [path]
-            names.update((it.rpartition("::")[2], (it, is_public)) for it in its)
-        names.update((it[5], (it, it[2])) for it in ITEM.finditer(MODULE.sub("", text)) if not is_test(it[1]))
+            names.update((it.rpartition("::")[2], (it, is_public, attributes)) for it in its)
+        names.update((it[5], (it, it[2], it[1])) for it in ITEM.finditer(MODULE.sub("", text)) if not is_test(it[1]))
         self.impls += [(module, it) for it in IMPL.finditer(MODULE.sub("", text)) if not is_test(it[1])]
 
     def found(self, module, path):
@@ -74,13 +81,15 @@ class Face:
             return module, first
         return self.found(it, rest) if rest and it in self.modules else it
 
-    def publish(self, module, path):
+    def publish(self, module, path, around=""):
         """Tells each public item the paths by which others have it, and yields what isn't an item of the crate."""
-        for name in (it for it, (_, is_public) in self.modules[module].items() if is_public):
-            it = self.found(module, name)
+        for name in (it for it, (_, is_public, _) in self.modules[module].items() if is_public):
+            it, attributes = self.found(module, name), around + self.modules[module][name][2]
+            if it and ALL_PARTS not in attributes:
+                self.by_default.add(it)
             if it in self.modules:
-                yield f"pub mod {path}::{name}"
-                yield from self.publish(it, f"{path}::{name}")
+                yield f"pub mod {path}::{name}{remark(attributes)}"
+                yield from self.publish(it, f"{path}::{name}", attributes)
             elif it:
                 self.paths.setdefault(it, []).append(f"{path}::{name}")
             else:
@@ -98,16 +107,17 @@ class Face:
         attributes, _, head, kind, _, body = self.modules[module][name][0].groups()
         yield from (f"pub use {path} as {it}" for it in others)
         head = head.partition("(")[0] if kind == "struct" else head
+        attributes += "" if (module, name) in self.by_default else ALL_PARTS
         yield self.line(module, "", attributes, "pub " + re.sub(rf"\b{name}\b", path, head, count=1))
         for its in MEMBERS[kind].findall(body or "") if kind in MEMBERS else ():
             yield self.line(module, "    ", *its)
-        impls = [(of, it[2], it[3], *self.ends(of, it[2])) for of, it in self.impls]
-        impls = [it for it in impls if it[4] == (module, name)]
-        yield from sorted({self.line(of, "    ", "", head) for of, head, _, trait, its in impls
+        impls = [(of, *it.groups(), *self.ends(of, it[2])) for of, it in self.impls]
+        impls = [it for it in impls if it[5] == (module, name)]
+        yield from sorted({self.line(of, "    ", attributes, head) for of, attributes, head, _, trait, its in impls
                            if isinstance(trait, str) and trait or trait in self.paths or trait == its})
-        for of, head, body, trait, _ in impls:
+        for of, attributes, head, body, trait, _ in impls:
             calls = [] if trait else MEMBERS["impl"].findall(body or "")
-            yield from [self.line(of, "    ", "", head)] if calls else []
+            yield from [self.line(of, "    ", attributes, head)] if calls else []
             yield from (self.line(of, "        ", *it) for it in calls)
 
     def line(self, module, indent, attributes, head):
@@ -122,4 +132,4 @@ class Face:
             return min(self.paths[it], key=len) if kind in {*TYPES, "type"} and it in self.paths else far
 
         told = re.sub(r"(?<=[(<]) |,? (?=[)>])", "", " ".join(head.split()))
-        return indent + " ".join([*SHOWN.findall(attributes), re.sub(r"(?<![\w:.'])[A-Za-z][\w:]*", written, told)])
+        return indent + " ".join([*SHOWN.findall(attributes), re.sub(r"(?<![\w:.'])[A-Za-z][\w:]*", written, told)]) + remark(attributes)

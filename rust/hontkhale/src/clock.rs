@@ -1,6 +1,5 @@
 //! Instants and durations as ticks.
 
-use crate::shards::parking::TickSource;
 use crate::ticks::LAST_TICK;
 use std::time::{Duration, Instant};
 
@@ -82,7 +81,8 @@ fn rounded_up(length: Duration) -> u64 {
     whole(length.saturating_add(Duration::from_nanos(999_999)))
 }
 
-impl TickSource for Clock {
+#[cfg(feature = "all-parts")]
+impl crate::shards::parking::TickSource for Clock {
     fn now(&mut self) -> u64 {
         self.tick()
     }

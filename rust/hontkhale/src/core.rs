@@ -19,6 +19,7 @@ mod outcomes;
 mod owner;
 mod packed_row;
 mod pieces;
+#[cfg(feature = "all-parts")]
 mod plain;
 mod queue;
 mod readers;
@@ -32,6 +33,7 @@ pub use entries::{Entries, LiveEntry};
 pub use errors::{BadNumber, CoreConfig, CoreError, ReapError};
 pub use fold::Folded;
 pub use outcomes::{Expired, Piece, Removed, Swept, Tally, Turn};
+#[cfg(feature = "all-parts")]
 pub use plain::{Pending, PlainQueue, PlainTurn};
 pub use queue::DelayCore;
 pub use renew::RenewError;

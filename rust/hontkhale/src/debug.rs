@@ -1,9 +1,10 @@
 //! How the types are shown that hold entries: by their numbers, and never by an entry's value.
 
+#[cfg(feature = "all-parts")]
 use crate::checked_wheel::Wheel;
-use crate::core::{
-    DelayCore, Entries, Folded, Held, LiveEntry, Pending, PlainQueue, PlainTurn, Steps, VecWords, Words,
-};
+use crate::core::{DelayCore, Entries, Folded, Held, LiveEntry, Steps, VecWords, Words};
+#[cfg(feature = "all-parts")]
+use crate::core::{Pending, PlainQueue, PlainTurn};
 use crate::refused::Refused;
 use crate::words::{Caller, Keeper, OpenWords};
 use core::fmt::{Debug, Formatter, Result};
@@ -34,12 +35,17 @@ shows! {
     [T] Entries<'_, T> {}
     [T] LiveEntry<'_, T> { .key .deadline }
     [T] Held<T> { .born }
-    [T] Pending<T> { .deadline }
-    [T] PlainQueue<T> { .len() .capacity() .tick() .noted() }
-    [] Wheel { .capacity() .tick() .next_wake() }
     [T, E: Debug] Refused<T, E> { .error }
 }
 
+#[cfg(feature = "all-parts")]
+shows! {
+    [T] Pending<T> { .deadline }
+    [T] PlainQueue<T> { .len() .capacity() .tick() .noted() }
+    [] Wheel { .capacity() .tick() .next_wake() }
+}
+
+#[cfg(feature = "all-parts")]
 impl<T> Debug for PlainTurn<T> {
     fn fmt(&self, f: &mut Formatter<'_>) -> Result {
         match self {
@@ -55,15 +61,10 @@ impl<T> Debug for PlainTurn<T> {
 
 #[cfg(feature = "std")]
 mod with_std {
-    use super::{Debug, Formatter, Result};
-    use crate::apps::{CountedCache, IdleSessions, Name, Seen, TtlCache};
     use crate::core::Words;
     use crate::delay_queue::{DelayQueue, Drain, InsertError, Iter, Timeout, TryIter};
     use crate::directory::{Clerk, Directory};
     use crate::growing::{Cores, Folds, Store};
-    use crate::shards::parking::{MillisecondTicks, Parked, ShardStream, Shards};
-    use crate::shards::{Handle, ShardState, SharedDelayQueue};
-    use std::hash::{BuildHasher, Hash};
 
     shows! {
         [T] DelayQueue<T> { .len() .is_closed() }
@@ -77,16 +78,6 @@ mod with_std {
         [T, W: Words] Cores<T, W> { .count() .next_wake() }
         [W: Words] Folds<W> {}
         [T, W: Words] Store<T, W> {}
-        [T] SharedDelayQueue<T> { .shards() }
-        [T] ShardState<T> { .shard() .len() .capacity() .noted() .next_wake() .parked() }
-        [N: Debug] Parked<N> { .next }
-        [] Handle { .cancels() }
-        [Q: Shards, S, P] ShardStream<'_, Q, S, P> { .place .ended }
-        [] MillisecondTicks {}
-        [K: Eq + Hash, V, S: BuildHasher] TtlCache<K, V, S> { .len() .capacity() .moment() }
-        [K: Eq + Hash, V, S: BuildHasher] CountedCache<K, V, S> { .cache .hits() .misses() }
-        [K, V] Seen<'_, K, V> {}
-        [] IdleSessions { .shards() .idle() }
     }
 
     impl<T, W: Words> Default for Cores<T, W> {
@@ -99,6 +90,28 @@ mod with_std {
         fn default() -> Folds<W> {
             Folds::new()
         }
+    }
+}
+
+#[cfg(all(feature = "std", feature = "all-parts"))]
+mod of_all_parts {
+    use super::{Debug, Formatter, Result};
+    use crate::apps::{CountedCache, IdleSessions, Name, Seen, TtlCache};
+    use crate::shards::parking::{MillisecondTicks, Parked, ShardStream, Shards};
+    use crate::shards::{Handle, ShardState, SharedDelayQueue};
+    use std::hash::{BuildHasher, Hash};
+
+    shows! {
+        [T] SharedDelayQueue<T> { .shards() }
+        [T] ShardState<T> { .shard() .len() .capacity() .noted() .next_wake() .parked() }
+        [N: Debug] Parked<N> { .next }
+        [] Handle { .cancels() }
+        [Q: Shards, S, P] ShardStream<'_, Q, S, P> { .place .ended }
+        [] MillisecondTicks {}
+        [K: Eq + Hash, V, S: BuildHasher] TtlCache<K, V, S> { .len() .capacity() .moment() }
+        [K: Eq + Hash, V, S: BuildHasher] CountedCache<K, V, S> { .cache .hits() .misses() }
+        [K, V] Seen<'_, K, V> {}
+        [] IdleSessions { .shards() .idle() }
     }
 
     impl Default for MillisecondTicks {

@@ -24,7 +24,7 @@ pub use cores::{Cores, TakeError};
 pub use folds::Folds;
 pub use moving::{Moved, NextDeadline};
 pub use sized::SizedStore;
-#[cfg(test)]
+#[cfg(all(test, feature = "all-parts"))]
 pub use sizing::Sizing;
 pub use sizing::CORES;
 pub use store::Store;

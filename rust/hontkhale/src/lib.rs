@@ -31,8 +31,7 @@
 //! A call that is refused says why, by an [`InsertError`], which has the value, a [`KeyError`], a [`TryRecvError`] or a
 //! [`RecvTimeoutError`]. [`iter`] has the iterators.
 //!
-//! [`parts`] has what the queue is made of: the proved queues for one owner, for an embedded program and for shards behind
-//! locks, the timing wheel alone, a cache, sessions and streams.
+//! [`parts`] has what the queue is made of: the proved queues for one owner and for an embedded program.
 //!
 //! # What is proved
 //!
@@ -45,8 +44,11 @@
 //!
 //! # Features
 //!
-//! `std` is on by default. Without it the crate has no std, but alloc, and of the [`parts`] the wheel, the queue of one
-//! owner, and callers.
+//! `std` is on by default. Without it the crate has no std, but alloc, and of the [`parts`] the queue of one owner, and
+//! callers.
+//!
+//! `all-parts` adds the [`parts`] that a [`DelayQueue`] has no use for: the timing wheel alone, and with `std` shards
+//! behind locks, streams, a cache, sessions and the replay of scripts.
 //!
 //! `proved-bounds` turns off the bounds checks that the proofs have made idle, in one module of four functions, which
 //! has the only `unsafe` of the crate. It is sound, since what the proofs require of a caller is required of nobody
@@ -74,6 +76,7 @@
 
 extern crate alloc;
 
+#[cfg(feature = "all-parts")]
 mod checked_wheel;
 #[cfg(feature = "std")]
 mod clock;
@@ -91,7 +94,7 @@ mod memory;
 pub mod parts;
 mod refused;
 
-#[cfg(feature = "std")]
+#[cfg(all(feature = "std", feature = "all-parts"))]
 mod apps;
 #[cfg(feature = "std")]
 mod bell;
@@ -100,11 +103,11 @@ mod core;
 mod directory;
 #[cfg(feature = "std")]
 mod growing;
-#[cfg(feature = "std")]
+#[cfg(all(feature = "std", feature = "all-parts"))]
 mod replay;
-#[cfg(feature = "std")]
+#[cfg(all(feature = "std", feature = "all-parts"))]
 mod shards;
-#[cfg(feature = "std")]
+#[cfg(all(feature = "std", feature = "all-parts"))]
 mod stream;
 mod ticks;
 mod wheels;
@@ -125,7 +128,7 @@ pub mod iter {
 
 // Tests of the proved parts, which keep the shape of the tests in Rattle from which they were erased once
 // and which are written by hand since.
-#[cfg(all(test, feature = "std"))]
+#[cfg(all(test, feature = "std", feature = "all-parts"))]
 #[rustfmt::skip]
 mod tests;
 

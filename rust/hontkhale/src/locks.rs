@@ -3,7 +3,9 @@
 use std::cell::{Cell, RefCell};
 use std::mem::{size_of, ManuallyDrop};
 pub(crate) use std::sync::MutexGuard;
-use std::sync::{PoisonError, TryLockError};
+use std::sync::PoisonError;
+#[cfg(feature = "all-parts")]
+use std::sync::TryLockError;
 
 /// A lock that this thread holds while a program's closure runs.
 #[derive(Clone, Copy)]
@@ -110,6 +112,7 @@ impl<T> Mutex<T> {
     }
 
     /// The value, where no other thread has it now.
+    #[cfg(feature = "all-parts")]
     #[inline]
     pub(crate) fn try_lock(&self) -> Option<MutexGuard<'_, T>> {
         match self.0.try_lock() {

@@ -1,7 +1,7 @@
 //! Memory that may be refused: std's collections by calls that answer so.
 
 use alloc::collections::TryReserveError;
-#[cfg(feature = "std")]
+#[cfg(all(feature = "std", feature = "all-parts"))]
 use alloc::string::String;
 use alloc::vec::Vec;
 use core::fmt;
@@ -40,17 +40,17 @@ pub(crate) fn filled<T: Clone>(item: T, count: usize) -> Result<Vec<T>, AllocErr
 }
 
 /// A copy of a text.
-#[cfg(feature = "std")]
+#[cfg(all(feature = "std", feature = "all-parts"))]
 pub(crate) fn copy_of(text: &str) -> Result<String, AllocError> {
     let mut copy = String::new();
     copy.try_push_str(text)?;
     Ok(copy)
 }
 
-#[cfg(feature = "std")]
+#[cfg(all(feature = "std", feature = "all-parts"))]
 struct Text(String);
 
-#[cfg(feature = "std")]
+#[cfg(all(feature = "std", feature = "all-parts"))]
 impl fmt::Write for Text {
     fn write_str(&mut self, piece: &str) -> fmt::Result {
         self.0.try_push_str(piece).map_err(|_| fmt::Error)
@@ -58,7 +58,7 @@ impl fmt::Write for Text {
 }
 
 /// The text that a format gives. What is formatted here fails for want of memory alone.
-#[cfg(feature = "std")]
+#[cfg(all(feature = "std", feature = "all-parts"))]
 pub(crate) fn text_of(what: fmt::Arguments<'_>) -> Result<String, AllocError> {
     let mut text = Text(String::new());
     fmt::write(&mut text, what).map_err(|_| AllocError)?;
@@ -80,13 +80,13 @@ impl<T> TryPush<T> for Vec<T> {
 }
 
 /// A text's growth that may be refused.
-#[cfg(feature = "std")]
+#[cfg(all(feature = "std", feature = "all-parts"))]
 pub(crate) trait TryPushStr {
     /// Puts a text at the end.
     fn try_push_str(&mut self, text: &str) -> Result<(), AllocError>;
 }
 
-#[cfg(feature = "std")]
+#[cfg(all(feature = "std", feature = "all-parts"))]
 impl TryPushStr for String {
     fn try_push_str(&mut self, text: &str) -> Result<(), AllocError> {
         self.try_reserve(text.len())?;

@@ -10,11 +10,16 @@
 //! |---|---|---|
 //! | one owner | [`DelayCore`](owner::DelayCore), made by [`with_capacity`](owner::DelayCore::with_capacity) | [`owner`] |
 //! | one owner, whose entries any thread extends and cancels | [`shared_queue`](owner::shared_queue), with a [`Caller`](owner::Caller) for each thread, or [`OpenWords`](owner::OpenWords) | [`owner`] |
-//! | many threads, shards behind locks | [`SharedDelayQueue`](shards::SharedDelayQueue), with a [`Handle`](shards::Handle) for each thread | [`shards`] |
-//! | whoever keeps values by indexes | [`Wheel`](wheel::Wheel), the timing wheel alone | [`wheel`] |
-//! | tasks that wait for a shard | [`ExpiredStream`](streams::ExpiredStream) | [`streams`] |
-//! | a cache; sessions that time out | [`TtlCache`](cache::TtlCache), [`CountedCache`](cache::CountedCache); [`IdleSessions`](sessions::IdleSessions) | [`cache`], [`sessions`] |
-//! | a script of delays, from bytes to bytes | [`run`](replay::run) | [`replay`] |
+//!
+//! With the feature `all-parts` there are these too; the last four ask for `std` as well:
+//!
+//! | Who has it | Type | Module |
+//! |---|---|---|
+//! | whoever keeps values by indexes | `Wheel`, the timing wheel alone | `wheel` |
+//! | many threads, shards behind locks | `SharedDelayQueue`, with a `Handle` for each thread | `shards` |
+//! | tasks that wait for a shard | `ExpiredStream` | `streams` |
+//! | a cache; sessions that time out | `TtlCache`, `CountedCache`; `IdleSessions` | `cache`, `sessions` |
+//! | a script of delays, from bytes to bytes | `run` | `replay` |
 //!
 //! A stream has a call `poll_next` of its own, since the crate depends on no other;
 //! `futures::stream::poll_fn(|cx| stream.poll_next(cx))` makes a `Stream` of it.
@@ -29,6 +34,7 @@ pub use crate::clock::Clock;
 pub use crate::memory::AllocError;
 pub use crate::refused::Refused;
 
+#[cfg(feature = "all-parts")]
 pub mod wheel {
     //! The timing wheel alone, for whoever keeps values by indexes.
 
@@ -40,20 +46,22 @@ pub mod wheel {
 pub mod owner {
     //! The queue of one owner, alone or with callers that extend and cancel its entries from other threads; or over
     //! [`OpenWords`], by which any thread does so with no caller.
-    //!
-    //! Its keys, entries and errors are those of [`shards`](crate::parts::shards) too.
 
     pub use crate::core::{
-        BadNumber, CallError, CoreConfig, CoreError, DelayCore, Entries, Expired, Folded, LiveEntry, Look, Pending,
-        Piece, PlainQueue, PlainTurn, ReapError, Removed, RenewError, SharedWords, Swept, Tally, Turn, VecWords, Words,
+        BadNumber, CallError, CoreConfig, CoreError, DelayCore, Entries, Expired, Folded, LiveEntry, Look, Piece,
+        ReapError, Removed, RenewError, SharedWords, Swept, Tally, Turn, VecWords, Words,
     };
-    pub use crate::ticks::{is_same_entry, is_same_key, EntryId, Key, CAPACITY_LIMIT, LAST_STAMP, LAST_TICK};
-    #[cfg(feature = "std")]
+    #[cfg(feature = "all-parts")]
+    pub use crate::core::{Pending, PlainQueue, PlainTurn};
+    #[cfg(feature = "all-parts")]
+    pub use crate::ticks::{is_same_entry, is_same_key};
+    pub use crate::ticks::{EntryId, Key, CAPACITY_LIMIT, LAST_STAMP, LAST_TICK};
+    #[cfg(all(feature = "std", feature = "all-parts"))]
     pub use crate::words::ManyTurn;
     pub use crate::words::{numbered_queue, shared_queue, Caller, Keeper, OpenWords, WordsError, HANDLE_LIMIT};
 }
 
-#[cfg(feature = "std")]
+#[cfg(all(feature = "std", feature = "all-parts"))]
 pub mod shards {
     //! Delay queues behind locks, one a shard, whose entries are extended and cancelled without them.
 
@@ -63,7 +71,7 @@ pub mod shards {
     };
 }
 
-#[cfg(feature = "std")]
+#[cfg(all(feature = "std", feature = "all-parts"))]
 pub mod streams {
     //! Streams of the entries that expire in a shard, for a task. No other crate's queue has a [`ShardStream`]: the bound
     //! [`Shards`] is that of [`SharedDelayQueue`](crate::parts::shards::SharedDelayQueue) alone.
@@ -74,21 +82,21 @@ pub mod streams {
     };
 }
 
-#[cfg(feature = "std")]
+#[cfg(all(feature = "std", feature = "all-parts"))]
 pub mod cache {
     //! Values that are kept under a key until their deadline.
 
     pub use crate::apps::{CountedCache, MemoAnswer, PutAnswer, Seen, TtlCache};
 }
 
-#[cfg(feature = "std")]
+#[cfg(all(feature = "std", feature = "all-parts"))]
 pub mod sessions {
     //! Sessions that end once nobody has touched them for a time.
 
     pub use crate::apps::{IdleSessions, Name};
 }
 
-#[cfg(feature = "std")]
+#[cfg(all(feature = "std", feature = "all-parts"))]
 pub mod replay {
     //! The replay of a script of delays, from bytes to bytes: what is written is a function of the bytes that are read.
 

@@ -13,19 +13,18 @@ use core::fmt;
 #[cfg_attr(feature = "std", doc = "```")]
 #[cfg_attr(not(feature = "std"), doc = "```ignore")]
 /// use hontkhale::parts::Refused;
-/// use hontkhale::parts::owner::Key;
-/// use hontkhale::parts::shards::{QueueConfig, QueueError, SharedDelayQueue};
+/// use hontkhale::parts::owner::{DelayCore, Key, VecWords};
 ///
-/// type Jobs = SharedDelayQueue<String>;
+/// type Jobs = DelayCore<String, VecWords>;
 ///
-/// fn retry(jobs: &Jobs, job: String) -> Result<Key, Refused<String, QueueError>> {
-///     Ok(jobs.insert(0, job, 30_000)?)
+/// fn retry(jobs: &mut Jobs, job: String) -> Result<Key, Refused<String>> {
+///     Ok(jobs.insert(job, 30_000)?)
 /// }
 ///
 /// fn main() -> Result<(), Box<dyn std::error::Error>> {
-///     let jobs = Jobs::new(QueueConfig::of(1, 1))?;
-///     jobs.insert(0, "mail".to_string(), 30_000).map_err(Refused::from)?;
-///     let refused = retry(&jobs, "backup".to_string()).unwrap_err();
+///     let mut jobs = Jobs::with_capacity(1)?;
+///     jobs.insert("mail".to_string(), 30_000).map_err(Refused::from)?;
+///     let refused = retry(&mut jobs, "backup".to_string()).unwrap_err();
 ///     assert_eq!(refused.to_string(), "the queue is full: 1 entries are linked and 0 slots are worn");
 ///     assert_eq!(refused.value, "backup");
 ///     Ok(())

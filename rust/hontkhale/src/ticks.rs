@@ -20,10 +20,12 @@ mod digits;
 mod keys;
 mod words;
 
-#[cfg(all(test, feature = "std"))]
+#[cfg(all(test, feature = "std", feature = "all-parts"))]
 pub use digits::span;
 pub use digits::{digit, level_of, slot_start};
-pub use keys::{is_same_entry, is_same_key, EntryId, Key};
+#[cfg(feature = "all-parts")]
+pub use keys::{is_same_entry, is_same_key};
+pub use keys::{EntryId, Key};
 pub use words::{field, is_live, live_at, pack, stamp, unpack, Mark, Parts};
 
 /// The levels of a wheel, one for each base-64 digit of a lap.

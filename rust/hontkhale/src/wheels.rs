@@ -28,7 +28,9 @@ pub(crate) mod row;
 mod wheel;
 
 pub use beside::Beside;
-pub use wheel::{Place, Wheel, WheelError};
+#[cfg(feature = "all-parts")]
+pub use wheel::WheelError;
+pub use wheel::{Place, Wheel};
 
 /// The lists of a wheel, one for each slot of each level: list `64 * level + slot`.
 pub const LISTS: usize = 384;

@@ -8,12 +8,12 @@
 mod caller;
 mod front;
 mod keeper;
-#[cfg(feature = "std")]
+#[cfg(all(feature = "std", feature = "all-parts"))]
 mod many;
 mod open;
 mod parts;
 mod seated;
-#[cfg(feature = "std")]
+#[cfg(all(feature = "std", feature = "all-parts"))]
 mod shards;
 pub(crate) mod table;
 mod tries;
@@ -21,8 +21,8 @@ mod tries;
 pub use caller::Caller;
 pub use front::{numbered_queue, shared_queue};
 pub use keeper::{Keeper, WordsError, HANDLE_LIMIT};
-#[cfg(feature = "std")]
+#[cfg(all(feature = "std", feature = "all-parts"))]
 pub use many::{poll_into, ManyTurn};
 pub use seated::OpenWords;
-#[cfg(feature = "std")]
+#[cfg(all(feature = "std", feature = "all-parts"))]
 pub use shards::locked_shards;

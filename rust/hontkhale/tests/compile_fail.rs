@@ -273,12 +273,8 @@ fn is_taken(room: &Path, program: &Program) {
 fn what_is_proved_of_its_arguments_is_out_of_reach() {
     let room = room();
     let library = Path::new(env!("CARGO_MANIFEST_DIR")).join("src/lib.rs");
-    let built = rustc(
-        &room,
-        "hontkhale",
-        &library,
-        &["--cfg".into(), "feature=\"std\"".into()],
-    );
+    let features = ["std", "all-parts"].map(|it| ["--cfg".into(), format!("feature=\"{it}\"").into()]);
+    let built = rustc(&room, "hontkhale", &library, &features.concat());
     assert!(built.status.success(), "{}", told(&built));
     let fronts: BTreeMap<&str, &Program> = PROGRAMS.iter().map(|program| (program.front, program)).collect();
     fronts.values().for_each(|program| is_taken(&room, program));

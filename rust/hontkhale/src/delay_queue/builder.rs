@@ -9,7 +9,6 @@ use crate::delay_queue::waking::Waiting;
 use crate::delay_queue::DelayQueue;
 use crate::directory::Clerk;
 use crate::locks::Mutex;
-use crate::shards::SHARD_LIMIT;
 use crate::ticks::LAST_STAMP;
 use std::alloc::{handle_alloc_error, Layout};
 use std::marker::PhantomData;
@@ -62,7 +61,7 @@ impl<T> Builder<T> {
     /// for another number. With 1 all threads use one shard. Without this call they are as many as the machine runs threads, 2 to
     /// 16.
     pub fn shards(mut self, shards: usize) -> Builder<T> {
-        self.shards = shards.clamp(1, SHARD_LIMIT);
+        self.shards = shards.clamp(1, 64);
         self
     }
 

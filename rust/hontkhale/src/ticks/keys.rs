@@ -55,6 +55,7 @@ impl EntryId {
 /// Whether two entries are one: the same shard, the same index there and the same birth. The derived `==` says the
 /// same.
 #[inline]
+#[cfg(feature = "all-parts")]
 pub fn is_same_entry(one: EntryId, other: EntryId) -> bool {
     one.place == other.place && one.born == other.born
 }
@@ -117,6 +118,7 @@ impl Key {
 
 /// Whether two keys are one: the same entry, meant at the same stamp. The derived `==` says the same.
 #[inline]
+#[cfg(feature = "all-parts")]
 pub fn is_same_key(one: Key, other: Key) -> bool {
     one.place == other.place && one.stamps == other.stamps
 }

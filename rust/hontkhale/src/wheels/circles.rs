@@ -105,6 +105,7 @@ impl Circles {
     }
 
     /// How often an index moved.
+    #[cfg(feature = "all-parts")]
     pub fn moves(&self, index: usize) -> u8 {
         // requires index < length self.now.homes
         row_at(&self.rows, index).moves

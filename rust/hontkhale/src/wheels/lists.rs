@@ -1,6 +1,5 @@
 //! The lists of six levels, of which one is the due list, with occupancy maps.
 
-use crate::index::nth;
 use crate::memory::AllocError;
 use crate::ticks::{LEVELS, SLOTS};
 use crate::wheels::beside::Beside;
@@ -40,6 +39,7 @@ impl Lists {
     }
 
     /// The number of indexes.
+    #[cfg(feature = "all-parts")]
     pub fn capacity(&self) -> usize {
         self.circles.capacity()
     }
@@ -57,6 +57,7 @@ impl Lists {
     }
 
     /// How often an index moved.
+    #[cfg(feature = "all-parts")]
     pub fn moves(&self, index: usize) -> u8 {
         // requires index < length self.now.homes
         self.circles.moves(index)
@@ -90,12 +91,13 @@ impl Lists {
     }
 
     /// The occupancy map of a level, in which a list shows as empty.
+    #[cfg(feature = "all-parts")]
     pub fn map_without(&self, level: usize, list: usize) -> u64 {
         // requires level < LEVELS
         // requires list < LISTS
         let mut maps = self.maps;
         clear_bit(&mut maps, list);
-        *nth(&maps, level)
+        *crate::index::nth::<u64>(&maps, level)
     }
 
     /// The filled list of the lowest level that has one, there the first after the own one.

@@ -114,6 +114,7 @@ impl Wheel {
     }
 
     /// The number of indexes.
+    #[cfg(feature = "all-parts")]
     pub fn capacity(&self) -> usize {
         self.lists.capacity()
     }
@@ -136,12 +137,14 @@ impl Wheel {
     }
 
     /// The occupancy map of a level: bit k is 1 exactly where its slot k isn't empty.
+    #[cfg(feature = "all-parts")]
     pub fn occupancy(&self, level: usize) -> u64 {
         // requires level < LEVELS
         self.lists.map_without(level, due_list(self.tick))
     }
 
     /// How often an index went from a level to a lower one since it was linked.
+    #[cfg(feature = "all-parts")]
     pub fn moves(&self, index: usize) -> u8 {
         // requires index < length self.now.filing.filed
         self.lists.moves(index)

@@ -123,14 +123,14 @@ enum Made {
     Step,
 }
 
-#[cfg(not(all(test, feature = "std")))]
+#[cfg(not(all(test, feature = "std", feature = "all-parts")))]
 #[inline(always)]
 fn made(_: Made) {}
 
-#[cfg(all(test, feature = "std"))]
+#[cfg(all(test, feature = "std", feature = "all-parts"))]
 use counted::made;
 
-#[cfg(all(test, feature = "std"))]
+#[cfg(all(test, feature = "std", feature = "all-parts"))]
 pub(crate) mod counted {
     use super::Made;
     use std::cell::Cell;
