@@ -38,7 +38,7 @@ pub use plain::{Pending, PlainQueue, PlainTurn};
 pub use queue::DelayCore;
 pub use renew::RenewError;
 pub use slots::Held;
-#[cfg(all(test, feature = "std"))]
+#[cfg(all(test, feature = "std", feature = "all-parts"))]
 pub use slots::Slots;
 pub use vec_words::VecWords;
 pub(crate) use words::Steps;

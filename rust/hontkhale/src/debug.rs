@@ -7,7 +7,9 @@ use crate::core::{DelayCore, Entries, Folded, Held, LiveEntry, Steps, VecWords, 
 use crate::core::{Pending, PlainQueue, PlainTurn};
 use crate::refused::Refused;
 use crate::words::{Caller, Keeper, OpenWords};
-use core::fmt::{Debug, Formatter, Result};
+use core::fmt::Debug;
+#[cfg(feature = "all-parts")]
+use core::fmt::{Formatter, Result};
 
 /// A `Debug` for each row: `[its generics] its type { .a_call() .a_field }`, whose calls and fields are shown.
 macro_rules! shows {
