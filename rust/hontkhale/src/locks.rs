@@ -8,18 +8,23 @@ use std::sync::PoisonError;
 use std::sync::TryLockError;
 
 /// A lock that this thread holds while a program's closure runs.
-#[derive(Clone, Copy)]
+#[derive(Clone, Copy, PartialEq, Eq)]
 struct Lent {
-    /// The address of what lies behind the lock.
+    /// The address of what lies behind the lock, 0 where no closure runs.
     address: usize,
     /// What tells the queue of the lock from others.
     queue: usize,
 }
 
+impl Lent {
+    // Each lock asks for it: by an `Option` an insert takes a few instructions more.
+    const NOTHING: Lent = Lent { address: 0, queue: 0 };
+}
+
 // They have no destructors, so that those of a thread's other values may call a queue.
 thread_local! {
-    /// That of the innermost closure, none where no closure runs.
-    static INNERMOST: Cell<Option<Lent>> = const { Cell::new(None) };
+    /// That of the innermost closure.
+    static INNERMOST: Cell<Lent> = const { Cell::new(Lent::NOTHING) };
     /// Those of the closures around it.
     static AROUND: ManuallyDrop<RefCell<Vec<Lent>>> = const { ManuallyDrop::new(RefCell::new(Vec::new())) };
 }
@@ -27,18 +32,18 @@ thread_local! {
 /// Calls a program's closure with what lies behind a lock of a queue that this thread holds. If the closure waits for the lock, it
 /// panics in the place of waiting for ever.
 pub(crate) fn with_lock<S, R>(lent: &mut S, queue: usize, call: impl FnOnce(&mut S) -> R) -> R {
-    struct Back(Option<Lent>);
+    struct Back(Lent);
     impl Drop for Back {
         fn drop(&mut self) {
-            INNERMOST.set(self.0);
-            if self.0.is_some() {
+            INNERMOST.with(|innermost| innermost.set(self.0));
+            if self.0 != Lent::NOTHING {
                 leave_around();
             }
         }
     }
     let address = lent as *mut S as usize;
-    let around = INNERMOST.replace(Some(Lent { address, queue }));
-    if let Some(around) = around {
+    let around = INNERMOST.with(|innermost| innermost.replace(Lent { address, queue }));
+    if around != Lent::NOTHING {
         AROUND.with(|all| all.borrow_mut().push(around));
     }
     let _back = Back(around);
@@ -59,8 +64,8 @@ fn leave_around() {
 
 /// Whether this thread runs a closure under a lock of which that is so.
 fn is_lent(is_so: impl Fn(&Lent) -> bool) -> bool {
-    let innermost = INNERMOST.get();
-    innermost.is_some_and(|innermost| is_so(&innermost) || AROUND.with(|around| around.borrow().iter().any(is_so)))
+    let innermost = INNERMOST.with(Cell::get);
+    innermost != Lent::NOTHING && (is_so(&innermost) || AROUND.with(|around| around.borrow().iter().any(is_so)))
 }
 
 /// Whether this thread runs a closure under a lock of a queue.

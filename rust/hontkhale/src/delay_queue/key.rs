@@ -171,7 +171,12 @@ impl Common {
     #[inline(always)]
     pub fn step(&self, key: &Key, step: Step, slowly: impl FnOnce() -> Made, note_end: impl FnOnce()) -> Made {
         // Taken apart here, it comes in registers.
-        let deadline = self.quick_step(key, step).unwrap_or_else(slowly)?;
+        // An extend takes a few instructions more by `unwrap_or_else`.
+        let deadline = match self.quick_step(key, step) {
+            Some(Ok(deadline)) => deadline,
+            Some(Err(error)) => return Err(error),
+            None => slowly()?,
+        };
         if matches!(step, Step::Cancel) {
             self.seen[key.shard()].cancels.fetch_add(1, SeqCst);
             self.uncount(1);
