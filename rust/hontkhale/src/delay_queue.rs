@@ -546,9 +546,9 @@ impl<T> DelayQueue<T> {
 
     /// Takes an entry out that is due now. It takes the locks of those shards alone in which something may be due.
     ///
-    /// It never takes long: a call goes over some 2,000 entries at most that don't come out, since they were cancelled or have a
-    /// later deadline, or drops as many values, and then returns `Empty`. The next call goes on there.
-    /// [`try_iter`](DelayQueue::try_iter) goes on until nothing is due.
+    /// A call ends though something may be due behind many entries that don't come out: it goes over 2,048 cancelled ones at most,
+    /// or drops as many values, and over some thousands that have a later deadline. Then it returns `Empty`, and the next call goes
+    /// on there. [`try_iter`](DelayQueue::try_iter) goes on until nothing is due.
     ///
     /// # Errors
     /// - `Empty` if nothing that is due by now was found.

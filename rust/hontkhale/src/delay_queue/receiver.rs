@@ -155,8 +155,8 @@ impl<T> Receiver<T> {
     /// what comes sooner than it waits for, and once the receiver ends. The caller polls again at
     /// [`wake_at`](Receiver::wake_at), too: the queue has no timer. A first one that isn't polled then is passed over after a
     /// moment.
-    /// A poll goes over some 1,000 entries at most that don't come out, and drops as many values; where more is to do it is
-    /// pending, and wakes its task at once.
+    /// A poll goes over 1,024 entries at most that don't come out, and drops as many values; where more is to do it is pending, and
+    /// wakes its task at once.
     ///
     /// The values of cancelled entries are dropped here, before something is in hand, and while no lock is held.
     pub fn poll_recv(&mut self, cx: &mut Context<'_>) -> Poll<Option<Expired<T>>> {
