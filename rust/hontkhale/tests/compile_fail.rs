@@ -47,7 +47,7 @@ const PROGRAMS: &[Program] = &[
     Program {
         name: "slots_of_core",
         front: "",
-        last: "use hontkhale::core::Slots;",
+        last: "use hontkhale::core::slots::Slots;",
         reason: PRIVATE,
     },
     Program {
