@@ -17,12 +17,13 @@ use Rattle.dq_core.specs.Machine.{NoneLinked}
 use Rattle.dq_core.specs.Readers.{TellsLeast}
 use Rattle.dq_ticks.specs.declared.keys.Key.{Key}
 use Rattle.dq_core.specs.declared.outcomes.Swept.{Swept}
+use Rattle.dq_growing.specs.declared.sizing.Sizing.{Sizing}
 use Rattle.dq_growing.specs.declared.sweeping.Sweep.{Sweep}
 use Rattle.dq_growing.specs.Cores.{CoreRow, AreCores, HasNo, IsCoreAt, OnCoreAt, SweepsFrom, GivesDrained, TakesIn, opened_without}
 use Rattle.dq_growing.specs.declared.sizing.Room.{Room}
 use Rattle.dq_growing.specs.Notes.{Book}
 use Rattle.dq_growing.specs.Moving.{HasOpenRoom}
-use Rattle.dq_growing.specs.Sizing.{AllWere, ComesInto, KeepsTick, GoesOnBehind, TakesOff, WayGoesOn, slots_at, slots_in, way_for, HasClearAt, HasNoneToOpen, IsNearlyDrained, IsRoomAt, IsRoomier, IsRoomiest, NoStraggler, OnlyOpens, OpensIf, OpensWanted, StaysOpen, SweepsNext, TellsStraggler, WasBeside, clear_slots, MayOpen, OpensOne}
+use Rattle.dq_growing.specs.Sizing.{AllWere, ComesInto, KeepsTick, GoesOnBehind, TakesOff, WayGoesOn, slots_at, slots_in, way_for, with_work, FoundElsewhere, NotesWorkIf, HasClearAt, HasNoneToOpen, IsNearlyDrained, IsRoomAt, IsRoomier, IsRoomiest, NoStraggler, OnlyOpens, OpensIf, OpensWanted, StaysOpen, SweepsNext, TellsStraggler, WasBeside, clear_slots, MayOpen, OpensOne}
 use Rattle.dq_growing.specs.Stands.{HasEntry, IsThere, SameStand}
 use Rattle.dq_growing.specs.Store.{StoreState, StandsFor, TellsFirstIn, entry_told}
 use Rattle.dq_growing.proofs.Leasts.{some_not_none}
@@ -222,6 +223,24 @@ module _ {T W : Type 0} where
   pub opens_or_stays : (o : Bool) (s t : StoreState T W) (any : Bool) → (o ≡ true → OpensOne any t.cores) → (o ≡ false → t ≡ s) → (t ≡ s) ⊎ OpensOne any t.cores
   opens_or_stays true s t any may kept = inr (may refl)
   opens_or_stays false s t any may kept = inl (kept refl)
+
+  pub opened_notes : (s t : StoreState T W) (k : CoreRow T W) (o any : Bool) (r : Room) (z : Sizing)
+      → (o ≡ false → (length s.cores.cores ≤ r.place) × (t.cores ≡ s.cores))
+      → k ≡ s.cores → IsRoomiest k (length k.cores) any r → 0 < r.free → NotesWorkIf (o ≡ true) z (with_work z)
+  opened_notes s t k true any r z refused same most some = inl (refl, refl)
+  opened_notes s t k false any r z refused same most some =
+      let Q : CoreRow T W → Type 0 = λ x. IsRoomAt x any r in
+      let here = subst Q same (most.some some) in
+      let inside = here.1.0 in
+      let past = (refused refl).0 in
+      absurd (omega (arith, inside, past))
+
+  pub notes_elsewhere : (s : CoreRow T W) (o : Bool) (z y : Sizing) → ¬ HasClearAt s s.opened → NotesWorkIf (o ≡ true) z y → NotesWorkIf (FoundElsewhere o s) z y
+  notes_elsewhere s o z y full notes =
+      ⊎_elim
+      (λ (w : (o ≡ true) × (y ≡ with_work z)). inl ((w.0, full), w.1))
+      (λ (w : (¬ (o ≡ true)) × (y ≡ z)). inr ((λ x. w.0 x.0), w.1))
+      notes
 
   pub opens_found : (s t : StoreState T W) (k : CoreRow T W) (o any : Bool) (r : Room)
       → (o ≡ false → (length s.cores.cores ≤ r.place) × (t.cores ≡ s.cores))

@@ -38,11 +38,30 @@ abbrev pub TakesOff : Sweep → Option ℕ → ℕ → Sweep → Type 0
 TakesOff w next capacity v =
     (v.left ≡ w.left - max (end_of next capacity - w.slot) 1) × (v.cancels ≡ w.cancels)
 
+-- what is known of the size of a store of no cores, whose smallest one is to have so many slots: no
+-- memory is kept for good, there is nothing to do, and no slot is on the way
+abbrev pub fresh_sizing : ℕ → Sizing
+fresh_sizing least = record {
+  least = least;
+  kept = 0;
+  has_work = false;
+  quiet_since = 0;
+  sweep = record { place = 0; slot = 0; cancels = 0; left = 0 };
+}
+
+-- a core that is made may have so many slots
+abbrev pub MayHaveSlots : Sizing → ℕ → Type 0
+MayHaveSlots z n = (1 ≤ n) × (min z.least CAPACITY_LIMIT ≤ n) × (n ≤ CAPACITY_LIMIT)
+
 -- it is noted that there may be something to do, and that there is no quiet
 abbrev pub with_work : Sizing → Sizing
 with_work z = record z { has_work = true; quiet_since = NEVER }
 
--- so, or no more than that there is no quiet, or nothing
+-- so exactly if something is the case; else all stays
+abbrev pub NotesWorkIf : Type 0 → Sizing → Sizing → Type 0
+NotesWorkIf P z y = (P × (y ≡ with_work z)) ⊎ ((¬ P) × (y ≡ z))
+
+-- work is noted, or no more than that there is no quiet, or nothing
 abbrev pub MayNoteWork : Sizing → Sizing → Type 0
 MayNoteWork z y = (y ≡ with_work z) ⊎ (y ≡ record z { quiet_since = NEVER }) ⊎ (y ≡ z)
 
@@ -101,14 +120,19 @@ module _ {T W : Type 0} where
   abbrev pub HasNoRoom : Bool → CoreRow T W → Type 0
   HasNoRoom any s = (¬ HasClearAt s s.opened) × HasNoneToOpen any s
 
+  -- a slot was found for an insert, and none was free in the open core
+  abbrev pub FoundElsewhere : Bool → CoreRow T W → Type 0
+  FoundElsewhere found s = (found ≡ true) × (¬ HasClearAt s s.opened)
+
   -- no more changes than which core is open
   abbrev pub OnlyOpens : StoreState T W → StoreState T W → Type 0
   OnlyOpens s t =
       ((place : ℕ) × (t.cores ≡ record s.cores { opened = place })) × (t.notes ≡ s.notes)
 
-  -- one core more may be made, of so many slots
-  abbrev pub MayMake : StoreState T W → ℕ → Type 0
-  MayMake s n = (length s.cores.cores < CORES) × (n ≤ CAPACITY_LIMIT)
+  -- one core more may be made, of so many slots: one at least, and no fewer than the smallest core is
+  -- to have, as far as a core can have so many
+  abbrev pub MayMake : Sizing → StoreState T W → ℕ → Type 0
+  MayMake z s n = (length s.cores.cores < CORES) × MayHaveSlots z n
 
   -- a core that may come in is the last one from now on, and the others stay; the number above each and
   -- the noted tick rise no further than to the core's own

@@ -14,7 +14,7 @@ ghost use Rattle.dq_growing.specs.Notes.{HasNoteRoom, SameNotes, user_at};
 ghost use Rattle.dq_growing.specs.Polls.{DoesPoll, DoesPiece, IfPieceOut, IfPieceRests, NoneLiveIn, TakesDeferredIn};
 ghost use Rattle.dq_growing.specs.Runs.{GivesId, HoldsDeadlines, HoldsOtherDeadlines, KeepsIds, KeepsIdsBeside, KeepsItsDeadline, LeavesInForce, NotDueBefore};
 ghost use Rattle.dq_growing.specs.Sized.{hint_after, hint_asked, KeepsHint, NotesNext};
-ghost use Rattle.dq_growing.specs.Sizing.{anew, way_for, with_work, AllWere, ComesInto, HasClearAt, HasNoRoom, KeepsTick, MayNoteWork, OnlyOpens, OpensOne, OpensWanted, StaysOpen, SweepsNext, TellsQuiet, WasBeside};
+ghost use Rattle.dq_growing.specs.Sizing.{anew, fresh_sizing, way_for, with_work, AllWere, ComesInto, FoundElsewhere, HasClearAt, HasNoRoom, KeepsTick, MayNoteWork, NotesWorkIf, OnlyOpens, OpensOne, OpensWanted, StaysOpen, SweepsNext, TellsQuiet, WasBeside};
 ghost use Rattle.dq_growing.specs.Stands.{KeepsWords, OneLeaves, SameStand};
 ghost use Rattle.dq_growing.specs.Store.{ChangesFor, ChangesThere, ComesFor, GoesOnFor, GoesOut, HasBegunFor, HasOneValue, IsStore, KeysAreApart, PollsFor, ReapsFor, RelocatesFor, RemovesFor, RemovesIfDueFor, ResetsFor, ResetsThere, StandsFor, TakeRefusedFor, TellsFor};
 
@@ -124,8 +124,7 @@ impl<T, W: Words + Drop, A: Allocator + Clone> SizedStore<T, W, A> {
 
         // Each entry keeps the id that it has.
         ensures own { IfOk result (λ s. (id : EntryName) → user_at s.store.notes id ≡ id) }
-        ensures sizing { IfOk result
-            (λ s. (s.sizing.has_work ≡ false) × (s.sizing.quiet_since ≡ 0)) }
+        ensures sizing { IfOk result (λ s. s.sizing ≡ fresh_sizing least) }
         ensures hint { IfOk result (λ s. s.hint ≡ NEVER) }
     {
         let notes = Notes::new(alloc.clone()?)?;
@@ -465,7 +464,8 @@ impl<T, W: Words, A: Allocator + Clone> SizedStore<T, W, A> {
         ensures opens { OnlyOpens self.old.store self.new.store }
         ensures keeps { KeepsIds self.old.store self.new.store }
         ensures holds { HoldsDeadlines self.old.store self.new.store }
-        ensures notes { MayNoteWork self.old.sizing self.new.sizing }
+        ensures notes { NotesWorkIf (FoundElsewhere result self.old.store.cores)
+            self.old.sizing self.new.sizing }
         ensures hint { self.new.hint ≡ self.old.hint }
     {
         self.sizing.finds_room(&mut self.store, any_will_do)

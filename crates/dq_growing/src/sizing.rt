@@ -14,7 +14,7 @@ ghost use Rattle.dq_core.specs.Folds.{IsFoldable};
 ghost use Rattle.dq_growing.specs.Cores.{HasNo};
 ghost use Rattle.dq_growing.specs.Moving.{HasOpenRoom};
 ghost use Rattle.dq_growing.specs.Runs.{HoldsDeadlines, KeepsIds, KeepsIdsBeside};
-ghost use Rattle.dq_growing.specs.Sizing.{anew, clear_slots, slots_in, with_work, HasNoWork, MayNoteWork, HasClearAt, IsRoomier, IsRoomiest, HasNoneToOpen, HasNoRoom, OnlyOpens, ComesInto, KeepsTick, OpensIf, OpensWanted, StaysOpen, WasBeside, AllWere, IsNearlyDrained, TellsStraggler, IsStraggler, NoStraggler, MayMake, MayOpen, OpensOne};
+ghost use Rattle.dq_growing.specs.Sizing.{anew, clear_slots, slots_in, fresh_sizing, with_work, FoundElsewhere, HasNoWork, MayHaveSlots, MayNoteWork, NotesWorkIf, HasClearAt, IsRoomier, IsRoomiest, HasNoneToOpen, HasNoRoom, OnlyOpens, ComesInto, KeepsTick, OpensIf, OpensWanted, StaysOpen, WasBeside, AllWere, IsNearlyDrained, TellsStraggler, IsStraggler, NoStraggler, MayMake, MayOpen, OpensOne};
 ghost use Rattle.dq_growing.specs.declared.TheConstants.{NEVER};
 ghost use Rattle.dq_growing.specs.declared.sizing.TheConstants.{CORES};
 ghost use Rattle.dq_ticks.specs.declared.TheConstants.{CAPACITY_LIMIT};
@@ -214,7 +214,7 @@ impl Sizing {
     /// Keeps stores whose smallest core has so many slots.
     pub const fn new(least: usize) -> Sizing
         // There is nothing to do in an empty store.
-        ensures { (result.has_work ≡ false) × (result.quiet_since ≡ 0) }
+        ensures { result ≡ fresh_sizing least }
     {
         Sizing {
             least,
@@ -277,7 +277,9 @@ impl Sizing {
         // No id is given anew, and no deadline falls.
         ensures keeps { KeepsIds store.old store.new }
         ensures holds { HoldsDeadlines store.old store.new }
-        ensures notes { MayNoteWork self.old self.new }
+
+        // Work is noted exactly if another core is open.
+        ensures notes { NotesWorkIf (FoundElsewhere result store.old.cores) self.old self.new }
     {
         if has_open_room(store.cores()) {
             return true;
@@ -298,7 +300,7 @@ impl Sizing {
         ensures opens { OnlyOpens store.old store.new }
         ensures keeps { KeepsIds store.old store.new }
         ensures holds { HoldsDeadlines store.old store.new }
-        ensures notes { MayNoteWork self.old self.new }
+        ensures notes { NotesWorkIf (result ≡ true) self.old self.new }
     {
         let room = roomiest(store.cores(), any_will_do);
         if room.free == 0 {
@@ -310,7 +312,7 @@ impl Sizing {
 
     // The slots of the next core: twice as many as there are entries.
     fn next_capacity<T, W: Words, A: Allocator>(&self, cores: &Cores<T, W, A>) -> usize
-        ensures { result ≤ CAPACITY_LIMIT }
+        ensures { MayHaveSlots self.now result }
     {
         let twice = linked(cores).saturating_mul(2).min(CAPACITY_LIMIT);
         twice
@@ -341,7 +343,7 @@ impl Sizing {
         &self,
         store: &Store<T, W, A>,
     ) -> Option<usize>
-        ensures some { IfSome result (MayMake store.now) }
+        ensures some { IfSome result (MayMake self.now store.now) }
         ensures none { IfNone result (CORES ≤ length store.now.cores.cores) }
     {
         let cores = store.cores();
@@ -356,7 +358,7 @@ impl Sizing {
         &self,
         store: &Store<T, W, A>,
     ) -> Option<usize>
-        ensures { IfSome result (MayMake store.now) }
+        ensures { IfSome result (MayMake self.now store.now) }
     {
         let cores = store.cores();
         let is_ahead = self.kept == 0 && is_nearly_full(cores);

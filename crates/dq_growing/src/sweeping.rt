@@ -35,7 +35,9 @@ fn next_of(swept: Option<Swept>) -> Option<usize>
 }
 
 impl Sweep {
-    pub const fn new() -> Sweep {
+    pub const fn new() -> Sweep
+        ensures { result ≡ record { place = 0; slot = 0; cancels = 0; left = 0 } }
+    {
         Sweep {
             place: 0,
             slot: 0,
