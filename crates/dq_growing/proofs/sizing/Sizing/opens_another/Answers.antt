@@ -36,5 +36,5 @@ returns-clause-kept g c is = store_is c.args.store.now c.open.new.self (c.open.e
 pub returns-clause-notes : goal.returns-clause-notes
 returns-clause-notes g c =
     let some = c.if-room-eq0.false in
-    opened_notes c.args.store.now c.open.new.self _ c.open.result c.args.any_will_do c.roomiest-room.result c.args.self.now c.open.ensures.refused c.cores.ensures c.roomiest-room.ensures
-    (omega (arith, some))
+    opened_notes c.args.store.now c.open.new.self _ c.open.result c.args.any_will_do c.roomiest-room.result c.args.self.now c.note_work.new.self c.open.ensures.refused c.cores.ensures c.roomiest-room.ensures
+    (omega (arith, some)) c.note_work.ensures
