@@ -7,8 +7,8 @@ pub returns-then-is_to_shrink : goal.returns-then-is_to_shrink
 returns-then-is_to_shrink g c =
     looks_work c.args.self.now c.note_work.new.self c.args.store.now _ c.cores.ensures (c.is_to_shrink.ensures.yes c.if-is_to_shrink.true) c.note_work.ensures
 
-pub returns-then-self-NEVER : goal.returns-then-self-NEVER
-returns-then-self-NEVER g c =
+pub returns-then-self : goal.returns-then-self
+returns-then-self g c =
     let quiet : c.args.self.now.quiet_since ≡ NEVER = search rules in
     looks_on c.args.self.now _ c.args.store.now _ c.cores.ensures (c.is_to_shrink.ensures.no c.if-is_to_shrink.false) (inr (inl quiet, refl))
 
