@@ -63,8 +63,8 @@ abbrev pub NotesWorkIf : Type 0 → Sizing → Sizing → Type 0
 NotesWorkIf P z y = (P × (y ≡ with_work z)) ⊎ ((¬ P) × (y ≡ z))
 
 -- the cores are looked at as an entry left, if so many are left: a multiple of 128, or the last few
-abbrev pub IsLook : ℕ → Type 0
-IsLook left = (left < LAST) ⊎ (left % LOOKS ≡ 0)
+abbrev pub IsTimeToLook : ℕ → Type 0
+IsTimeToLook left = (left < LAST) ⊎ (left % LOOKS ≡ 0)
 
 module _ {T W : Type 0} where
   -- how many slots the cores have, as far as a word counts
@@ -309,8 +309,8 @@ module _ {T W : Type 0} where
   -- so if the cores are looked at, and there may be less to keep; else all stays
   abbrev pub NotesLeft : ℕ → Sizing → StoreState T W → Sizing → Type 0
   NotesLeft left z s y =
-      (IsLook left × MayShrink s.cores × LooksAfter z s y)
-      ⊎ ((¬ (IsLook left × MayShrink s.cores)) × (y ≡ z))
+      (IsTimeToLook left × MayShrink s.cores × LooksAfter z s y)
+      ⊎ ((¬ (IsTimeToLook left × MayShrink s.cores)) × (y ≡ z))
 
   -- the next slots of a way are swept, so many at most, and it goes on behind them; where nothing is
   -- linked in the core there, or there is no such core, it goes on to the next one

@@ -14,7 +14,7 @@ ghost use Rattle.dq_core.specs.Folds.{IsFoldable};
 ghost use Rattle.dq_growing.specs.Cores.{HasNo};
 ghost use Rattle.dq_growing.specs.Moving.{HasOpenRoom};
 ghost use Rattle.dq_growing.specs.Runs.{HoldsDeadlines, KeepsIds, KeepsIdsBeside};
-ghost use Rattle.dq_growing.specs.Sizing.{anew, clear_slots, slots_in, fresh_sizing, with_work, FoundElsewhere, HasNoWork, MayHaveSlots, NotesWorkIf, linked_of, IsNextSize, IsWorn, IsSmall, IsOpenHalfFree, IsTooLarge, IsNeedless, IsNeedlessAt, HasNeedless, NoneNeedless, IsToShrink, IsLook, MayShrink, WillDo, LooksAfter, NotesLeft, HasClearAt, IsRoomier, IsRoomiest, HasNoneToOpen, HasNoRoom, OnlyOpens, ComesInto, KeepsTick, OpensIf, OpensWanted, StaysOpen, WasBeside, AllWere, IsNearlyDrained, TellsStraggler, HasStraggler, IsStraggler, NoStraggler, MayMake, MayOpen, OpensOne};
+ghost use Rattle.dq_growing.specs.Sizing.{anew, clear_slots, slots_in, fresh_sizing, with_work, FoundElsewhere, HasNoWork, MayHaveSlots, NotesWorkIf, linked_of, IsNextSize, IsWorn, IsSmall, IsOpenHalfFree, IsTooLarge, IsNeedless, IsNeedlessAt, HasNeedless, NoneNeedless, IsToShrink, IsTimeToLook, MayShrink, WillDo, LooksAfter, NotesLeft, HasClearAt, IsRoomier, IsRoomiest, HasNoneToOpen, HasNoRoom, OnlyOpens, ComesInto, KeepsTick, OpensIf, OpensWanted, StaysOpen, WasBeside, AllWere, IsNearlyDrained, TellsStraggler, HasStraggler, IsStraggler, NoStraggler, MayMake, MayOpen, OpensOne};
 ghost use Rattle.dq_growing.specs.declared.TheConstants.{NEVER};
 ghost use Rattle.dq_growing.specs.declared.sizing.TheConstants.{CORES};
 ghost use Rattle.dq_ticks.specs.declared.TheConstants.{CAPACITY_LIMIT};
@@ -632,8 +632,8 @@ impl Sizing {
 // Whether it is looked at the cores as an entry left, and so many are left.
 #[inline(always)]
 fn is_look(left: u64) -> bool
-    ensures yes { result ≡ true → IsLook left }
-    ensures no { result ≡ false → ¬ IsLook left }
+    ensures yes { result ≡ true → IsTimeToLook left }
+    ensures no { result ≡ false → ¬ IsTimeToLook left }
 {
     left < LAST || left % LOOKS == 0
 }
