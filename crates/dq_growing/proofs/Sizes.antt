@@ -1,28 +1,35 @@
 -- What stands in a store whose cores come and go.
-use Rattle.std.proofs.Common.{◌≡◌, ◌≢◌, ℕ, suc, ◌<◌, ◌≤◌, ◌+◌, ◌-◌, ◌^◌, List, [], ◌∷◌, ◌++◌, length, get_or, remove, map, take, min, Bool, true, false, if◌then◌else◌, Option, Some, None, MatchOption, Result, Ok, Err, OnOk, refl, sym, ap, ◌∙◌, subst, inl, inr, ⊎_elim, arith, ◌⊎◌}
+use Rattle.std.proofs.Common.{◌≡◌, ◌≢◌, ℕ, suc, ◌<◌, ◌≤◌, ◌+◌, ◌-◌, ◌*◌, ◌/◌, ◌^◌, List, [], ◌∷◌, ◌++◌, length, get_or, remove, map, take, min, max, Bool, true, false, if◌then◌else◌, Option, Some, None, MatchOption, Result, Ok, Err, OnOk, refl, sym, ap, ◌∙◌, subst, inl, inr, ⊎_elim, arith, ◌⊎◌}
 use Rattle.std.proofs.lemmas.Bool.{cases_eq, lt-ltb, le-ltb, eq-eqb, ne_eqb}
 use mathlib.Core.Logic.{dite}
 use native.Mathlib.Decide.{ℕ_discrete}
 use Rattle.std.proofs.lemmas.List.{get_or-map, get_or_past, length-map, take_all}
 use Rattle.std.proofs.lemmas.List.Sums.{sum_by_more}
 use Rattle.std.specs.List.{sum_by}
+use Rattle.std.specs.Int.{IsNextPowerOfTwo}
+use Rattle.std.proofs.Math.Pow.{pow_mono}
+use Rattle.std.proofs.lemmas.Nat.{pow_pos}
+use Rattle.std.proofs.lemmas.Grind.{pow_more}
+use Rattle.dq_ticks.specs.declared.TheConstants.{CAPACITY_LIMIT}
 use Rattle.std.proofs.lemmas.List.Edits.{length-remove, get_or-remove_below, get_or-remove_above}
 use Rattle.dq_ticks.specs.declared.keys.EntryId.{EntryId}
 use Rattle.dq_wheel.proofs.Links.{nat_le_or_lt}
 use Rattle.dq_core.specs.AtTheCall.{linked_in}
 use Rattle.dq_core.specs.Core.{Core, IsLawfulCore}
+use Rattle.dq_core.specs.Folds.{IsFoldable}
 use Rattle.dq_core.specs.Machine.{Entry}
 use Rattle.dq_core.specs.Core.{machine}
 use Rattle.dq_core.specs.Machine.{NoneLinked}
 use Rattle.dq_core.specs.Readers.{TellsLeast}
 use Rattle.dq_ticks.specs.declared.keys.Key.{Key}
 use Rattle.dq_core.specs.declared.outcomes.Swept.{Swept}
+use Rattle.dq_growing.specs.declared.sizing.Sizing.{Sizing}
 use Rattle.dq_growing.specs.declared.sweeping.Sweep.{Sweep}
 use Rattle.dq_growing.specs.Cores.{CoreRow, AreCores, HasNo, IsCoreAt, OnCoreAt, SweepsFrom, GivesDrained, TakesIn, opened_without}
 use Rattle.dq_growing.specs.declared.sizing.Room.{Room}
 use Rattle.dq_growing.specs.Notes.{Book}
 use Rattle.dq_growing.specs.Moving.{HasOpenRoom}
-use Rattle.dq_growing.specs.Sizing.{AllWere, ComesInto, KeepsTick, GoesOnBehind, TakesOff, WayGoesOn, slots_at, slots_in, way_for, HasClearAt, HasNoneToOpen, IsNearlyDrained, IsRoomAt, IsRoomier, IsRoomiest, NoStraggler, OnlyOpens, OpensIf, OpensWanted, StaysOpen, SweepsNext, TellsStraggler, WasBeside, clear_slots, MayOpen, OpensOne}
+use Rattle.dq_growing.specs.Sizing.{AllWere, ComesInto, KeepsTick, GoesOnBehind, TakesOff, WayGoesOn, slots_at, slots_in, linked_of, way_for, with_work, IsNextSize, IsSmall, IsWorn, IsSpare, IsNeedless, IsNeedlessAt, IsOpenHalfFree, IsTooLarge, HasNeedless, HasStraggler, HasNoWork, EndsQuiet, IsToShrink, LooksAfter, MayShrink, NoneNeedless, WillDo, MayHaveSlots, FoundElsewhere, NotesWorkIf, HasClearAt, HasNoneToOpen, IsNearlyDrained, IsRoomAt, IsRoomier, IsRoomiest, NoStraggler, OnlyOpens, OpensIf, OpensWanted, StaysOpen, SweepsNext, TellsStraggler, WasBeside, clear_slots, MayOpen, OpensOne}
 use Rattle.dq_growing.specs.Stands.{HasEntry, IsThere, SameStand}
 use Rattle.dq_growing.specs.Store.{StoreState, StandsFor, TellsFirstIn, entry_told}
 use Rattle.dq_growing.proofs.Leasts.{some_not_none}
@@ -38,6 +45,27 @@ then_stand A B C x y = (
 
 pub all_stand : {T : Type 0} (A : EntryId → Entry T → Type 0) → SameStand A A
 all_stand A = ((λ o e z. (e, z, refl)), (λ o e z. (e, z, refl)))
+
+-- of two powers of two that aren't less than n, the greater one isn't the least such
+lower_power : (n p q i j : ℕ) → p ≡ 2 ^ i → q ≡ 2 ^ j → n ≤ p → q / 2 < max 1 n → i < j → ⊥
+lower_power n p q i j is too above below less =
+    let le : i + 1 ≤ j = omega (arith, less) in
+    let rises : 2 ^ (i + 1) ≤ 2 ^ j = pow_mono le in
+    let twice : 2 ^ (i + 1) ≡ 2 ^ i * 2 = pow_more 2 i in
+    let pos = pow_pos i in
+    omega (arith, is, too, above, below, rises, twice, pos)
+
+one_power : (n p q : ℕ) → IsNextPowerOfTwo n p → IsNextPowerOfTwo n q → p ≡ q
+one_power n p q x y =
+    let i = x.0.0 in
+    let j = y.0.0 in
+    ⊎_elim
+    (λ (e : i ≡ j). x.0.1 ∙ ap (λ k. 2 ^ k) e ∙ sym y.0.1)
+    (λ (ne : i ≢ j). elim (nat_le_or_lt i j) [
+      | inl le ↦ absurd (lower_power n p q i j x.0.1 y.0.1 x.1 y.2 (omega (arith, le, ne)))
+      | inr lt ↦ absurd (lower_power n q p j i y.0.1 x.0.1 y.1 x.2 lt)
+    ])
+    (cases_eq i j)
 
 module _ {T W : Type 0} where
   -- a core comes in with nothing linked
@@ -223,6 +251,24 @@ module _ {T W : Type 0} where
   opens_or_stays true s t any may kept = inr (may refl)
   opens_or_stays false s t any may kept = inl (kept refl)
 
+  pub opened_notes : (s t : StoreState T W) (k : CoreRow T W) (o any : Bool) (r : Room) (z y : Sizing)
+      → (o ≡ false → (length s.cores.cores ≤ r.place) × (t.cores ≡ s.cores))
+      → k ≡ s.cores → IsRoomiest k (length k.cores) any r → 0 < r.free → y ≡ with_work z → NotesWorkIf (o ≡ true) z y
+  opened_notes s t k true any r z y refused same most some noted = inl (refl, noted)
+  opened_notes s t k false any r z y refused same most some noted =
+      let Q : CoreRow T W → Type 0 = λ x. IsRoomAt x any r in
+      let here = subst Q same (most.some some) in
+      let inside = here.1.0 in
+      let past = (refused refl).0 in
+      absurd (omega (arith, inside, past))
+
+  pub notes_elsewhere : (s : CoreRow T W) (o : Bool) (z y : Sizing) → ¬ HasClearAt s s.opened → NotesWorkIf (o ≡ true) z y → NotesWorkIf (FoundElsewhere o s) z y
+  notes_elsewhere s o z y full notes =
+      ⊎_elim
+      (λ (w : (o ≡ true) × (y ≡ with_work z)). inl ((w.0, full), w.1))
+      (λ (w : (¬ (o ≡ true)) × (y ≡ z)). inr ((λ x. w.0 x.0), w.1))
+      notes
+
   pub opens_found : (s t : StoreState T W) (k : CoreRow T W) (o any : Bool) (r : Room)
       → (o ≡ false → (length s.cores.cores ≤ r.place) × (t.cores ≡ s.cores))
       → k ≡ s.cores → IsRoomiest k (length k.cores) any r → 0 < r.free → o ≡ false → HasNoneToOpen any s.cores
@@ -367,6 +413,10 @@ module _ {T W : Type 0} where
   none_least c None t e = t
   none_least c (Some k) t e = absurd (some_not_none k.entry (sym e))
 
+  linked_least : (c : Core T W) (k : Option Key) (p : EntryId) → NoneLinked (machine c) → TellsLeast c k → Some p ≡ entry_told k → ⊥
+  linked_least c None p none t e = some_not_none p e
+  linked_least c (Some k) p none t e = some_not_none t.0.1.0 (sym t.0.1.1.1 ∙ none k.entry.index)
+
   none_first : (s : StoreState T W) (i : ℕ) → TellsFirstIn s i None → (c : Core T W) → IsCoreAt s.cores.cores i c → NoneLinked (machine c)
   none_first s i tells c at =
       ⊎_elim
@@ -404,6 +454,43 @@ module _ {T W : Type 0} where
       let F : List (Core T W) → ℕ = λ l. min (sum_by (λ c. length c.slots.rows) l) (2 ^ 64 - 1) in
       is ∙ ap F (take_all i s.cores (omega (arith, all)))
 
+  -- how many entries are linked
+  abbrev pub linked_below : CoreRow T W → ℕ → ℕ
+  linked_below s i = min (sum_by (λ c. linked_in c) (take i s.cores)) (2 ^ 64 - 1)
+
+  pub linked_more : (s : CoreRow T W) (i n k : ℕ) (c : Core T W) → IsCoreAt s.cores i c → k ≡ linked_in c → n ≡ linked_below s i
+      → min (n + k) (2 ^ 64 - 1) ≡ linked_below s (i + 1)
+  linked_more s i n k c at size is =
+      let F : Core T W → ℕ = λ d. linked_in d in
+      let more = sum_by_more F s.cores i c at.0 in
+      let here = ap F at.1 in
+      omega (arith, more, here, size, is)
+
+  pub linked_all : (s : CoreRow T W) (i n : ℕ) → i ≡ length s.cores → n ≡ linked_below s i → n ≡ linked_of s
+  linked_all s i n all is =
+      let F : List (Core T W) → ℕ = λ l. min (sum_by (λ c. linked_in c) l) (2 ^ 64 - 1) in
+      is ∙ ap F (take_all i s.cores (omega (arith, all)))
+
+  -- what the next core is to have
+  pub next_size : (z : Sizing) (s : CoreRow T W) (linked twice power n : ℕ) → linked ≡ linked_of s → twice ≡ min (min (linked * 2) (2 ^ 64 - 1)) CAPACITY_LIMIT
+      → IsNextPowerOfTwo twice power → n ≡ min (max power z.least) CAPACITY_LIMIT → IsNextSize z s n
+  next_size z s linked twice power n all is next size =
+      let P : ℕ → Type 0 = λ k. IsNextPowerOfTwo k power in
+      let same : twice ≡ min (linked_of s * 2) CAPACITY_LIMIT = omega (arith, all, is) in
+      (power, subst P same next, size)
+
+  pub next_bounds : (z : Sizing) (s : CoreRow T W) (n : ℕ) → IsNextSize z s n → MayHaveSlots z n
+  next_bounds z s n next =
+      let pos = pow_pos next.1.0.0 in
+      let power = next.1.0.1 in
+      let is = next.2 in
+      (omega (arith, pos, power, is), omega (arith, is), omega (arith, is))
+
+  pub one_size : (z : Sizing) (s : CoreRow T W) (n m : ℕ) → IsNextSize z s n → IsNextSize z s m → n ≡ m
+  one_size z s n m x y =
+      let same = one_power (min (linked_of s * 2) CAPACITY_LIMIT) x.0 y.0 x.1 y.1 in
+      x.2 ∙ ap (λ p. min (max p z.least) CAPACITY_LIMIT) same ∙ sym y.2
+
   pub slots_there : (s : CoreRow T W) (i k : ℕ) (c : Core T W) → IsCoreAt s.cores i c → k ≡ length c.slots.rows → k ≡ slots_at s i
   slots_there s i k c at size =
       let F : Core T W → ℕ = λ d. length d.slots.rows in
@@ -414,6 +501,118 @@ module _ {T W : Type 0} where
       let F : Core T W → ℕ = λ d. length d.slots.rows in
       let long = length-map s.cores F in
       sym (get_or_past (map F s.cores) i 0 (omega (arith, long, past)))
+
+  -- whether the open core is too large
+  pub not_large : (z : Sizing) (s : CoreRow T W) (c : Core T W) (n : ℕ) → IsCoreAt s.cores s.opened c → IsNextSize z s n → length c.slots.rows / 4 < n → ¬ IsTooLarge z s
+  not_large z s c n at next more x =
+      let P : Core T W → Type 0 = λ d. length d.slots.rows / 4 < n in
+      let here = subst P (one_at s.cores s.opened c x.0 at x.2) more in
+      let same = one_size z s n x.1 next x.5 in
+      let few = x.6 in
+      omega (arith, here, same, few)
+
+  pub not_small : (z : Sizing) (s : CoreRow T W) (c : Core T W) → IsCoreAt s.cores s.opened c → ¬ IsSmall c → ¬ IsTooLarge z s
+  not_small z s c at not x =
+      let P : Core T W → Type 0 = λ d. IsSmall d in
+      not (subst P (sym (one_at s.cores s.opened c x.0 at x.2)) x.3)
+
+  pub not_kept : (z : Sizing) (s : CoreRow T W) → 0 < z.kept → ¬ IsTooLarge z s
+  not_kept z s some x = let none = x.4 in omega (arith, some, none)
+
+  pub no_open : (z : Sizing) (s : CoreRow T W) → length s.cores ≤ s.opened → ¬ IsTooLarge z s
+  no_open z s past x = let inside = x.2.0 in omega (arith, past, inside)
+
+  -- whether a core is needed
+  pub needed_kept : (z : Sizing) (s : CoreRow T W) (c : Core T W) → ¬ IsWorn c → 0 < z.kept → slots_in s - length c.slots.rows < z.kept → ¬ IsNeedless z s c
+  needed_kept z s c fresh some less x =
+      ⊎_elim fresh
+      (λ (y : IsSpare z s c).
+      ⊎_elim
+      (λ (w : (0 < z.kept) × (z.kept ≤ slots_in s - length c.slots.rows)). let le = w.1 in omega (arith, less, le))
+      (λ (w : (z.kept ≡ 0) × (IsOpenHalfFree s ⊎ ((n : ℕ) × IsNextSize z s n × (¬ WillDo n c)))). let none = w.0 in omega (arith, some, none))
+      y)
+      x
+
+  pub needed_next : (z : Sizing) (s : CoreRow T W) (c : Core T W) (n : ℕ) → ¬ IsWorn c → z.kept ≤ 0 → IsNextSize z s n → WillDo n c → ¬ IsOpenHalfFree s → ¬ IsNeedless z s c
+  needed_next z s c n fresh none next will full x =
+      ⊎_elim fresh
+      (λ (y : IsSpare z s c).
+      ⊎_elim
+      (λ (w : (0 < z.kept) × (z.kept ≤ slots_in s - length c.slots.rows)). let some = w.0 in omega (arith, some, none))
+      (λ (w : (z.kept ≡ 0) × (IsOpenHalfFree s ⊎ ((m : ℕ) × IsNextSize z s m × (¬ WillDo m c)))).
+      ⊎_elim full
+      (λ (v : (m : ℕ) × IsNextSize z s m × (¬ WillDo m c)).
+      let P : ℕ → Type 0 = λ k. WillDo k c in
+      v.2 (subst P (one_size z s n v.0 next v.1) will))
+      w.1)
+      y)
+      x
+
+  pub needless_next : (z : Sizing) (s : CoreRow T W) (n : ℕ) → NoneNeedless z s n → ((c : Core T W) → ¬ IsNeedlessAt z s n c) → NoneNeedless z s (n + 1)
+  needless_next z s n all here i c below =
+      ⊎_elim
+      (λ (e : i ≡ n). let P : ℕ → Type 0 = λ k. ¬ IsNeedlessAt z s k c in subst P (sym e) (here c))
+      (λ (ne : i ≢ n). all i c (omega (arith, below, ne)))
+      (cases_eq i n)
+
+  pub needed_at : (z : Sizing) (s : CoreRow T W) (i : ℕ) (b : Core T W) → IsCoreAt s.cores i b → (IsFoldable b → ¬ IsNeedless z s b) → (c : Core T W) → ¬ IsNeedlessAt z s i c
+  needed_at z s i b at needed c x =
+      let P : Core T W → Type 0 = λ d. IsFoldable d → ¬ IsNeedless z s d in
+      subst P (one_at s.cores i b c at x.0.0) needed x.0.2 x.1
+
+  pub none_has : (z : Sizing) (s : CoreRow T W) → NoneNeedless z s (length s.cores) → ¬ HasNeedless z s
+  none_has z s none x = none x.0 x.1 x.2.0.0.0 x.2
+
+  -- an entry that is to be moved is there
+  pub straggler_there : (s : StoreState T W) → HasStraggler s → ¬ NoStraggler s (length s.cores.cores)
+  straggler_there s x none =
+      let i = x.1.0 in
+      let near = x.1.1.0 in
+      let first = x.1.1.1 in
+      let P : Core T W → Type 0 = λ d. NoneLinked (machine d) in
+      let idle = none i near.1.0.0 near.0 near.1 in
+      let here = subst P (one_at s.cores.cores i near.0 first.0 near.1.0 first.2) idle in
+      linked_least first.0 first.3.0 first.1 here first.3.1 first.3.2
+
+  -- what is to be done
+  pub half_free : (s : CoreRow T W) (o n k : ℕ) (c : Core T W) → IsCoreAt s.cores o c → o ≡ s.opened → n ≡ clear_slots c → k ≡ length c.slots.rows → k / 2 ≤ n → IsOpenHalfFree s
+  half_free s o n k c at here free slots le =
+      let P : ℕ → Type 0 = λ i. IsCoreAt s.cores i c in
+      (c, subst P here at, omega (arith, free, slots, le))
+
+  pub too_large : (z : Sizing) (s : CoreRow T W) (o n k : ℕ) (c : Core T W) → IsCoreAt s.cores o c → o ≡ s.opened → IsSmall c → z.kept ≡ 0 → k ≡ length c.slots.rows → IsNextSize z s n → n ≤ k / 4 → IsTooLarge z s
+  too_large z s o n k c at here small none slots next le =
+      let P : ℕ → Type 0 = λ i. IsCoreAt s.cores i c in
+      (c, n, subst P here at, small, none, next, omega (arith, slots, le))
+
+  pub large_enough : (z : Sizing) (s : CoreRow T W) (o n k : ℕ) (c : Core T W) → IsCoreAt s.cores o c → o ≡ s.opened → k ≡ length c.slots.rows → IsNextSize z s n → k / 4 < n → ¬ IsTooLarge z s
+  large_enough z s o n k c at here slots next less =
+      let P : ℕ → Type 0 = λ i. IsCoreAt s.cores i c in
+      not_large z s c n (subst P here at) next (omega (arith, slots, less))
+
+  pub small_open : (s : CoreRow T W) (o : ℕ) (c : Core T W) → IsCoreAt s.cores o c → o ≡ s.opened → IsSmall c → MayShrink s
+  small_open s o c at here small =
+      let P : ℕ → Type 0 = λ i. IsCoreAt s.cores i c in
+      inr (c, subst P here at, small)
+
+  pub needless_other : (z : Sizing) (s : CoreRow T W) (c : Core T W) (n : ℕ) → z.kept ≡ 0 → IsNextSize z s n → ¬ WillDo n c → IsNeedless z s c
+  needless_other z s c n none next other = inr (inr (none, inr (n, next, other)))
+
+  pub busy_needless : (z : Sizing) (s : StoreState T W) (k : CoreRow T W) → k ≡ s.cores → HasNeedless z k → ¬ HasNoWork z s
+  busy_needless z s k same has x =
+      let P : CoreRow T W → Type 0 = λ r. HasNeedless z r in
+      none_has z s.cores x.2 (subst P same has)
+
+  pub no_work : (z : Sizing) (s : StoreState T W) (k : CoreRow T W) → k ≡ s.cores → z.has_work ≡ false → NoStraggler s (length s.cores.cores) → NoneNeedless z k (length k.cores) → HasNoWork z s
+  no_work z s k same idle none needed =
+      let P : CoreRow T W → Type 0 = λ r. NoneNeedless z r (length r.cores) in
+      (idle, none, subst P same needed)
+
+  pub looks_work : (z y : Sizing) (s : StoreState T W) (k : CoreRow T W) → k ≡ s.cores → IsToShrink z k → y ≡ with_work z → LooksAfter z s y
+  looks_work z y s k same is noted = let P : CoreRow T W → Type 0 = λ r. IsToShrink z r in inl (subst P same is, noted)
+
+  pub looks_on : (z y : Sizing) (s : StoreState T W) (k : CoreRow T W) → k ≡ s.cores → ¬ IsToShrink z k → EndsQuiet z s y → LooksAfter z s y
+  looks_on z y s k same not ends = let P : CoreRow T W → Type 0 = λ r. ¬ IsToShrink z r in inr (subst P same not, ends)
 
   -- a way by the cancels that are told
   pub begins_anew : (s : CoreRow T W) (w : Sweep) (cancels n : ℕ) → w.cancels ≢ cancels → n ≡ slots_in s → record w { cancels = cancels; left = n } ≡ way_for w cancels s

@@ -70,7 +70,7 @@ pub(crate) fn missing_at(when: u64) -> CoreError
 }
 
 // Whether nothing is linked in a core, and no value waits for its drop there.
-fn is_foldable<T, W: Words, A: Allocator>(core: &DelayCore<T, W, A>) -> bool
+pub(crate) fn is_foldable<T, W: Words, A: Allocator>(core: &DelayCore<T, W, A>) -> bool
     ensures yes { result ≡ true → IsFoldable core.now }
     ensures no { result ≡ false → ¬ IsFoldable core.now }
 {
@@ -484,9 +484,19 @@ impl<T, W: Words, A: Allocator> Cores<T, W, A> {
         let Some(at) = self.drained() else {
             return None;
         };
+        let core = self.take_at(at);
+        Some(core)
+    }
+
+    // Takes the core at a place out, which has drained.
+    pub(crate) fn take_at(&mut self, at: usize) -> DelayCore<T, W, A>
+        requires { (c : Core T W) × HasDrained self.old at c }
+        ensures at { IsCoreAt self.old.cores at result }
+        ensures gives { GivesDrained self.old result self.new }
+    {
         self.opened = opened_after(self.opened, at);
         self.turns = Turns::new();
         let core = self.cores.remove(at);
-        Some(core)
+        core
     }
 }

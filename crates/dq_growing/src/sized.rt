@@ -4,7 +4,7 @@
 //! something may be due. It is never later than the deadline of a live entry: an insert and a reset lower it, and a
 //! poll that finds nothing due sets it anew.
 
-ghost use Rattle.std.specs.Prelude.{◌≡◌, ◌≤◌, ◌<◌, ◌↔◌, ◌⊎◌, max, min, true, false, [], IsTrue, IfSome, IfNone, IfErr, IfOk, OnOk, OnErr, OnSome, unwrap_or};
+ghost use Rattle.std.specs.Prelude.{◌≡◌, ◌≤◌, ◌<◌, ◌↔◌, ◌⊎◌, max, min, true, false, [], IsTrue, IfSome, IfNone, IfErr, IfOk, OnOk, OnErr, OnSome, length, unwrap_or};
 ghost use Rattle.std.specs.Fn.{FnOnceReturnsAtMut};
 ghost use Rattle.dq_ticks.specs.Keys.{EntryName};
 ghost use Rattle.dq_core.specs.Folds.{IsFoldable};
@@ -14,7 +14,7 @@ ghost use Rattle.dq_growing.specs.Notes.{HasNoteRoom, SameNotes, user_at};
 ghost use Rattle.dq_growing.specs.Polls.{DoesPoll, DoesPiece, IfPieceOut, IfPieceRests, NoneLiveIn, TakesDeferredIn};
 ghost use Rattle.dq_growing.specs.Runs.{GivesId, HoldsDeadlines, HoldsOtherDeadlines, KeepsIds, KeepsIdsBeside, KeepsItsDeadline, LeavesInForce, NotDueBefore};
 ghost use Rattle.dq_growing.specs.Sized.{hint_after, hint_asked, KeepsHint, NotesNext};
-ghost use Rattle.dq_growing.specs.Sizing.{anew, way_for, with_work, AllWere, ComesInto, HasClearAt, HasNoRoom, KeepsTick, MayNoteWork, OnlyOpens, OpensOne, OpensWanted, StaysOpen, SweepsNext, TellsQuiet, WasBeside};
+ghost use Rattle.dq_growing.specs.Sizing.{anew, fresh_sizing, way_for, with_work, AllWere, ComesInto, FoundElsewhere, HasClearAt, HasNoRoom, IsNeedless, KeepsTick, NoneNeedless, NotesLeft, NotesWorkIf, OnlyOpens, OpensOne, OpensWanted, StaysOpen, SweepsNext, TellsQuiet, WasBeside};
 ghost use Rattle.dq_growing.specs.Stands.{KeepsWords, OneLeaves, SameStand};
 ghost use Rattle.dq_growing.specs.Store.{ChangesFor, ChangesThere, ComesFor, GoesOnFor, GoesOut, HasBegunFor, HasOneValue, IsStore, KeysAreApart, PollsFor, ReapsFor, RelocatesFor, RemovesFor, RemovesIfDueFor, ResetsFor, ResetsThere, StandsFor, TakeRefusedFor, TellsFor};
 
@@ -124,8 +124,7 @@ impl<T, W: Words + Drop, A: Allocator + Clone> SizedStore<T, W, A> {
 
         // Each entry keeps the id that it has.
         ensures own { IfOk result (λ s. (id : EntryName) → user_at s.store.notes id ≡ id) }
-        ensures sizing { IfOk result
-            (λ s. (s.sizing.has_work ≡ false) × (s.sizing.quiet_since ≡ 0)) }
+        ensures sizing { IfOk result (λ s. s.sizing ≡ fresh_sizing least) }
         ensures hint { IfOk result (λ s. s.hint ≡ NEVER) }
     {
         let notes = Notes::new(alloc.clone()?)?;
@@ -465,7 +464,8 @@ impl<T, W: Words, A: Allocator + Clone> SizedStore<T, W, A> {
         ensures opens { OnlyOpens self.old.store self.new.store }
         ensures keeps { KeepsIds self.old.store self.new.store }
         ensures holds { HoldsDeadlines self.old.store self.new.store }
-        ensures notes { MayNoteWork self.old.sizing self.new.sizing }
+        ensures notes { NotesWorkIf (FoundElsewhere result self.old.store.cores)
+            self.old.sizing self.new.sizing }
         ensures hint { self.new.hint ≡ self.old.hint }
     {
         self.sizing.finds_room(&mut self.store, any_will_do)
@@ -512,6 +512,7 @@ impl<T, W: Words, A: Allocator + Clone> SizedStore<T, W, A> {
     /// Takes a core out that has drained and isn't needed soon, as [`Sizing::take_needless`] tells.
     pub fn take_needless(&mut self) -> Option<DelayCore<T, W, A>>
         ensures drained { IfSome result (λ c. IsFoldable c × WasBeside self.old.store.cores c) }
+        ensures needless { IfSome result (IsNeedless self.old.sizing self.old.store.cores) }
         ensures gone { IfSome result (λ c. HasNo self.new.store.cores.cores c.shard) }
         ensures opens { StaysOpen self.old.store.cores self.new.store.cores }
         ensures were { AllWere self.old.store.cores self.new.store.cores }
@@ -522,10 +523,10 @@ impl<T, W: Words, A: Allocator + Clone> SizedStore<T, W, A> {
         ensures tick { KeepsTick self.old.store.cores self.new.store.cores }
         ensures anew { OnSome result
             (self.new.sizing.sweep ≡ anew self.old.sizing.sweep self.old.store.cores) }
-        ensures stays { IfNone result
-            ((self.new.sizing.sweep ≡ anew self.old.sizing.sweep self.old.store.cores)
-            ⊎ ((self.new.sizing.sweep ≡ self.old.sizing.sweep)
-            × (self.new.store ≡ self.old.store))) }
+        ensures stays { IfNone result ((self.new.sizing.sweep ≡ self.old.sizing.sweep)
+            × (self.new.store ≡ self.old.store)) }
+        ensures none { IfNone result (NoneNeedless self.old.sizing
+            self.old.store.cores (length self.old.store.cores.cores)) }
         ensures work { self.new.sizing
             ≡ record self.old.sizing { has_work = false; sweep = self.new.sizing.sweep } }
         ensures hint { self.new.hint ≡ self.old.hint }
@@ -560,7 +561,7 @@ impl<T, W: Words, A: Allocator + Clone> SizedStore<T, W, A> {
     /// Notes that an entry left its core, and that so many are left.
     #[inline(always)]
     pub fn note_left(&mut self, left: u64)
-        ensures notes { MayNoteWork self.old.sizing self.new.sizing }
+        ensures notes { NotesLeft left self.old.sizing self.old.store self.new.sizing }
         ensures rest { self.new ≡ record self.old { sizing = self.new.sizing } }
     {
         self.sizing.note_left(&self.store, left);

@@ -14,7 +14,7 @@ ghost use Rattle.dq_core.specs.Folds.{IsFoldable};
 ghost use Rattle.dq_growing.specs.Cores.{HasNo};
 ghost use Rattle.dq_growing.specs.Moving.{HasOpenRoom};
 ghost use Rattle.dq_growing.specs.Runs.{HoldsDeadlines, KeepsIds, KeepsIdsBeside};
-ghost use Rattle.dq_growing.specs.Sizing.{anew, clear_slots, slots_in, with_work, HasNoWork, MayNoteWork, HasClearAt, IsRoomier, IsRoomiest, HasNoneToOpen, HasNoRoom, OnlyOpens, ComesInto, KeepsTick, OpensIf, OpensWanted, StaysOpen, WasBeside, AllWere, IsNearlyDrained, TellsStraggler, IsStraggler, NoStraggler, MayMake, MayOpen, OpensOne};
+ghost use Rattle.dq_growing.specs.Sizing.{anew, clear_slots, slots_in, fresh_sizing, with_work, FoundElsewhere, HasNoWork, MayHaveSlots, NotesWorkIf, linked_of, IsNextSize, IsWorn, IsSmall, IsOpenHalfFree, IsTooLarge, IsNeedless, IsNeedlessAt, HasNeedless, NoneNeedless, IsToShrink, IsTimeToLook, MayShrink, WillDo, LooksAfter, NotesLeft, HasClearAt, IsRoomier, IsRoomiest, HasNoneToOpen, HasNoRoom, OnlyOpens, ComesInto, KeepsTick, OpensIf, OpensWanted, StaysOpen, WasBeside, AllWere, IsNearlyDrained, TellsStraggler, HasStraggler, IsStraggler, NoStraggler, MayMake, MayOpen, OpensOne};
 ghost use Rattle.dq_growing.specs.declared.TheConstants.{NEVER};
 ghost use Rattle.dq_growing.specs.declared.sizing.TheConstants.{CORES};
 ghost use Rattle.dq_ticks.specs.declared.TheConstants.{CAPACITY_LIMIT};
@@ -22,7 +22,7 @@ ghost use Rattle.dq_growing.specs.Stands.{SameStand};
 ghost use Rattle.dq_growing.specs.Store.{StandsFor, TakeRefusedFor};
 
 use crate::NEVER;
-use crate::cores::{Cores, TakeError};
+use crate::cores::{Cores, TakeError, is_foldable};
 use crate::store::Store;
 use crate::sweeping::Sweep;
 use dq_core::{DelayCore, Words};
@@ -124,13 +124,20 @@ fn roomiest<T, W: Words, A: Allocator>(cores: &Cores<T, W, A>, any_will_do: bool
     roomiest
 }
 
-fn is_worn<T, W: Words, A: Allocator>(core: &DelayCore<T, W, A>) -> bool {
+// Whether more than half of a core's slots are worn.
+fn is_worn<T, W: Words, A: Allocator>(core: &DelayCore<T, W, A>) -> bool
+    ensures yes { result ≡ true → IsWorn core.now }
+    ensures no { result ≡ false → ¬ IsWorn core.now }
+{
     core.worn() > core.capacity() / 2
 }
 
 // Whether an eighth of a core is used at most.
 #[inline(always)]
-fn is_small<T, W: Words, A: Allocator>(core: &DelayCore<T, W, A>) -> bool {
+fn is_small<T, W: Words, A: Allocator>(core: &DelayCore<T, W, A>) -> bool
+    ensures yes { result ≡ true → IsSmall core.now }
+    ensures no { result ≡ false → ¬ IsSmall core.now }
+{
     core.len() <= core.capacity() / 8
 }
 
@@ -148,7 +155,9 @@ pub(crate) fn slots<T, W: Words, A: Allocator>(cores: &Cores<T, W, A>) -> usize
 }
 
 // How many entries are linked, of which some may be cancelled.
-fn linked<T, W: Words, A: Allocator>(cores: &Cores<T, W, A>) -> usize {
+fn linked<T, W: Words, A: Allocator>(cores: &Cores<T, W, A>) -> usize
+    ensures { result ≡ linked_of cores.now }
+{
     let mut linked = 0usize;
     for at in 0..cores.count() {
         if let Some(core) = cores.get(at) {
@@ -185,8 +194,19 @@ fn straggler_in<T, W: Words, A: Allocator + Clone>(
     store.first_in(place)
 }
 
+// Whether a core will do where one of so many slots is wanted: one of half the size, or of twice, will.
+fn will_do<T, W: Words, A: Allocator>(core: &DelayCore<T, W, A>, wanted: usize) -> bool
+    ensures yes { result ≡ true → WillDo wanted core.now }
+    ensures no { result ≡ false → ¬ WillDo wanted core.now }
+{
+    wanted / 2 <= core.capacity() && core.capacity() / 2 <= wanted
+}
+
 // Whether half of the open core is free.
-fn is_open_half_free<T, W: Words, A: Allocator>(cores: &Cores<T, W, A>) -> bool {
+fn is_open_half_free<T, W: Words, A: Allocator>(cores: &Cores<T, W, A>) -> bool
+    ensures yes { result ≡ true → IsOpenHalfFree cores.now }
+    ensures no { result ≡ false → ¬ IsOpenHalfFree cores.now }
+{
     let Some(open) = cores.get(cores.opened()) else {
         return false;
     };
@@ -214,7 +234,7 @@ impl Sizing {
     /// Keeps stores whose smallest core has so many slots.
     pub const fn new(least: usize) -> Sizing
         // There is nothing to do in an empty store.
-        ensures { (result.has_work ≡ false) × (result.quiet_since ≡ 0) }
+        ensures { result ≡ fresh_sizing least }
     {
         Sizing {
             least,
@@ -277,7 +297,9 @@ impl Sizing {
         // No id is given anew, and no deadline falls.
         ensures keeps { KeepsIds store.old store.new }
         ensures holds { HoldsDeadlines store.old store.new }
-        ensures notes { MayNoteWork self.old self.new }
+
+        // Work is noted exactly if another core is open.
+        ensures notes { NotesWorkIf (FoundElsewhere result store.old.cores) self.old self.new }
     {
         if has_open_room(store.cores()) {
             return true;
@@ -298,7 +320,7 @@ impl Sizing {
         ensures opens { OnlyOpens store.old store.new }
         ensures keeps { KeepsIds store.old store.new }
         ensures holds { HoldsDeadlines store.old store.new }
-        ensures notes { MayNoteWork self.old self.new }
+        ensures notes { NotesWorkIf (result ≡ true) self.old self.new }
     {
         let room = roomiest(store.cores(), any_will_do);
         if room.free == 0 {
@@ -310,7 +332,8 @@ impl Sizing {
 
     // The slots of the next core: twice as many as there are entries.
     fn next_capacity<T, W: Words, A: Allocator>(&self, cores: &Cores<T, W, A>) -> usize
-        ensures { result ≤ CAPACITY_LIMIT }
+        ensures size { IsNextSize self.now cores.now result }
+        ensures bounds { MayHaveSlots self.now result }
     {
         let twice = linked(cores).saturating_mul(2).min(CAPACITY_LIMIT);
         twice
@@ -320,11 +343,17 @@ impl Sizing {
     }
 
     // Whether an eighth of the open core is used at most, and a smaller one would do.
-    fn is_too_large<T, W: Words, A: Allocator>(&self, cores: &Cores<T, W, A>) -> bool {
+    fn is_too_large<T, W: Words, A: Allocator>(&self, cores: &Cores<T, W, A>) -> bool
+        ensures yes { result ≡ true → IsTooLarge self.now cores.now }
+        ensures no { result ≡ false → ¬ IsTooLarge self.now cores.now }
+    {
         let Some(open) = cores.get(cores.opened()) else {
             return false;
         };
-        is_small(open) && self.kept == 0 && self.next_capacity(cores) <= open.capacity() / 4
+        if self.kept > 0 || !is_small(open) {
+            return false;
+        }
+        self.next_capacity(cores) <= open.capacity() / 4
     }
 
     // Whether the open core is to be exchanged though it isn't full.
@@ -341,7 +370,7 @@ impl Sizing {
         &self,
         store: &Store<T, W, A>,
     ) -> Option<usize>
-        ensures some { IfSome result (MayMake store.now) }
+        ensures some { IfSome result (MayMake self.now store.now) }
         ensures none { IfNone result (CORES ≤ length store.now.cores.cores) }
     {
         let cores = store.cores();
@@ -356,7 +385,7 @@ impl Sizing {
         &self,
         store: &Store<T, W, A>,
     ) -> Option<usize>
-        ensures { IfSome result (MayMake store.now) }
+        ensures { IfSome result (MayMake self.now store.now) }
     {
         let cores = store.cores();
         let is_ahead = self.kept == 0 && is_nearly_full(cores);
@@ -405,18 +434,17 @@ impl Sizing {
         &self,
         cores: &Cores<T, W, A>,
         core: &DelayCore<T, W, A>,
-        slots: usize,
-    ) -> bool {
+    ) -> bool
+        ensures yes { result ≡ true → IsNeedless self.now cores.now core.now }
+        ensures no { result ≡ false → ¬ IsNeedless self.now cores.now core.now }
+    {
         if is_worn(core) {
             return true;
         }
         if self.kept > 0 {
-            return slots.saturating_sub(core.capacity()) >= self.kept;
+            return slots(cores).saturating_sub(core.capacity()) >= self.kept;
         }
-        let wanted = self.next_capacity(cores);
-        // One of half the size, or of twice, will do.
-        let fits = wanted / 2 <= core.capacity() && core.capacity() / 2 <= wanted;
-        !fits || is_open_half_free(cores)
+        !will_do(core, self.next_capacity(cores)) || is_open_half_free(cores)
     }
 
     // Whether the core at a place has drained, and isn't needed soon.
@@ -424,25 +452,50 @@ impl Sizing {
         &self,
         cores: &Cores<T, W, A>,
         place: usize,
-        slots: usize,
-    ) -> bool {
+    ) -> bool
+        ensures yes { result ≡ true → (c : Core T W) × IsNeedlessAt self.now cores.now place c }
+        ensures no { result ≡ false → (c : Core T W) → ¬ IsNeedlessAt self.now cores.now place c }
+    {
         if place == cores.opened() {
             return false;
         }
         let Some(core) = cores.get(place) else {
             return false;
         };
-        core.is_empty() && core.deferred() == 0 && self.is_needless(cores, core, slots)
+        is_foldable(core) && self.is_needless(cores, core)
     }
 
-    fn has_needless<T, W: Words, A: Allocator>(&self, cores: &Cores<T, W, A>) -> bool {
-        let slots = slots(cores);
+    // The place of such a core.
+    fn needless<T, W: Words, A: Allocator>(&self, cores: &Cores<T, W, A>) -> Option<usize>
+        ensures found { IfSome result (λ i. (c : Core T W) × IsNeedlessAt self.now cores.now i c) }
+        ensures none { IfNone result (NoneNeedless self.now cores.now (length cores.now.cores)) }
+    {
         for at in 0..cores.count() {
-            if self.is_needless_at(cores, at, slots) {
-                return true;
+            if self.is_needless_at(cores, at) {
+                return Some(at);
             }
         }
-        false
+        None
+    }
+
+    // Whether there is such a core.
+    fn has_needless<T, W: Words, A: Allocator>(&self, cores: &Cores<T, W, A>) -> bool
+        ensures yes { result ≡ true → HasNeedless self.now cores.now }
+        ensures no { result ≡ false
+            → NoneNeedless self.now cores.now (length cores.now.cores) }
+    {
+        match self.needless(cores) {
+            Some(_) => true,
+            None => false,
+        }
+    }
+
+    // Whether the open core is too large, or some core isn't needed.
+    fn is_to_shrink<T, W: Words, A: Allocator>(&self, cores: &Cores<T, W, A>) -> bool
+        ensures yes { result ≡ true → IsToShrink self.now cores.now }
+        ensures no { result ≡ false → ¬ IsToShrink self.now cores.now }
+    {
+        self.is_too_large(cores) || self.has_needless(cores)
     }
 
     /// Takes a core out that has drained and isn't needed soon. Folded, it keeps its words alone.
@@ -452,6 +505,7 @@ impl Sizing {
     ) -> Option<DelayCore<T, W, A>>
         // It was a core that isn't open. That one stays open. None of its number is there any more.
         ensures drained { IfSome result (λ c. IsFoldable c × WasBeside store.old.cores c) }
+        ensures needless { IfSome result (IsNeedless self.old store.old.cores) }
         ensures gone { IfSome result (λ c. HasNo store.new.cores.cores c.shard) }
         ensures opens { StaysOpen store.old.cores store.new.cores }
         ensures were { AllWere store.old.cores store.new.cores }
@@ -463,56 +517,24 @@ impl Sizing {
         ensures holds { HoldsDeadlines store.old store.new }
         ensures tick { KeepsTick store.old.cores store.new.cores }
 
-        // The way of the sweeps begins anew, unless the store is as it was. No work is noted any more.
+        // The way of the sweeps begins anew. If each core is needed, that stays, and the store does. No
+        // work is noted any more.
         ensures anew { OnSome result (self.new.sweep ≡ anew self.old.sweep store.old.cores) }
-        ensures stays { IfNone result ((self.new.sweep ≡ anew self.old.sweep store.old.cores)
-            ⊎ ((self.new.sweep ≡ self.old.sweep) × (store.new ≡ store.old))) }
+        ensures stays { IfNone result ((self.new.sweep ≡ self.old.sweep) × (store.new ≡ store.old)) }
+        ensures none { IfNone result
+            (NoneNeedless self.old store.old.cores (length store.old.cores.cores)) }
         ensures work { self.new ≡ record self.old { has_work = false; sweep = self.new.sweep } }
     {
         self.has_work = false;
-        if !self.has_needless(store.cores()) {
-            return None;
-        }
-        // The cores get other places.
-        self.sweep.restart(slots(store.cores()));
-        for _turn in 0..store.cores().count() {
-            store.cores.law();
-            if let Some(core) = self.take_first(store) {
-                return Some(core);
-            }
-        }
-        None
-    }
-
-    // Takes the first core off that has drained, where it isn't needed soon. Else it is the last one, and the next one
-    // the first.
-    fn take_first<T, W: Words, A: Allocator + Clone>(
-        &self,
-        store: &mut Store<T, W, A>,
-    ) -> Option<DelayCore<T, W, A>>
-        ensures drained { IfSome result (λ c. IsFoldable c × WasBeside store.old.cores c) }
-        ensures gone { IfSome result (λ c. HasNo store.new.cores.cores c.shard) }
-        ensures were { AllWere store.old.cores store.new.cores }
-        ensures opens { StaysOpen store.old.cores store.new.cores }
-        ensures notes { store.new.notes ≡ store.old.notes }
-        ensures stands { SameStand (StandsFor store.old) (StandsFor store.new) }
-        ensures keeps { KeepsIds store.old store.new }
-        ensures holds { HoldsDeadlines store.old store.new }
-        ensures tick { KeepsTick store.old.cores store.new.cores }
-    {
-        store.cores.law();
-        let slots = slots(store.cores());
-        let Some(core) = store.take_drained() else {
+        store.law();
+        let Some(at) = self.needless(store.cores()) else {
             return None;
         };
+        // The cores get other places.
+        self.sweep.restart(slots(store.cores()));
+        let core = store.take_at(at);
         core.law();
-        if self.is_needless(store.cores(), &core, slots) {
-            return Some(core);
-        }
-        if let Err((_, core)) = take_in(store, core, false) {
-            return Some(core);
-        }
-        None
+        Some(core)
     }
 
     /// Returns an entry that may be moved into the open core, so that its own one drains: the one that is scheduled
@@ -533,12 +555,28 @@ impl Sizing {
         None
     }
 
+    fn has_straggler<T, W: Words, A: Allocator + Clone>(&self, store: &Store<T, W, A>) -> bool
+        ensures yes { result ≡ true → HasStraggler store.now }
+        ensures no { result ≡ false → NoStraggler store.now (length store.now.cores.cores) }
+    {
+        match self.straggler(store) {
+            Some(_) => true,
+            None => false,
+        }
+    }
+
     /// Whether something is to be done, beside a sweep.
     pub fn is_busy<T, W: Words, A: Allocator + Clone>(&self, store: &Store<T, W, A>) -> bool
-        // Whether some core isn't needed is a policy without a contract.
-        ensures { result ≡ false → HasNoWork self.now store.now }
+        ensures yes { result ≡ true → ¬ HasNoWork self.now store.now }
+        ensures no { result ≡ false → HasNoWork self.now store.now }
     {
-        self.has_work || self.straggler(store).is_some() || self.has_needless(store.cores())
+        if self.has_work {
+            return true;
+        }
+        if self.has_straggler(store) {
+            return true;
+        }
+        self.has_needless(store.cores())
     }
 
     /// Notes that an entry left its core, and that so many are left.
@@ -548,25 +586,29 @@ impl Sizing {
         store: &Store<T, W, A>,
         left: u64,
     )
-        ensures { MayNoteWork self.old self.new }
+        ensures { NotesLeft left self.old store.now self.new }
     {
-        let looks = left < LAST || left % LOOKS == 0;
-        if looks && may_shrink(store.cores()) {
-            self.look_after(store);
+        if !is_look(left) {
+            return;
         }
+        if !may_shrink(store.cores()) {
+            return;
+        }
+        self.look_after(store);
     }
 
     #[cold]
     fn look_after<T, W: Words, A: Allocator + Clone>(&mut self, store: &Store<T, W, A>)
-        ensures notes { MayNoteWork self.old self.new }
-
-        // There is no quiet while an entry is to be moved.
-        ensures quiet { (self.new.quiet_since ≡ NEVER)
-            ⊎ NoStraggler store.now (length store.now.cores.cores) }
+        ensures { LooksAfter self.old store.now self.new }
     {
-        if self.is_too_large(store.cores()) || self.has_needless(store.cores()) {
+        if self.is_to_shrink(store.cores()) {
             self.note_work();
-        } else if self.quiet_since != NEVER && self.straggler(store).is_some() {
+            return;
+        }
+        if self.quiet_since == NEVER {
+            return;
+        }
+        if self.has_straggler(store) {
             // It is moved once there is time.
             self.quiet_since = NEVER;
         }
@@ -587,9 +629,21 @@ impl Sizing {
     }
 }
 
+// Whether it is looked at the cores as an entry left, and so many are left.
+#[inline(always)]
+fn is_look(left: u64) -> bool
+    ensures yes { result ≡ true → IsTimeToLook left }
+    ensures no { result ≡ false → ¬ IsTimeToLook left }
+{
+    left < LAST || left % LOOKS == 0
+}
+
 // Whether there may be less to keep: there are several cores, or an eighth of the one is used at most.
 #[inline(always)]
-fn may_shrink<T, W: Words, A: Allocator>(cores: &Cores<T, W, A>) -> bool {
+fn may_shrink<T, W: Words, A: Allocator>(cores: &Cores<T, W, A>) -> bool
+    ensures yes { result ≡ true → MayShrink cores.now }
+    ensures no { result ≡ false → ¬ MayShrink cores.now }
+{
     if cores.count() > 1 {
         return true;
     }

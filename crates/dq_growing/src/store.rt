@@ -3,7 +3,8 @@
 ghost use Rattle.dq_core.specs.declared.errors.CoreError.TheVariants.{Worn};
 ghost use Rattle.dq_growing.specs.declared.TheConstants.{NEVER};
 ghost use Rattle.std.specs.Prelude.{◌≡◌, ◌≤◌, ◌↔◌, IsTrue, IfSome, IfNone, IfErr, IfOk, OnOk, OnErr, Ok, Err, None, Some, unwrap_or};
-ghost use Rattle.dq_growing.specs.Cores.{AreCores, InsertsIn, TakesIn, GivesDrained, NoneDrained};
+ghost use Rattle.dq_core.specs.Core.{Core};
+ghost use Rattle.dq_growing.specs.Cores.{AreCores, HasDrained, InsertsIn, IsCoreAt, TakesIn, GivesDrained, NoneDrained};
 ghost use Rattle.dq_growing.specs.Runs.{GivesId, HoldsDeadlines, HoldsOtherDeadlines, KeepsIds, KeepsIdsBeside, KeepsItsDeadline, LeavesInForce, NotDueBefore};
 ghost use Rattle.dq_ticks.specs.Keys.{EntryName};
 ghost use Rattle.dq_growing.specs.Stands.{OneLeaves, SameStand, KeepsWords};
@@ -607,6 +608,20 @@ impl<T, W: Words, A: Allocator + Clone> Store<T, W, A> {
     {
         self.cores.law();
         let core = self.cores.take_drained();
+        core
+    }
+
+    // Takes the core at a place out, which has drained.
+    pub(crate) fn take_at(&mut self, place: usize) -> DelayCore<T, W, A>
+        requires { (c : Core T W) × HasDrained self.old.cores place c }
+        ensures at { IsCoreAt self.old.cores.cores place result }
+        ensures gives { GivesDrained self.old.cores result self.new.cores }
+        ensures notes { self.new.notes ≡ self.old.notes }
+        ensures keeps { KeepsIds self.old self.new }
+        ensures holds { HoldsDeadlines self.old self.new }
+    {
+        self.cores.law();
+        let core = self.cores.take_at(place);
         core
     }
 }

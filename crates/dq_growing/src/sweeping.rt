@@ -2,7 +2,7 @@
 
 ghost use Rattle.std.specs.Prelude.{◌≡◌, ◌<◌, ◌↔◌, true, false, MatchOption, None, IsTrue};
 ghost use Rattle.dq_growing.specs.Runs.{HoldsDeadlines, KeepsIds};
-ghost use Rattle.dq_growing.specs.Sizing.{WayGoesOn, TakesOff, SweepsNext, TellsQuiet, way_for};
+ghost use Rattle.dq_growing.specs.Sizing.{IsQuiet, WayGoesOn, TakesOff, SweepsNext, TellsQuiet, way_for};
 ghost use Rattle.dq_growing.specs.Stands.{KeepsWords};
 
 use crate::NEVER;
@@ -35,7 +35,9 @@ fn next_of(swept: Option<Swept>) -> Option<usize>
 }
 
 impl Sweep {
-    pub const fn new() -> Sweep {
+    pub const fn new() -> Sweep
+        ensures { result ≡ record { place = 0; slot = 0; cancels = 0; left = 0 } }
+    {
         Sweep {
             place: 0,
             slot: 0,
@@ -123,8 +125,14 @@ impl Sizing {
         ensures quiet { TellsQuiet self.new cancels store.now }
         ensures rest { self.new ≡ record self.old { quiet_since = self.new.quiet_since } }
     {
-        let is_quiet = self.sweep.left == 0 && !self.is_busy(store);
-        self.quiet_since = if is_quiet { cancels } else { NEVER };
+        self.quiet_since = if self.is_quiet(store) { cancels } else { NEVER };
+    }
+
+    fn is_quiet<T, W: Words, A: Allocator + Clone>(&self, store: &Store<T, W, A>) -> bool
+        ensures yes { result ≡ true → IsQuiet self.now store.now }
+        ensures no { result ≡ false → ¬ IsQuiet self.now store.now }
+    {
+        self.sweep.left == 0 && !self.is_busy(store)
     }
 
     fn sweep_some<T, W: Words, A: Allocator + Clone>(&mut self, store: &mut Store<T, W, A>)

@@ -39,7 +39,7 @@ pub(crate) fn missing_at(when: u64) -> CoreError {
 }
 
 // Whether nothing is linked in a core, and no value waits for its drop there.
-fn is_foldable<T, W: Words>(core: &DelayCore<T, W>) -> bool {
+pub(crate) fn is_foldable<T, W: Words>(core: &DelayCore<T, W>) -> bool {
     core.is_empty() && core.deferred() == 0
 }
 
@@ -293,9 +293,15 @@ impl<T, W: Words> Cores<T, W> {
     /// drop. Folded, it keeps its words alone.
     pub fn take_drained(&mut self) -> Option<DelayCore<T, W>> {
         let at = self.drained()?;
+        let core = self.take_at(at);
+        Some(core)
+    }
+
+    // Takes the core at a place out, which has drained.
+    pub(crate) fn take_at(&mut self, at: usize) -> DelayCore<T, W> {
+        // requires (c : Core T W) × HasDrained self.old at c
         self.opened = opened_after(self.opened, at);
         self.turns = Turns::new();
-        let core = self.cores.remove(at);
-        Some(core)
+        self.cores.remove(at)
     }
 }

@@ -9,7 +9,7 @@
 //! The numbers here are a policy: any others would keep what the calls of a [`Store`] promise.
 
 use crate::core::{DelayCore, Words};
-use crate::growing::cores::{Cores, TakeError};
+use crate::growing::cores::{is_foldable, Cores, TakeError};
 use crate::growing::store::Store;
 use crate::growing::sweeping::Sweep;
 use crate::growing::NEVER;
@@ -91,6 +91,7 @@ fn roomiest<T, W: Words>(cores: &Cores<T, W>, any_will_do: bool) -> Room {
     roomiest
 }
 
+// Whether more than half of a core's slots are worn.
 fn is_worn<T, W: Words>(core: &DelayCore<T, W>) -> bool {
     core.worn() > core.capacity() / 2
 }
@@ -140,6 +141,11 @@ fn straggler_in<T, W: Words>(store: &Store<T, W>, place: usize) -> Option<EntryI
         return None;
     }
     store.first_in(place)
+}
+
+// Whether a core will do where one of so many slots is wanted: one of half the size, or of twice, will.
+fn will_do<T, W: Words>(core: &DelayCore<T, W>, wanted: usize) -> bool {
+    wanted / 2 <= core.capacity() && core.capacity() / 2 <= wanted
 }
 
 // Whether half of the open core is free.
@@ -229,7 +235,10 @@ impl Sizing {
         let Some(open) = cores.get(cores.opened()) else {
             return false;
         };
-        is_small(open) && self.kept == 0 && self.next_capacity(cores) <= open.capacity() / 4
+        if self.kept > 0 || !is_small(open) {
+            return false;
+        }
+        self.next_capacity(cores) <= open.capacity() / 4
     }
 
     // Whether the open core is to be exchanged though it isn't full.
@@ -279,68 +288,58 @@ impl Sizing {
     }
 
     // Whether an empty core isn't needed soon: it is worn, or there is memory enough without it.
-    fn is_needless<T, W: Words>(&self, cores: &Cores<T, W>, core: &DelayCore<T, W>, slots: usize) -> bool {
+    fn is_needless<T, W: Words>(&self, cores: &Cores<T, W>, core: &DelayCore<T, W>) -> bool {
         if is_worn(core) {
             return true;
         }
         if self.kept > 0 {
-            return slots.saturating_sub(core.capacity()) >= self.kept;
+            return slots(cores).saturating_sub(core.capacity()) >= self.kept;
         }
-        let wanted = self.next_capacity(cores);
-        // One of half the size, or of twice, will do.
-        let fits = wanted / 2 <= core.capacity() && core.capacity() / 2 <= wanted;
-        !fits || is_open_half_free(cores)
+        !will_do(core, self.next_capacity(cores)) || is_open_half_free(cores)
     }
 
     // Whether the core at a place has drained, and isn't needed soon.
-    fn is_needless_at<T, W: Words>(&self, cores: &Cores<T, W>, place: usize, slots: usize) -> bool {
+    fn is_needless_at<T, W: Words>(&self, cores: &Cores<T, W>, place: usize) -> bool {
         if place == cores.opened() {
             return false;
         }
         let Some(core) = cores.get(place) else {
             return false;
         };
-        core.is_empty() && core.deferred() == 0 && self.is_needless(cores, core, slots)
+        is_foldable(core) && self.is_needless(cores, core)
     }
 
-    fn has_needless<T, W: Words>(&self, cores: &Cores<T, W>) -> bool {
-        let slots = slots(cores);
+    // The place of such a core.
+    fn needless<T, W: Words>(&self, cores: &Cores<T, W>) -> Option<usize> {
         for at in 0..cores.count() {
-            if self.is_needless_at(cores, at, slots) {
-                return true;
+            if self.is_needless_at(cores, at) {
+                return Some(at);
             }
         }
-        false
+        None
+    }
+
+    // Whether there is such a core.
+    fn has_needless<T, W: Words>(&self, cores: &Cores<T, W>) -> bool {
+        match self.needless(cores) {
+            Some(_) => true,
+            None => false,
+        }
+    }
+
+    // Whether the open core is too large, or some core isn't needed.
+    fn is_to_shrink<T, W: Words>(&self, cores: &Cores<T, W>) -> bool {
+        self.is_too_large(cores) || self.has_needless(cores)
     }
 
     /// Takes a core out that has drained and isn't needed soon. Folded, it keeps its words alone.
     pub fn take_needless<T, W: Words>(&mut self, store: &mut Store<T, W>) -> Option<DelayCore<T, W>> {
         self.has_work = false;
-        if !self.has_needless(store.cores()) {
-            return None;
-        }
+        let at = self.needless(store.cores())?;
         // The cores get other places.
         self.sweep.restart(slots(store.cores()));
-        for _turn in 0..store.cores().count() {
-            if let Some(core) = self.take_first(store) {
-                return Some(core);
-            }
-        }
-        None
-    }
-
-    // Takes the first core off that has drained, where it isn't needed soon. Else it is the last one, and the next one
-    // the first.
-    fn take_first<T, W: Words>(&self, store: &mut Store<T, W>) -> Option<DelayCore<T, W>> {
-        let slots = slots(store.cores());
-        let core = store.take_drained()?;
-        if self.is_needless(store.cores(), &core, slots) {
-            return Some(core);
-        }
-        if let Err((_, core)) = take_in(store, core, false) {
-            return Some(core);
-        }
-        None
+        let core = store.take_at(at);
+        Some(core)
     }
 
     /// Returns an entry that may be moved into the open core, so that its own one drains: the one that is scheduled
@@ -355,25 +354,46 @@ impl Sizing {
         None
     }
 
+    fn has_straggler<T, W: Words>(&self, store: &Store<T, W>) -> bool {
+        match self.straggler(store) {
+            Some(_) => true,
+            None => false,
+        }
+    }
+
     /// Whether something is to be done, beside a sweep.
     pub fn is_busy<T, W: Words>(&self, store: &Store<T, W>) -> bool {
-        self.has_work || self.straggler(store).is_some() || self.has_needless(store.cores())
+        if self.has_work {
+            return true;
+        }
+        if self.has_straggler(store) {
+            return true;
+        }
+        self.has_needless(store.cores())
     }
 
     /// Notes that an entry left its core, and that so many are left.
     #[inline(always)]
     pub fn note_left<T, W: Words>(&mut self, store: &Store<T, W>, left: u64) {
-        let looks = left < LAST || left % LOOKS == 0;
-        if looks && may_shrink(store.cores()) {
-            self.look_after(store);
+        if !is_look(left) {
+            return;
         }
+        if !may_shrink(store.cores()) {
+            return;
+        }
+        self.look_after(store);
     }
 
     #[cold]
     fn look_after<T, W: Words>(&mut self, store: &Store<T, W>) {
-        if self.is_too_large(store.cores()) || self.has_needless(store.cores()) {
+        if self.is_to_shrink(store.cores()) {
             self.note_work();
-        } else if self.quiet_since != NEVER && self.straggler(store).is_some() {
+            return;
+        }
+        if self.quiet_since == NEVER {
+            return;
+        }
+        if self.has_straggler(store) {
             // It is moved once there is time.
             self.quiet_since = NEVER;
         }
@@ -388,6 +408,12 @@ impl Sizing {
     pub fn is_kept(&self) -> bool {
         self.kept > 0
     }
+}
+
+// Whether it is looked at the cores as an entry left, and so many are left.
+#[inline(always)]
+fn is_look(left: u64) -> bool {
+    left < LAST || left % LOOKS == 0
 }
 
 // Whether there may be less to keep: there are several cores, or an eighth of the one is used at most.

@@ -330,6 +330,12 @@ impl<T, W: Words> Store<T, W> {
     pub fn take_drained(&mut self) -> Option<DelayCore<T, W>> {
         self.cores.take_drained()
     }
+
+    // Takes the core at a place out, which has drained.
+    pub(crate) fn take_at(&mut self, place: usize) -> DelayCore<T, W> {
+        // requires (c : Core T W) × HasDrained self.old.cores place c
+        self.cores.take_at(place)
+    }
 }
 
 impl<T, W: Words> Store<T, W> {

@@ -75,8 +75,11 @@ impl Sizing {
 
     // Notes whether there is nothing more to do since so many cancels.
     fn note_swept<T, W: Words>(&mut self, store: &Store<T, W>, cancels: u64) {
-        let is_quiet = self.sweep.left == 0 && !self.is_busy(store);
-        self.quiet_since = if is_quiet { cancels } else { NEVER };
+        self.quiet_since = if self.is_quiet(store) { cancels } else { NEVER };
+    }
+
+    fn is_quiet<T, W: Words>(&self, store: &Store<T, W>) -> bool {
+        self.sweep.left == 0 && !self.is_busy(store)
     }
 
     fn sweep_some<T, W: Words>(&mut self, store: &mut Store<T, W>) {

@@ -17,3 +17,6 @@ returns-clause-keeps g c = rw (← c.self.view_is) c.finds_room.ensures.keeps
 
 pub returns-clause-holds : goal.returns-clause-holds
 returns-clause-holds g c = rw (← c.self.view_is) c.finds_room.ensures.holds
+
+pub returns-clause-notes : goal.returns-clause-notes
+returns-clause-notes g c = rw (← c.self.view_is) c.finds_room.ensures.notes

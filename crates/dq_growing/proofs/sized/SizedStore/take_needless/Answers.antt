@@ -21,3 +21,9 @@ returns-clause-holds g c = rw (← c.self.view_is) c.take_needless.ensures.holds
 
 pub returns-clause-tick : goal.returns-clause-tick
 returns-clause-tick g c = rw (← c.self.view_is) c.take_needless.ensures.tick
+
+pub returns-clause-needless : goal.returns-clause-needless
+returns-clause-needless g c = rw (← c.self.view_is) c.take_needless.ensures.needless
+
+pub returns-clause-none : goal.returns-clause-none
+returns-clause-none g c = rw (← c.self.view_is) c.take_needless.ensures.none

@@ -1,5 +1,5 @@
-use Rattle.std.proofs.Common.{sym}
-use Rattle.dq_growing.proofs.Sizes.{clear_as, clear_room, opens_or_stays, still}
+use Rattle.std.proofs.Common.{sym, refl, inr}
+use Rattle.dq_growing.proofs.Sizes.{clear_as, clear_room, notes_elsewhere, opens_or_stays, still}
 use Rattle.dq_growing.proofs.sizing.Sizing.finds_room.Goals as goal
 
 pub returns-then-has_open_room-clause-room : goal.returns-then-has_open_room-clause-room
@@ -25,3 +25,13 @@ returns-clause-stays g c x = absurd (c.has_open_room.ensures.no c.if-has_open_ro
 
 pub returns-clause-other : goal.returns-clause-other
 returns-clause-other g c = opens_or_stays c.opens_another.result c.args.store.now c.opens_another.new.store c.args.any_will_do c.opens_another.ensures.may c.opens_another.ensures.kept
+
+pub returns-then-has_open_room-clause-notes : goal.returns-then-has_open_room-clause-notes
+returns-then-has_open_room-clause-notes g c =
+    let clear = clear_as _ c.args.store.now.cores c.cores.ensures (c.has_open_room.ensures.yes c.if-has_open_room.true) in
+    inr ((λ x. x.1 clear), refl)
+
+pub returns-clause-notes : goal.returns-clause-notes
+returns-clause-notes g c =
+    notes_elsewhere c.args.store.now.cores c.opens_another.result c.args.self.now c.opens_another.new.self
+    (λ x. c.has_open_room.ensures.no c.if-has_open_room.false (clear_as c.args.store.now.cores _ (sym c.cores.ensures) x)) c.opens_another.ensures.notes

@@ -1,5 +1,5 @@
 use Rattle.std.proofs.Common.{arith}
-use Rattle.dq_growing.proofs.Sizes.{still, none_to_open, opens_clear, opens_found, opens_may, opens_only, store_is}
+use Rattle.dq_growing.proofs.Sizes.{still, none_to_open, opens_clear, opens_found, opened_notes, opens_may, opens_only, store_is}
 use Rattle.dq_growing.proofs.sizing.Sizing.opens_another.Goals as goal
 
 pub returns-then-room-eq0-clause-none : goal.returns-then-room-eq0-clause-none
@@ -32,3 +32,9 @@ returns-clause-may g c =
 
 pub returns-clause-kept : goal.returns-clause-kept
 returns-clause-kept g c is = store_is c.args.store.now c.open.new.self (c.open.ensures.refused is).1 c.open.ensures.notes
+
+pub returns-clause-notes : goal.returns-clause-notes
+returns-clause-notes g c =
+    let some = c.if-room-eq0.false in
+    opened_notes c.args.store.now c.open.new.self _ c.open.result c.args.any_will_do c.roomiest-room.result c.args.self.now c.note_work.new.self c.open.ensures.refused c.cores.ensures c.roomiest-room.ensures
+    (omega (arith, some)) c.note_work.ensures
