@@ -30,7 +30,7 @@ use Rattle.dq_growing.specs.Polls.{PollsRow, PollsCore, RestsIn, DoesPiece, Does
 use Rattle.dq_growing.specs.Runs.{IsUsedId, KeepsIds, GivesId, IsNotBefore, NotDueBefore, HoldsDeadline, HoldsDeadlines, HoldsOtherDeadlines, LeavesInForce, KeepsItsDeadline}
 use Rattle.dq_growing.specs.Sizing.{AllWere, ComesInto}
 use Rattle.dq_growing.specs.Stands.{IsThere, HasEntry, HasNoEntry, KeepsWords, OneLeaves}
-use Rattle.dq_growing.specs.Store.{StoreState, IsStore, StandsFor, ComesFor, GoesOnFor, RelocatesFor, NotesAfter, NotesAnswered, piece_as, answer_as, key_told}
+use Rattle.dq_growing.specs.Store.{StoreState, ChangesFor, IsStore, StandsFor, ComesFor, GoesOnFor, RelocatesFor, NotesAfter, NotesAnswered, piece_as, answer_as, key_told}
 use Rattle.dq_growing.specs.declared.cores.TakeError.{TakeError}
 use Rattle.dq_growing.specs.declared.moving.Moved.{Moved}
 use Rattle.dq_growing.specs.declared.moving.Moved.TheVariants.{To, Out}
@@ -495,6 +495,22 @@ module _ {T W : Type 0} where
       not_sooner x d e.due low (going_due s t w d law has goes e (subst S is z)))
       (λ (ne : u ≢ w). none e (goes.others.1 u e ne z))
       (one_or_two u w)
+
+  -- a change of a value, by its answer: the entry has the deadline that it had
+  pub changed_hold : {R : Type 0} (Makes : T → R → T → Type 0) (s t : StoreState T W) (u : EntryId) (r : Option R) → IsStore t → AreCores t.cores → ChangesFor Makes s u r t → HoldsDeadlines s t
+  changed_hold {R} Makes s t u None law has did w given x none e z = let P : StoreState T W → Type 0 = λ k. StandsFor k w e in none e (subst P did.1 z)
+  changed_hold {R} Makes s t u (Some a) law has did w given x none e z =
+      ⊎_elim
+      (λ (is : w ≡ u).
+      let S : EntryId → Type 0 = λ k. StandsFor t k e in
+      let N : EntryId → Type 0 = λ k. NotDueBefore s k x in
+      let was : Entry T = did.entry in
+      let now : Entry T = record was { value = did.value } in
+      let same : now ≡ e = one_entry t law has u now e did.here (subst S is z) in
+      let D : Option ℕ → Type 0 = λ o. IsNotBefore x o in
+      subst D (ap (λ (k : Entry T). k.due) same) ((subst N is none) was did.was))
+      (λ (ne : w ≢ u). none e (did.others.1 w e ne z))
+      (one_or_two w u)
 
   relocation_raises : {O : Type 0} (origin : W → O) (begun : W → ℕ → ℕ → ℕ → Type 0) (shared : Bool) (s t : CoreRow T W) (id : EntryId) (next : NextDeadline) (e : CoreError) (beside : Option T)
       → KeepsWords origin begun s t → Relocates shared id next (Err e, beside) s t → (q : EntryId) → RowRaises s t q

@@ -21,13 +21,13 @@ use Rattle.dq_core.specs.Sweeps.{Reaps}
 use Rattle.dq_core.specs.Words.{word_at}
 use Rattle.dq_core.proofs.RunsMoves.{put_same}
 use Rattle.dq_core.proofs.Ways.{table_row_is}
-use Rattle.dq_growing.specs.Cores.{CoreRow, AreCores, HaveOwnNumbers, IsCoreAt, OnCoreAt, TakesIn, TakeRefused, GivesDrained, InsertsIn, InsertsBeside, closed_error, with_core}
+use Rattle.dq_growing.specs.Cores.{CoreRow, AreCores, HaveOwnNumbers, IsCoreAt, OnCoreAt, OnCoreOr, TakesIn, TakeRefused, GivesDrained, InsertsIn, InsertsBeside, closed_error, with_core}
 use Rattle.dq_growing.specs.Moving.{IfTo, IfCameOut, GoesOnIn}
 use Rattle.dq_growing.specs.Notes.{Book, AreNotes, ArePastBy, AllArePast, SameNotes, Forgets, meant_place, with_id, numbers_of, or_own, user_at}
 use Rattle.dq_growing.specs.Polls.{PollsRow, PollsCore, RestsIn, DoesPiece, DoesPoll, IfPieceOut, noting_in, told}
-use Rattle.dq_growing.specs.Runs.{StoreCall, IsUsedId, GaveOut, KeepsId, KeepsIds, KeepsIdsBeside, GivesId, GoesByStoreCalls, NoneFrom, StandsUntil, StoreEntriesLeaveOnce, StoreEndedStaysEnded, CoresGiveNoneAnew}
+use Rattle.dq_growing.specs.Runs.{StoreCall, IsUsedId, GaveOut, KeepsId, KeepsIds, KeepsIdsBeside, KeepsOtherIds, GivesId, GoesByStoreCalls, NoneFrom, StandsUntil, StoreEntriesLeaveOnce, StoreEndedStaysEnded, CoresGiveNoneAnew}
 use Rattle.dq_growing.specs.Stands.{IsThere, IsPastAt, IsPastIn, AgesAs, Ages, OneLeaves, HasEntry, HasNoEntry, StandsAlike}
-use Rattle.dq_growing.specs.Store.{StoreState, IsStore, StandsFor, HasFor, HasOneValue, NoneStandsFor, GoesOnFor, GoesOut, NotesAfter, NotesAnswered, piece_as}
+use Rattle.dq_growing.specs.Store.{StoreState, ChangesFor, IsStore, StandsFor, HasFor, HasOneValue, NoneStandsFor, GoesOnFor, GoesOut, NotesAfter, NotesAnswered, piece_as}
 use Rattle.dq_growing.specs.declared.cores.TakeError.{TakeError}
 use Rattle.dq_growing.specs.declared.moving.Moved.{Moved}
 use Rattle.dq_growing.specs.declared.moving.Moved.TheVariants.{To, Out}
@@ -412,6 +412,26 @@ module _ {T W : Type 0} where
   gives_new s cores v when (Ok k, beside) has (inl on) = gives_at s cores v when k beside has on
   gives_new s cores v when (Ok k, beside) has (inr y) = absurd (ok_not_err k (closed_error when, v) (ap (λ z. z.0) y.1))
   gives_new s cores v when (Err e, beside) has did = tt {0}
+
+  -- a change of a value, by its answer
+  pub changed_used : (s : StoreState T W) (cores : CoreRow T W) (number : ℕ) (P : Core T W → Core T W → Type 0) (R : Type 0) → OnCoreOr number P R s.cores cores
+      → ((id : EntryId) → IsPastIn s.cores id → IsPastIn cores id) → (id : EntryId) → IsUsedId s id → IsUsedId (stored cores s.notes) id
+  changed_used s cores number P R (inl on) past id used = let N : CoreRow T W → Type 0 = λ k. id.shard < k.next in (subst N (sym on.rest) used.0, past id used.1)
+  changed_used s cores number P R (inr y) past id used = let N : CoreRow T W → Type 0 = λ k. id.shard < k.next in (subst N (sym y.2) used.0, past id used.1)
+
+  pub changed_keep : {R : Type 0} (Makes : T → R → T → Type 0) (s t : StoreState T W) (u : EntryId) (r : Option R) → ChangesFor Makes s u r t
+      → ((id : EntryId) → IsUsedId s id → IsUsedId t id) → KeepsOtherIds u s t
+  changed_keep {R} Makes s t u None did up w given =
+      let P : StoreState T W → Type 0 = λ k. KeepsId s k w in
+      (up w given, (λ ne. subst P (sym did.1) (record { given = given; stays = λ v z. inl z; stood = λ v z. z })))
+  changed_keep {R} Makes s t u (Some a) did up w given = (
+    up w given,
+    (λ ne. record {
+      given = up w given;
+      stays = λ v z. inl (z.0, did.others.0 w z.0 ne z.1, z.2);
+      stood = λ v z. (z.0, did.others.1 w z.0 ne z.1, z.2);
+    }),
+  )
 
   -- a core comes in
   module _ (s : StoreState T W) (cores : CoreRow T W) (c : Core T W) (law : IsStore s) (lawful : IsLawfulCore c) (takes : TakesIn s.cores c cores) where

@@ -114,6 +114,9 @@ callers_alike shared last m n way = callers_run shared last m n way.0 way.1 way.
 pub within : {T W : Type 0} (c : Core T W) → linked_in c + worn_in c ≤ length c.slots.rows
 within c = let parts = parted c.slots.last_stamp c.slots.rows in omega (arith, parts)
 
+pub same_begun : {W : Type 0} (begun : W → ℕ → ℕ → ℕ → Type 0) (v w : W) → w ≡ v → StillBegun begun v w
+same_begun {W} begun v w is i t d y = let P : W → Type 0 = λ k. begun k i t d in subst P (sym is) y
+
 module _ {T W : Type 0} where
   -- what the core says of the deadline with which an entry is taken out
   pub in_time : (shared : Bool) (b c : Core T W) (id : EntryId) (x : Removed T) → IsLawfulCore b → HoldsValue b id x.value → IsRemoved shared b id x c → x.deadline ≤ LAST_TICK
@@ -420,6 +423,10 @@ module _ {T W : Type 0} where
       (λ here. let P : ℕ → Type 0 = λ k. (table_at (machine c) k).stamp ≡ (table_at (machine b) k).stamp in
       subst P (sym here) (ap (λ r. r.stamp) (put_same (machine b) (machine c) i s (Some f) has.0 is)))
       (λ n. ap (λ r. r.stamp) (put_other (machine b) (machine c) j i s (Some f) n is))
+
+  pub changed_words : {R : Type 0} (Makes : T → R → T → Type 0) (b c : Core T W) (id : EntryId) (r : Option R) → ChangesValue Makes b id r c → c.words ≡ b.words
+  changed_words {R} Makes b c id None did = ap (λ (k : Core T W). k.words) did.1
+  changed_words {R} Makes b c id (Some a) did = ap (λ (k : Core T W). k.words) did.4
 
   pub all_words : {O : Type 0} (origin : W → O) (begun : W → ℕ → ℕ → ℕ → Type 0) (s : CoreRow T W) → KeepsWords origin begun s s
   all_words {O} origin begun s i b at = (b, at, refl, refl, λ k t u y. y)

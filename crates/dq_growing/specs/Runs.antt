@@ -43,6 +43,10 @@ module _ {T W : Type 0} where
   abbrev pub KeepsIds : StoreState T W → StoreState T W → Type 0
   KeepsIds s t = (u : EntryId) → IsUsedId s u → KeepsId s t u
 
+  -- no new entry gets an id that one has had; and a call kept each such id but one
+  abbrev pub KeepsOtherIds : EntryId → StoreState T W → StoreState T W → Type 0
+  KeepsOtherIds id s t = (u : EntryId) → IsUsedId s u → IsUsedId t u × (u ≢ id → KeepsId s t u)
+
   -- so of each such id that a core which comes in doesn't give anew
   abbrev pub KeepsIdsBeside : Core T W → StoreState T W → StoreState T W → Type 0
   KeepsIdsBeside c s t =

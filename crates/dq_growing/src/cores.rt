@@ -368,6 +368,7 @@ impl<T, W: Words, A: Allocator> Cores<T, W, A> {
         ensures exact { OnCoreOr entry.now.shard
             (λ b c. ChangesValue (FnOnceReturnsAtMut F.FnOnce call) b entry.now result c)
             (result ≡ None) self.old self.new }
+        ensures words { KeepsWords W.origin W.begun self.old self.new }
     {
         let Some(at) = self.place_of(entry.shard()) else {
             return None;

@@ -12,7 +12,7 @@ ghost use Rattle.dq_growing.specs.Cores.{AreCores, HasNo, InsertsIn};
 ghost use Rattle.dq_growing.specs.Moving.{HasBegunIn, HasOpenRoom, IfCameOut, IfTo, UnlessTo};
 ghost use Rattle.dq_growing.specs.Notes.{HasNoteRoom, SameNotes, user_at};
 ghost use Rattle.dq_growing.specs.Polls.{DoesPoll, DoesPiece, IfPieceOut, IfPieceRests, NoneLiveIn, TakesDeferredIn};
-ghost use Rattle.dq_growing.specs.Runs.{GivesId, HoldsDeadlines, HoldsOtherDeadlines, KeepsIds, KeepsIdsBeside, KeepsItsDeadline, LeavesInForce, NotDueBefore};
+ghost use Rattle.dq_growing.specs.Runs.{GivesId, HoldsDeadlines, HoldsOtherDeadlines, KeepsIds, KeepsIdsBeside, KeepsItsDeadline, KeepsOtherIds, LeavesInForce, NotDueBefore};
 ghost use Rattle.dq_growing.specs.Sized.{hint_after, hint_asked, KeepsHint, NotesNext};
 ghost use Rattle.dq_growing.specs.Sizing.{anew, fresh_sizing, way_for, with_work, AllWere, ComesInto, FoundElsewhere, HasClearAt, HasNoRoom, IsNeedless, KeepsTick, NoneNeedless, NotesLeft, NotesWorkIf, OnlyOpens, OpensOne, OpensWanted, StaysOpen, SweepsNext, TellsQuiet, WasBeside};
 ghost use Rattle.dq_growing.specs.Stands.{KeepsWords, OneLeaves, SameStand};
@@ -353,6 +353,9 @@ impl<T, W: Words, A: Allocator + Clone> SizedStore<T, W, A> {
             self.old.store entry.now result self.new.store }
         ensures exact { ChangesThere (FnOnceReturnsAtMut F.FnOnce call)
             self.old.store entry.now result self.new.store }
+        ensures words { KeepsWords W.origin W.begun self.old.store.cores self.new.store.cores }
+        ensures keeps { KeepsOtherIds entry.now self.old.store self.new.store }
+        ensures holds { HoldsDeadlines self.old.store self.new.store }
         ensures rest { KeepsHint self.old self.new }
     {
         let answer = self.store.with_value(entry, call);

@@ -5,7 +5,7 @@ ghost use Rattle.std.specs.Fn.{FnOnceReturnsAtMut};
 ghost use Rattle.dq_growing.specs.Cores.{OnCoreAt, SweepsFrom, TellsNextIn};
 ghost use Rattle.dq_growing.specs.Notes.{HasNoteRoom, SameNotes, meant_place};
 ghost use Rattle.dq_growing.specs.Polls.{TakesDeferredIn};
-ghost use Rattle.dq_growing.specs.Runs.{HoldsDeadlines, KeepsIds};
+ghost use Rattle.dq_growing.specs.Runs.{HoldsDeadlines, KeepsIds, KeepsOtherIds};
 ghost use Rattle.dq_growing.specs.Stands.{KeepsWords};
 ghost use Rattle.dq_growing.specs.Store.{ChangesFor, ChangesThere, HasFor, NoneStandsFor, TellsFirstIn, TellsFrom, TellsPlaceFor};
 
@@ -75,11 +75,15 @@ impl<T, W: Words, A: Allocator + Clone> Store<T, W, A> {
         // Exactly: a change at the place that the notes tell, and nothing else changes.
         ensures exact { ChangesThere (FnOnceReturnsAtMut F.FnOnce call)
             self.old entry.now result self.new }
+        ensures words { KeepsWords W.origin W.begun self.old.cores self.new.cores }
+        ensures keeps { KeepsOtherIds entry.now self.old self.new }
+        ensures holds { HoldsDeadlines self.old self.new }
     {
         let Some(place) = self.notes.place(entry) else {
             return None;
         };
         let answer = self.cores.with_value(&place, call);
+        self.cores.law();
         answer
     }
 

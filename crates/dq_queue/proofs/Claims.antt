@@ -26,7 +26,7 @@ use Rattle.dq_growing.specs.Polls.{PollsRow, TakesDeferredAt, TakesDeferredIn}
 use Rattle.dq_growing.specs.declared.sweeping.Sweep.{Sweep}
 use Rattle.dq_growing.specs.Sizing.{AllWere, ComesInto, OnlyOpens, OpensWanted, SweepsNext, WasBeside}
 use Rattle.dq_growing.specs.Stands.{KeepsWords}
-use Rattle.dq_growing.specs.Store.{StoreState, StandsFor, AfterReset, PollsFor, ReapsFor, RelocatesFor, RemovesAt, RemovesFor, RemovesIfDueFor, ResetsFor, ResetsThere, TellsFor}
+use Rattle.dq_growing.specs.Store.{ChangesThere, StoreState, StandsFor, AfterReset, PollsFor, ReapsFor, RelocatesFor, RemovesAt, RemovesFor, RemovesIfDueFor, ResetsFor, ResetsThere, TellsFor}
 use Rattle.dq_growing.proofs.Keeping.{all_keep}
 use Rattle.dq_growing.proofs.Sizes.{all_stand}
 use Rattle.dq_growing.proofs.Rows.{at_after, one_at, at_snoc, snoc_long, snoc_before, snoc_last}
@@ -115,6 +115,10 @@ module _ {T : Type 0} where
   removes_if_due_long s t u tick (Ok (Some x)) y = removes_long s t u (Ok x) y.1
   removes_if_due_long s t u tick (Ok None) y = tells_long s t u (Ok y.0) y.2
   removes_if_due_long s t u tick (Err e) y = removes_long s t u (Err e) y
+
+  pub changes_long : {R : Type 0} (Makes : T → R → T → Type 0) (s t : StoreState T Sat) (u : EntryId) (r : Option R) → ChangesThere Makes s u r t → SameLength s.cores t.cores
+  changes_long {R} Makes s t u r (inl y) = or_long s.cores t.cores _ _ _ y.2.0
+  changes_long {R} Makes s t u r (inr y) = same_store s t y.1.1
 
   pub reaps_long : (s t : StoreState T Sat) (u : EntryId) (r : Result (Unit {0}) ReapError) → ReapsFor true s u r t → SameLength s.cores t.cores
   reaps_long s t u r (inl y) = or_long s.cores t.cores _ _ _ y.2.0

@@ -59,7 +59,7 @@ use Rattle.dq_words.specs.Files.{Among, file, IsIn}
 use Rattle.dq_words.specs.KeeperCalls.{HasBegun}
 use Rattle.dq_words.specs.Rule.{Had, HadAt, Ruled}
 use Rattle.dq_words.specs.Seats.{Sat}
-use Rattle.dq_queue.specs.Calls.{DoesSteps, KeepsNumbers, NoneLeft, StorePolls, StoreRelocates, StoreRemoves}
+use Rattle.dq_queue.specs.Calls.{DoesSteps, KeepsNumbers, NoneLeft, StoreExchanges, StorePolls, StoreRelocates, StoreRemoves}
 use Rattle.dq_queue.specs.Endings.{InEachTable, IsKeptCore, present_key}
 use Rattle.dq_queue.specs.Leaving.{EachLosesNone, LosesNone, NoneIsLostIn, StoreLosesNone, WasCancelledIn, WasCancelledOnce}
 use Rattle.dq_queue.specs.Shards.{Held, IsStoreHistory}
@@ -724,6 +724,15 @@ module _ {T : Type 0} where
       λ u none. first u (then u none)
   resets_left s t id when r beside law cores (inr (nowhere, (is, same))) = same_none_left s t same
 
+-- an exchange of a value takes no entry away
+exchange_left : {T : Type 0} (s t : StoreState T Sat) (id : EntryId) → StoreExchanges id s t → NoneLeft s t
+exchange_left s t id (inl same) u none e z = (same_none_left s t same) u none e z
+exchange_left {T} s t id (inr (was, now, x)) u none e z =
+    ⊎_elim
+    (λ (is : u ≡ id). let P : EntryId → Type 0 = λ k. NoneStandsFor t k in let f = x.has.0 in (subst P is none) f.0 f.1)
+    (λ (ne : u ≢ id). none e (x.others.0 u e ne z))
+    (one_or_two u id)
+
 -- each call
 pub loses_none : (T : Type 0) → StoreLosesNone T
 loses_none T s t (inl y) = let did = y.3 in none_lost s t (still s t (inserts_row s.cores t.cores y.0 y.1 y.2 did.0) (same_users s.notes t.notes did.1))
@@ -737,9 +746,10 @@ loses_none T s t (inr (inr (inr (inr (inr (inr (inr (inl y)))))))) = let did = y
 loses_none T s t (inr (inr (inr (inr (inr (inr (inr (inr (inl y))))))))) = let did = y.2 in reaps_lose s t y.0 y.1 did.0 did.3
 loses_none T s t (inr (inr (inr (inr (inr (inr (inr (inr (inr (inl y)))))))))) = let did = y.3 in none_lost s t did.1.4
 loses_none T s t (inr (inr (inr (inr (inr (inr (inr (inr (inr (inr (inl y))))))))))) = let did = y.1 in none_lost s t (still s t (deferred_row s.cores t.cores y.0 did.0) (same_users s.notes t.notes did.1))
-loses_none T s t (inr (inr (inr (inr (inr (inr (inr (inr (inr (inr (inr (inl y)))))))))))) = let did = y.2 in none_lost s t (opens_left s t did.0)
-loses_none T s t (inr (inr (inr (inr (inr (inr (inr (inr (inr (inr (inr (inr (inl y))))))))))))) = none_lost s t (still s t (same_row s.cores t.cores (ap (λ (k : CoreRow T Sat). k.cores) y.0)) (kept_users s.notes t.notes y.1))
-loses_none T s t (inr (inr (inr (inr (inr (inr (inr (inr (inr (inr (inr (inr (inr y))))))))))))) = let did = y.1 in sweeps_lose s t y.0 did.0 did.1 did.4
+loses_none T s t (inr (inr (inr (inr (inr (inr (inr (inr (inr (inr (inr (inl y)))))))))))) = let did = y.1 in none_lost s t (exchange_left s t y.0 did)
+loses_none T s t (inr (inr (inr (inr (inr (inr (inr (inr (inr (inr (inr (inr (inl y))))))))))))) = let did = y.2 in none_lost s t (opens_left s t did.0)
+loses_none T s t (inr (inr (inr (inr (inr (inr (inr (inr (inr (inr (inr (inr (inr (inl y)))))))))))))) = none_lost s t (still s t (same_row s.cores t.cores (ap (λ (k : CoreRow T Sat). k.cores) y.0)) (kept_users s.notes t.notes y.1))
+loses_none T s t (inr (inr (inr (inr (inr (inr (inr (inr (inr (inr (inr (inr (inr (inr y)))))))))))))) = let did = y.1 in sweeps_lose s t y.0 did.0 did.1 did.4
 
 -- over a history
 each_loses_none : {T : Type 0} (log : List (Call (Held T))) (history : IsStoreHistory log) → EachLosesNone log history

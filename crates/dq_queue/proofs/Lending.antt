@@ -18,7 +18,7 @@ use Rattle.dq_journal.specs.Views.{first_witness}
 use Rattle.dq_growing.specs.declared.cores.TakeError.{TakeError}
 use Rattle.dq_growing.specs.Cores.{HasNo, IsCoreAt}
 use Rattle.dq_growing.specs.Notes.{ArePastBy, numbers_of}
-use Rattle.dq_growing.specs.Runs.{IsUsedId, KeepsId}
+use Rattle.dq_growing.specs.Runs.{IsUsedId}
 use Rattle.dq_growing.specs.Sizing.{WasBeside}
 use Rattle.dq_growing.specs.Store.{StoreState}
 use Rattle.dq_growing.proofs.Rows.{at_snoc, snoc_last, snoc_long}
@@ -28,7 +28,7 @@ use Rattle.dq_words.specs.Seats.{Sat}
 use Rattle.dq_queue.specs.Calls.{HasGiven, IsStoreCall, StoreTakesIn, StoreGives}
 use Rattle.dq_queue.specs.Claims.{AreClaimed, AreClaimsOf, BringsNoCore, ClaimsWords, HasClaim, IsClaimAt, IsClaimed}
 use Rattle.dq_queue.specs.Loans.{is_away, IsLent, IsLentCore, IsLentFold, IsAway, IsAwayBy, IsStill, LoansAreKept}
-use Rattle.dq_queue.specs.Runs.{ByCall, IsNewNumber, KeepsGivenIds, WasGivenIn}
+use Rattle.dq_queue.specs.Runs.{ByCall, IsNewNumber, KeepsGiven, KeepsGivenIds, WasGivenIn}
 use Rattle.dq_queue.specs.Shards.{Held, IsAsLeft, IsStoreHistory}
 use Rattle.dq_queue.proofs.Claims.{claim_before, claim_last, claim_more, comes_claimed, more_claimed, same_cores, still_claimed, were_there}
 use Rattle.dq_queue.proofs.Runs.{BringsNone, by_call, keeps_id, used_in}
@@ -150,13 +150,13 @@ module _ {T : Type 0} where
     pub past : (u : EntryId) → WasGivenIn log u → (k : ℕ) (c : Core T Sat) → IsAway more k c → ArePastBy (numbers_of u) c
     pub apart : (k l : ℕ) (c d : Core T Sat) → IsAway more k c → IsAway more l d → c.shard ≡ d.shard → k ≡ l
 
-  kept_by : (log : List (Entry (Held T))) (e : Entry (Held T)) (a b : Held T) (u : EntryId) → e.left ≡ Some b → IsAsLeft log a → WasGivenIn log u → KeepsId a.store b.store u
-      → ByCall (λ s t. KeepsId s t u) e log
+  kept_by : (log : List (Entry (Held T))) (e : Entry (Held T)) (a b : Held T) (u : EntryId) → e.left ≡ Some b → IsAsLeft log a → WasGivenIn log u → KeepsGiven u a.store b.store
+      → ByCall (KeepsGiven u) e log
   kept_by [] e a b u left at given kept = absurd given
-  kept_by (x ∷ xs) e a b u left at given kept = by_call (λ s t. KeepsId s t u) e [] x xs a b at left kept
+  kept_by (x ∷ xs) e a b u left at given kept = by_call (KeepsGiven u) e [] x xs a b at left kept
 
   pub step : (log : List (Entry (Held T))) (e : Entry (Held T)) (a b : Held T) (loans more : List (Entry (Core T Sat))) (was is : List (Claimed Open))
-      → LoansAreKept log a.store loans was → e.left ≡ Some b → IsAsLeft log a → ((u : EntryId) → WasGivenIn log u → KeepsId a.store b.store u)
+      → LoansAreKept log a.store loans was → e.left ≡ Some b → IsAsLeft log a → ((u : EntryId) → WasGivenIn log u → KeepsGiven u a.store b.store)
       → AreClaimed b.store.cores.cores is → ((j : ℕ) (k : Claimed Open) → IsClaimAt was j k → IsClaimAt is j k)
       → Leaves log b.store more is → LoansAreKept (e ∷ log) b.store more is
   step log e a b loans more was is old left at keeps claimed wider leaves = record {
@@ -219,7 +219,7 @@ module _ {T : Type 0} where
   no_core_of s t n brings none i c at same = let b = brings i c at in none b.0 b.1 b.2 (sym b.3 ∙ same)
 
   ids_kept : (log : List (Entry (Held T))) (a b : Held T) → IsStoreHistory log → KeepsGivenIds log → IsAsLeft log a → IsStoreCall a.store b.store → BringsNoCore a.store b.store
-      → (u : EntryId) → WasGivenIn log u → KeepsId a.store b.store u
+      → (u : EntryId) → WasGivenIn log u → KeepsGiven u a.store b.store
   ids_kept log a b history kept at call brings u given =
       keeps_id u a.store b.store call (none_brought a.store b.store u brings) (used_in log history kept u given a at)
 
@@ -254,10 +254,10 @@ module _ {T : Type 0} where
       wider : (j : ℕ) (k : Claimed Open) → IsClaimAt was j k → IsClaimAt is j k
       wider j k y = claim_before was own j k y
 
-      keeps : (u : EntryId) → WasGivenIn log u → KeepsId a.store b.store u
+      keeps : (u : EntryId) → WasGivenIn log u → KeepsGiven u a.store b.store
       keeps u given =
           let y = old.known u given in
-          takes.3 u (λ same. absurd (fresh (y.0, y.1, y.2, y.3 ∙ (same ∙ sym words.0)))) (used_in log history old.ids u given a at)
+          inl (takes.3 u (λ same. absurd (fresh (y.0, y.1, y.2, y.3 ∙ (same ∙ sym words.0)))) (used_in log history old.ids u given a at))
 
       all : AreClaimed b.store.cores.cores is
       all = comes_claimed a.store b.store c is takes.0.0 (more_claimed a.store.cores.cores was is wider claimed) (length was, own, claim_last was own, words)
@@ -342,8 +342,8 @@ module _ {T : Type 0} where
         used : (u : EntryId) → WasGivenIn log u → IsUsedId a.store u
         used u given = used_in log history old.ids u given a at
 
-        keeps : (u : EntryId) → WasGivenIn log u → KeepsId a.store b.store u
-        keeps u given = gives.5 u (used u given)
+        keeps : (u : EntryId) → WasGivenIn log u → KeepsGiven u a.store b.store
+        keeps u given = inl (gives.5 u (used u given))
 
         past : (u : EntryId) → WasGivenIn log u → ArePastBy (numbers_of u) c
         past u given same = let id = used u given in let was_here = out_of.1 in id.1 was_here.0 c was_here.2 (sym same)
@@ -390,7 +390,7 @@ module _ {T : Type 0} where
 
     pub comes_back : StoreTakesIn c (Ok (tt {0})) a.store b.store → LoansAreKept (e ∷ log) b.store now was
     comes_back takes =
-        step log e a b h.log now was was old left at (λ u given. takes.3 u (past_by u given) (used_in log history old.ids u given a at))
+        step log e a b h.log now was was old left at (λ u given. inl (takes.3 u (past_by u given) (used_in log history old.ids u given a at)))
         (comes_claimed a.store b.store c was takes.0.0 claimed own) (λ j k y. y)
         (record {
           away = away;

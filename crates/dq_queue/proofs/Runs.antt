@@ -5,6 +5,7 @@ use Rattle.dq_ticks.specs.declared.keys.EntryId.{EntryId}
 use Rattle.dq_core.specs.declared.errors.CoreError.{CoreError}
 use Rattle.dq_core.specs.declared.outcomes.Removed.{Removed}
 use Rattle.dq_core.specs.Core.{Core}
+use Rattle.dq_core.specs.Machine.{Entry as Stood}
 use Rattle.dq_journal.specs.declared.views.Entry.{Entry}
 use Rattle.dq_growing.specs.declared.cores.TakeError.{TakeError}
 use Rattle.dq_growing.specs.declared.moving.Moved.{Moved}
@@ -14,17 +15,18 @@ use Rattle.dq_growing.specs.Cores.{CoreRow, HasAt, InsertsIn, IsCoreAt, closed_e
 use Rattle.dq_growing.specs.Sizing.{ComesInto}
 use Rattle.dq_growing.specs.Moving.{IfCameOut}
 use Rattle.dq_growing.specs.Notes.{ArePastBy, Book, numbers_of}
-use Rattle.dq_growing.specs.Runs.{IsUsedId, KeepsId, KeepsIds, GivesId, KeepsItsDeadline, NotDueBefore, HoldsDeadline, HoldsDeadlines, LeavesInForce}
+use Rattle.dq_growing.specs.Runs.{IsUsedId, KeepsId, KeepsIds, KeepsOtherIds, GivesId, KeepsItsDeadline, NotDueBefore, HoldsDeadline, HoldsDeadlines, LeavesInForce}
 use Rattle.dq_growing.specs.Stands.{OneLeaves}
-use Rattle.dq_growing.specs.Store.{StoreState, AfterReset, RemovesIfDueFor, reset_as, StandsFor, HasFor, HasOneValue, NoneStandsFor, ComesFor, GoesOut}
+use Rattle.dq_growing.specs.Store.{StoreState, AfterReset, ChangesFor, ChangesThere, RemovesIfDueFor, reset_as, StandsFor, HasFor, HasOneValue, NoneStandsFor, ComesFor, GoesOut}
 use Rattle.dq_growing.specs.declared.moving.NextDeadline.{NextDeadline}
 use Rattle.dq_growing.specs.declared.moving.NextDeadline.TheVariants.{Same, At, SameIfAfter}
+use Rattle.dq_growing.proofs.Leasts.{some_not_none}
 use Rattle.dq_growing.proofs.Pairing.{one_or_two}
 use Rattle.dq_growing.proofs.Standing.{some_is}
 use Rattle.dq_growing.proofs.Stored.{stored}
 use Rattle.dq_words.specs.Seats.{Sat}
-use Rattle.dq_queue.specs.Calls.{IsStoreCall, StoreRemovesIfDue, StoreTakesIn, StoreResets, StoreResetsThere, StoreRelocates, HasOnly, ComesNew}
-use Rattle.dq_queue.specs.Runs.{ByCall, ByEach, WasGivenIn, KeepsGivenIds, StandsOn, LeavesWith, StaysEnded, LeftOnce, SetsDeadline, SetsNone, LeavesNoSooner, StaysDue, EntriesLeaveOnceIn, EndedStaysEndedIn, DeadlinesHoldIn}
+use Rattle.dq_queue.specs.Calls.{Exchanges, IsStoreCall, OnlyValueChanges, StoreChanges, StoreExchanges, StoreRemovesIfDue, StoreTakesIn, StoreResets, StoreResetsThere, StoreRelocates, HasOnly, ComesNew}
+use Rattle.dq_queue.specs.Runs.{ByCall, ByEach, WasGivenIn, KeepsGiven, KeepsGivenIds, HasNext, StandsOn, StandsThrough, LeavesWith, StaysEnded, LeftOnce, SetsDeadline, SetsNone, LeavesNoSooner, StaysDue, EntriesLeaveOnceIn, EndedStaysEndedIn, DeadlinesHoldIn}
 use Rattle.dq_queue.specs.Shards.{Held, IsAsLeft, IsStoreHistory}
 
 -- a move asks for no deadline, or for one
@@ -86,6 +88,37 @@ module _ {T : Type 0} where
       (gives, ((record { born = k.entry.born; value = v; due = Some comes.0 }, c.here, refl), one k.entry), (gives.1, its_core s t v when k beside inserts))
   came_new s t v when (Err e) beside inserts comes gives one = tt {0}
 
+  -- what a closure made of a value
+  only_value : {R : Type 0} (Makes : T → R → T → Type 0) (s t : StoreState T Sat) (u : EntryId) (a : R) → ChangesThere Makes s u (Some a) t → OnlyValueChanges u s t
+  only_value {R} Makes s t u a (inl (p, meant, (inl on, notes))) =
+      let did = on.did in
+      (p, meant, record { place = on.place; before = on.before; after = on.after; at = on.at; did = (did.1, did.4); rest = on.rest }, notes)
+  only_value {R} Makes s t u a (inl (p, meant, (inr y, notes))) = absurd (some_not_none a y.1)
+  only_value {R} Makes s t u a (inr (nowhere, (is, same))) = absurd (some_not_none a is)
+
+  pub changed_by : {R : Type 0} (Makes : T → R → T → Type 0) (s t : StoreState T Sat) (u : EntryId) (r : Option R) → ((id : EntryId) → HasOneValue s id) → ((id : EntryId) → HasOneValue t id)
+      → ChangesFor Makes s u r t → ChangesThere Makes s u r t → KeepsOtherIds u s t → HoldsDeadlines s t → StoreChanges Makes u r s t
+  changed_by {R} Makes s t u None was is did there keeps holds = did
+  changed_by {R} Makes s t u (Some a) was is did there keeps holds =
+      let e : Stood T = did.entry in
+      let f : Stood T = record e { value = did.value } in (
+        e.value,
+        did.value,
+        did.made,
+        record {
+          only = only_value Makes s t u a there;
+          had = ((e, did.was, refl), was u);
+          has = ((f, did.here, refl), is u);
+          others = did.others;
+          keeps = keeps;
+          holds = holds;
+        },
+      )
+
+  pub changes_call : {R : Type 0} (Makes : T → R → T → Type 0) (s t : StoreState T Sat) (u : EntryId) (r : Option R) → StoreChanges Makes u r s t → IsStoreCall s t
+  changes_call {R} Makes s t u None did = inr (inr (inr (inr (inr (inr (inr (inr (inr (inr (inr (inl (u, inl did.1))))))))))))
+  changes_call {R} Makes s t u (Some a) did = inr (inr (inr (inr (inr (inr (inr (inr (inr (inr (inr (inl (u, inr (did.0, did.1, did.3)))))))))))))
+
   -- a call kept an id
 
   -- no core came in that gives an id anew
@@ -104,21 +137,31 @@ module _ {T : Type 0} where
       let notes = y.1.2 in
       subst P (λ n. (sym cores n, sym notes n)) (same_id s u used)
 
-  pub keeps_id : (u : EntryId) (s t : StoreState T Sat) → IsStoreCall s t → BringsNone u s t → IsUsedId s u → KeepsId s t u
-  keeps_id u s t (inl y) brings used = let did = y.3 in did.2 u used
-  keeps_id u s t (inr (inl y)) brings used = let did = y.2 in did.1 u used
-  keeps_id u s t (inr (inr (inl y))) brings used = let did = y.3 in did.1.0 u used
-  keeps_id u s t (inr (inr (inr (inl y)))) brings used = let did = y.2 in did.1 u used
-  keeps_id u s t (inr (inr (inr (inr (inl y))))) brings used = let did = y.3 in did.1 u used
-  keeps_id u s t (inr (inr (inr (inr (inr (inl y)))))) brings used = takes_keep u s t y.0 y.1 y.2 brings used
-  keeps_id u s t (inr (inr (inr (inr (inr (inr (inl y))))))) brings used = let did = y.1 in did.5 u used
-  keeps_id u s t (inr (inr (inr (inr (inr (inr (inr (inl y)))))))) brings used = let did = y.3 in did.1 u used
-  keeps_id u s t (inr (inr (inr (inr (inr (inr (inr (inr (inl y))))))))) brings used = let did = y.2 in did.1 u used
-  keeps_id u s t (inr (inr (inr (inr (inr (inr (inr (inr (inr (inl y)))))))))) brings used = let did = y.3 in did.1.0 u used
-  keeps_id u s t (inr (inr (inr (inr (inr (inr (inr (inr (inr (inr (inl y))))))))))) brings used = let did = y.1 in did.2 u used
-  keeps_id u s t (inr (inr (inr (inr (inr (inr (inr (inr (inr (inr (inr (inl y)))))))))))) brings used = let did = y.2 in did.3 u used
-  keeps_id u s t (inr (inr (inr (inr (inr (inr (inr (inr (inr (inr (inr (inr (inl y))))))))))))) brings used = y.2 u used
-  keeps_id u s t (inr (inr (inr (inr (inr (inr (inr (inr (inr (inr (inr (inr (inr y))))))))))))) brings used = let did = y.1 in did.2 u used
+  -- so of an exchange
+  exchange_keeps : (u id : EntryId) (s t : StoreState T Sat) → StoreExchanges id s t → IsUsedId s u → KeepsGiven u s t
+  exchange_keeps u id s t (inl same) used = let P : StoreState T Sat → Type 0 = λ k. KeepsId s k u in inl (subst P (sym same) (same_id s u used))
+  exchange_keeps u id s t (inr (was, now, x)) used =
+      ⊎_elim
+      (λ (is : u ≡ id). let P : EntryId → Type 0 = λ k. Exchanges k was now s t in inr (was, now, subst P (sym is) x))
+      (λ (ne : u ≢ id). let k = x.keeps u used in inl (k.1 ne))
+      (one_or_two u id)
+
+  pub keeps_id : (u : EntryId) (s t : StoreState T Sat) → IsStoreCall s t → BringsNone u s t → IsUsedId s u → KeepsGiven u s t
+  keeps_id u s t (inl y) brings used = let did = y.3 in inl (did.2 u used)
+  keeps_id u s t (inr (inl y)) brings used = let did = y.2 in inl (did.1 u used)
+  keeps_id u s t (inr (inr (inl y))) brings used = let did = y.3 in inl (did.1.0 u used)
+  keeps_id u s t (inr (inr (inr (inl y)))) brings used = let did = y.2 in inl (did.1 u used)
+  keeps_id u s t (inr (inr (inr (inr (inl y))))) brings used = let did = y.3 in inl (did.1 u used)
+  keeps_id u s t (inr (inr (inr (inr (inr (inl y)))))) brings used = inl (takes_keep u s t y.0 y.1 y.2 brings used)
+  keeps_id u s t (inr (inr (inr (inr (inr (inr (inl y))))))) brings used = let did = y.1 in inl (did.5 u used)
+  keeps_id u s t (inr (inr (inr (inr (inr (inr (inr (inl y)))))))) brings used = let did = y.3 in inl (did.1 u used)
+  keeps_id u s t (inr (inr (inr (inr (inr (inr (inr (inr (inl y))))))))) brings used = let did = y.2 in inl (did.1 u used)
+  keeps_id u s t (inr (inr (inr (inr (inr (inr (inr (inr (inr (inl y)))))))))) brings used = let did = y.3 in inl (did.1.0 u used)
+  keeps_id u s t (inr (inr (inr (inr (inr (inr (inr (inr (inr (inr (inl y))))))))))) brings used = let did = y.1 in inl (did.2 u used)
+  keeps_id u s t (inr (inr (inr (inr (inr (inr (inr (inr (inr (inr (inr (inl y)))))))))))) brings used = let did = y.1 in exchange_keeps u y.0 s t did used
+  keeps_id u s t (inr (inr (inr (inr (inr (inr (inr (inr (inr (inr (inr (inr (inl y))))))))))))) brings used = let did = y.2 in inl (did.3 u used)
+  keeps_id u s t (inr (inr (inr (inr (inr (inr (inr (inr (inr (inr (inr (inr (inr (inl y)))))))))))))) brings used = inl (y.2 u used)
+  keeps_id u s t (inr (inr (inr (inr (inr (inr (inr (inr (inr (inr (inr (inr (inr (inr y)))))))))))))) brings used = let did = y.1 in inl (did.2 u used)
 
   reset_holds : (u : EntryId) (s t : StoreState T Sat) (id : EntryId) (when : ℕ) (r : Result Key CoreError × Option T) → StoreResets id when r s t → (¬ SetsDeadline u s t) → IsUsedId s u
       → HoldsDeadline s t u
@@ -157,6 +200,10 @@ module _ {T : Type 0} where
   move_holds u s t id next (Ok (Out x), beside) did sets used = did.4 u used
   move_holds u s t id next (Err e, beside) did sets used = did.4 u used
 
+  exchange_holds : (u id : EntryId) (s t : StoreState T Sat) → StoreExchanges id s t → IsUsedId s u → HoldsDeadline s t u
+  exchange_holds u id s t (inl same) used d none = let P : StoreState T Sat → Type 0 = λ k. NotDueBefore k u d in subst P (sym same) none
+  exchange_holds u id s t (inr (was, now, x)) used d none = (x.holds u used) d none
+
   -- a call that gave an entry no deadline held the one that it had
   none_set : (u : EntryId) (s t : StoreState T Sat) → IsStoreCall s t → (¬ SetsDeadline u s t) → IsUsedId s u → HoldsDeadline s t u
   none_set u s t (inl y) sets used = let did = y.3 in did.4 u used
@@ -170,9 +217,10 @@ module _ {T : Type 0} where
   none_set u s t (inr (inr (inr (inr (inr (inr (inr (inr (inl y))))))))) sets used = let did = y.2 in did.2 u used
   none_set u s t (inr (inr (inr (inr (inr (inr (inr (inr (inr (inl y)))))))))) sets used = there_holds u s t y.0 y.1 y.2 y.3 sets used
   none_set u s t (inr (inr (inr (inr (inr (inr (inr (inr (inr (inr (inl y))))))))))) sets used = let did = y.1 in did.3 u used
-  none_set u s t (inr (inr (inr (inr (inr (inr (inr (inr (inr (inr (inr (inl y)))))))))))) sets used = let did = y.2 in did.4 u used
-  none_set u s t (inr (inr (inr (inr (inr (inr (inr (inr (inr (inr (inr (inr (inl y))))))))))))) sets used = y.3 u used
-  none_set u s t (inr (inr (inr (inr (inr (inr (inr (inr (inr (inr (inr (inr (inr y))))))))))))) sets used = let did = y.1 in did.3 u used
+  none_set u s t (inr (inr (inr (inr (inr (inr (inr (inr (inr (inr (inr (inl y)))))))))))) sets used = let did = y.1 in exchange_holds u y.0 s t did used
+  none_set u s t (inr (inr (inr (inr (inr (inr (inr (inr (inr (inr (inr (inr (inl y))))))))))))) sets used = let did = y.2 in did.4 u used
+  none_set u s t (inr (inr (inr (inr (inr (inr (inr (inr (inr (inr (inr (inr (inr (inl y)))))))))))))) sets used = y.3 u used
+  none_set u s t (inr (inr (inr (inr (inr (inr (inr (inr (inr (inr (inr (inr (inr (inr y)))))))))))))) sets used = let did = y.1 in did.3 u used
 
   pub holds_due : (u : EntryId) (s t : StoreState T Sat) → IsStoreCall s t → SetsNone u s t → IsUsedId s u → HoldsDeadline s t u
   holds_due u s t did (inl moves) used = let m = moves.5 in m.5 moves.4 u used
@@ -193,11 +241,23 @@ module _ {T : Type 0} where
   leaves_with : (u : EntryId) (v : T) (s t : StoreState T Sat) → IsUsedId s u → HasOnly s u v → NoneStandsFor t u → LeavesWith u v s t
   leaves_with u v s t used only none = (none, (λ w z. only.1 w v z.0 only.0), (λ g. g.0 used))
 
-  pub stays_ended : (u : EntryId) (s t : StoreState T Sat) → KeepsId s t u → IsUsedId s u → NoneStandsFor s u → StaysEnded u s t
-  stays_ended u s t k used none = (
+  pub stays_ended : (u : EntryId) (s t : StoreState T Sat) → KeepsGiven u s t → IsUsedId s u → NoneStandsFor s u → StaysEnded u s t
+  stays_ended u s t (inl k) used none = (
     (λ e z. let f = k.stood e.value (e, z, refl) in none f.0 f.1),
     ((λ v z. let f = z.0 in none f.0 f.1), (λ g. g.0 used)),
   )
+  stays_ended u s t (inr (was, now, x)) used none = let f = x.had.0 in absurd (none f.0 f.1)
+
+  pub still_used : (u : EntryId) (s t : StoreState T Sat) → KeepsGiven u s t → IsUsedId s u → IsUsedId t u
+  still_used u s t (inl k) used = k.given
+  still_used u s t (inr (was, now, x)) used = (x.keeps u used).0
+
+  -- an entry whose value was exchanged had no other, and nothing went out
+  pub exchanged_on : (u : EntryId) (v was now : T) (s t : StoreState T Sat) → IsUsedId s u → HasOnly s u v → Exchanges u was now s t → StandsOn u now s t × HasNext u v now s t
+  exchanged_on u v was now s t used only x =
+      let P : T → Type 0 = λ k. Exchanges u k now s t in
+      let here = x.has.0 in
+      ((x.has, ((λ w z. z.1 here.0 here.1), (λ g. g.0 used))), inr (subst P (x.had.1 was v x.had.0 only.0) x))
 
   -- the shard that the newest entry left
 
@@ -218,8 +278,8 @@ module _ {T : Type 0} where
   used_in [] history kept u given s at = absurd given
   used_in (e ∷ es) history kept u (inl now) s at = let P : Held T → Type 0 = λ k. IsUsedId k.store u in subst P (some_is now.0 s (sym now.1 ∙ at)) now.2.0
   used_in (e ∷ es) history kept u (inr older) s at =
-      let k = kept.0 u older history.0 s history.3 at in
-      k.given
+      let before = history.0 in
+      still_used u before.store s.store (kept.0 u older before s history.3 at) (used_in es history.6 kept.1 u older before history.3)
 
   -- since a call that left a shard
   module _ (x : Entry (Held T)) (xs : List (Entry (Held T))) (h : Held T) (left : x.left ≡ Some h) (u : EntryId) (given : WasGivenIn (x ∷ xs) u) where
@@ -266,20 +326,29 @@ module _ {T : Type 0} where
         (t, history.2, held, (by_call (StaysDue u tick) e es x xs s t history.3 history.2 did, r.3))
 
     abbrev Either : T → List (Entry (Held T)) → StoreState T Sat → Type 0
-    Either v es s = (HasOnly s u v × ByEach (StandsOn u v) es (x ∷ xs)) ⊎ (NoneStandsFor s u × LeftOnce u v es (x ∷ xs))
+    Either v es s = ((w : T) × HasOnly s u w × StandsThrough u v es w (x ∷ xs)) ⊎ (NoneStandsFor s u × LeftOnce u v es (x ∷ xs))
 
     abbrev Goes : T → List (Entry (Held T)) → Type 0
     Goes v es = (k : Held T) × IsAsLeft (es ++ x ∷ xs) k × Either v es k.store
 
     -- the newest call of one more
-    one_more : (v : T) (e : Entry (Held T)) (es : List (Entry (Held T))) (s t : Held T) → IsAsLeft (es ++ x ∷ xs) s → e.left ≡ Some t → IsUsedId s.store u → KeepsId s.store t.store u
-        → Either v es s.store → Either v (e ∷ es) t.store
-    one_more v e es s t was is given kept (inl y) = ⊎_elim
-        (λ (has : HasFor t.store u v). let did = stands_on u v s.store t.store kept given y.0 has in inl (did.0, (by_call (StandsOn u v) e es x xs s t was is did, y.1)))
+    stands_more : (v w : T) (e : Entry (Held T)) (es : List (Entry (Held T))) (s t : Held T) → IsAsLeft (es ++ x ∷ xs) s → e.left ≡ Some t → IsUsedId s.store u → KeepsGiven u s.store t.store
+        → HasOnly s.store u w → StandsThrough u v es w (x ∷ xs) → Either v (e ∷ es) t.store
+    stands_more v w e es s t was is given (inr (a, b, exchanged)) only through =
+        let did = exchanged_on u w a b s.store t.store given only exchanged in
+        inl (b, exchanged.has, (w, through, by_call (λ y z. StandsOn u b y z × HasNext u w b y z) e es x xs s t was is did))
+    stands_more v w e es s t was is given (inl kept) only through = ⊎_elim
+        (λ (has : HasFor t.store u w).
+        let did = stands_on u w s.store t.store kept given only has in
+        inl (w, did.0, (w, through, by_call (λ y z. StandsOn u w y z × HasNext u w w y z) e es x xs s t was is (did, inl refl))))
         (λ (none : NoneStandsFor t.store u).
-        let did = leaves_with u v s.store t.store given y.0 none in
-        inr (none, record { gone = []; entry = e; here = es; all = refl; stood = y.1; left = by_call (LeavesWith u v) e es x xs s t was is did; ended = tt {0} }))
-        (kept.stays v y.0.0)
+        let did = leaves_with u w s.store t.store given only none in
+        inr (none, record { gone = []; entry = e; here = es; last = w; all = refl; stood = through; left = by_call (LeavesWith u w) e es x xs s t was is did; ended = tt {0} }))
+        (kept.stays w only.0)
+
+    one_more : (v : T) (e : Entry (Held T)) (es : List (Entry (Held T))) (s t : Held T) → IsAsLeft (es ++ x ∷ xs) s → e.left ≡ Some t → IsUsedId s.store u → KeepsGiven u s.store t.store
+        → Either v es s.store → Either v (e ∷ es) t.store
+    one_more v e es s t was is given kept (inl y) = stands_more v y.0 e es s t was is given kept y.1 y.2
     one_more v e es s t was is given kept (inr y) =
         let l = y.1 in
         let did = stays_ended u s.store t.store kept given y.0 in
@@ -291,6 +360,7 @@ module _ {T : Type 0} where
             gone = e ∷ l.gone;
             entry = l.entry;
             here = l.here;
+            last = l.last;
             all = ap (λ k. e ∷ k) l.all;
             stood = l.stood;
             left = l.left;
@@ -299,7 +369,7 @@ module _ {T : Type 0} where
         )
 
     pub goes_since : (v : T) → HasOnly h.store u v → (es : List (Entry (Held T))) → IsStoreHistory (es ++ x ∷ xs) → KeepsGivenIds (es ++ x ∷ xs) → Goes v es
-    goes_since v only [] history kept = (h, left, inl (only, tt {0}))
+    goes_since v only [] history kept = (h, left, inl (v, only, refl))
     goes_since v only (e ∷ es) history kept =
         let r = goes_since v only es history.6 kept.1 in
         let s = history.0 in
@@ -318,7 +388,7 @@ leave_once {T} log history kept u v h since is only =
     let P : List (Entry (Held T)) → Type 0 = λ k. IsStoreHistory k × KeepsGivenIds k in
     let now = subst P is.all (history, kept) in
     let r = goes_since is.entry is.before h is.left u is.given v only since now.0 now.1 in
-    ⊎_elim (λ y. inl y.1) (λ y. inr y.1) r.2
+    ⊎_elim (λ y. inl (y.0, y.2)) (λ y. inr y.1) r.2
 
 pub ended_stays : {T : Type 0} (log : List (Entry (Held T))) → IsStoreHistory log → KeepsGivenIds log → EndedStaysEndedIn log
 ended_stays {T} log history kept u h since is none =

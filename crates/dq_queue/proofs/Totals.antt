@@ -8,16 +8,20 @@ use Rattle.dq_journal.specs.declared.views.Entry.{Entry}
 use Rattle.dq_words.specs.Seats.{Sat}
 use Rattle.dq_queue.specs.Calls.{HasGiven, HasOnly}
 use Rattle.dq_queue.specs.Leaving.{GivesOut, WasCancelledIn}
-use Rattle.dq_queue.specs.Runs.{KeepsGivenIds, WasGivenIn}
+use Rattle.dq_queue.specs.Runs.{KeepsGiven, KeepsGivenIds, WasGivenIn}
 use Rattle.dq_queue.specs.Shards.{Held, IsAsLeft, IsStoreHistory}
-use Rattle.dq_queue.specs.Totals.{CameAbout, CameIn, Counted, NoneHas, HaveOwnIds, AreCounted, TotalsAgreeIn}
+use Rattle.dq_queue.specs.Totals.{CameAbout, CameIn, HasBecome, Counted, NoneHas, HaveOwnIds, AreCounted, TotalsAgreeIn}
 use Rattle.dq_queue.proofs.Leaving.{loses_none}
-use Rattle.dq_queue.proofs.Runs.{stands_on, stays_ended, used_in}
+use Rattle.dq_queue.proofs.Runs.{exchanged_on, stands_on, stays_ended, used_in}
 
 module _ {T : Type 0} where
   -- how an entry stands, or has left
   abbrev Fate : (log : List (Entry (Held T))) → IsStoreHistory log → StoreState T Sat → EntryId → T → Type 0
-  Fate log history s u v = HasOnly s u v ⊎ (NoneStandsFor s u × (CameAbout GivesOut log history u ⊎ CameAbout WasCancelledIn log history u))
+  Fate log history s u v = ((w : T) × HasOnly s u w × HasBecome log history u v w) ⊎ (NoneStandsFor s u × (CameAbout GivesOut log history u ⊎ CameAbout WasCancelledIn log history u))
+
+  as_it_was : (log : List (Entry (Held T))) (history : IsStoreHistory log) (u : EntryId) (v : T) → HasBecome log history u v v
+  as_it_was [] history u v = refl
+  as_it_was (e ∷ es) (old, new, left, was, number, call, history) u v = (v, as_it_was es history u v, inl refl)
 
   -- what became of each of those entries by then
   abbrev Settled : (log : List (Entry (Held T))) → IsStoreHistory log → StoreState T Sat → List (EntryId × T) → Type 0
@@ -38,13 +42,17 @@ module _ {T : Type 0} where
     used : (u : EntryId) → WasGivenIn es u → IsUsedId s u
     used u given = used_in es history kept.1 u given all.0 all.3
 
+    stands : (u : EntryId) (v w : T) → WasGivenIn es u → KeepsGiven u s t → HasOnly s u w → HasBecome es history u v w → Fate (e ∷ es) all t u v
+    stands u v w given (inr (a, b, exchanged)) only become =
+        let did = exchanged_on u w a b s t (used u given) only exchanged in
+        inl (b, exchanged.has, (w, become, did.1))
+    stands u v w given (inl k) only become = ⊎_elim
+        (λ (here : HasFor t u w). inl (w, (stands_on u w s t k (used u given) only here).0, (w, become, inl refl)))
+        (λ (none : NoneStandsFor t u). inr (none, ⊎_elim (λ (out : GivesOut u s t). inl (inl out)) (λ (found : WasCancelledIn u s t). inr (inl found)) (loses_none T s t all.5 u w only.0 none)))
+        (k.stays w only.0)
+
     fate : (u : EntryId) (v : T) → WasGivenIn es u → Fate es history s u v → Fate (e ∷ es) all t u v
-    fate u v given (inl has) =
-        let k = kept.0 u given all.0 all.1 all.3 all.2 in
-        ⊎_elim
-        (λ (here : HasFor t u v). inl (stands_on u v s t k (used u given) has here).0)
-        (λ (none : NoneStandsFor t u). inr (none, ⊎_elim (λ (out : GivesOut u s t). inl (inl out)) (λ (found : WasCancelledIn u s t). inr (inl found)) (loses_none T s t all.5 u v has.0 none)))
-        (k.stays v has.0)
+    fate u v given (inl y) = stands u v y.0 given (kept.0 u given all.0 all.1 all.3 all.2) y.1 y.2
     fate u v given (inr (none, inl out)) =
         let k = kept.0 u given all.0 all.1 all.3 all.2 in
         inr ((stays_ended u s t k (used u given) none).0, inl (inr out))
@@ -78,7 +86,7 @@ module _ {T : Type 0} where
       let fresh = subst Q puts.3 did.0.0 in
       let R : EntryId → Type 0 = λ w. HasGiven new.store w in
       let mine : Settled (e ∷ es) all new.store ((u, v) ∷ older) =
-      (inl (new, left, subst R puts.3 did.2), inl (subst P puts.3 only), goes_on e es all kept older before.1) in
+      (inl (new, left, subst R puts.3 did.2), inl (v, subst P puts.3 only, as_it_was (e ∷ es) all u v), goes_on e es all kept older before.1) in
       let ids : HaveOwnIds ((u, v) ∷ older) = (none_has e es all kept u older fresh before.1, before.0) in
       let S : List (EntryId × T) × Held T → Type 0 = λ z. HaveOwnIds z.0 × Settled (e ∷ es) all z.1.store z.0 in
       let there = some_is new h (sym left ∙ at) in
@@ -92,11 +100,11 @@ module _ {T : Type 0} where
   counted : (log : List (Entry (Held T))) (history : IsStoreHistory log) (s : StoreState T Sat) (came : List (EntryId × T)) → Settled log history s came
       → (n : Counted) × AreCounted log history s came n × (length came ≡ n.here + n.out + n.cancelled)
   counted log history s [] settled = (record { here = 0; out = 0; cancelled = 0 }, refl, refl)
-  counted log history s (x ∷ came) (given, inl has, settled) =
+  counted log history s (x ∷ came) (given, inl (last, has, become), settled) =
       let r = counted log history s came settled in
       let m = r.0 in
       let sum = r.2 in
-      (record m { here = m.here + 1 }, (m, r.1, inl (has, refl)), omega (arith, sum))
+      (record m { here = m.here + 1 }, (m, r.1, inl (last, has, become, refl)), omega (arith, sum))
   counted log history s (x ∷ came) (given, inr (none, inl out), settled) =
       let r = counted log history s came settled in
       let m = r.0 in

@@ -9,18 +9,19 @@ use Rattle.dq_core.specs.declared.outcomes.Piece.{Piece}
 use Rattle.dq_core.specs.declared.outcomes.Expired.{Expired}
 use Rattle.dq_core.specs.Core.{Core}
 use Rattle.dq_core.specs.Folds.{IsFoldable}
+use Rattle.dq_core.specs.Values.{with_value_at}
 use Rattle.dq_growing.specs.declared.cores.TakeError.{TakeError}
-use Rattle.dq_growing.specs.Cores.{HasAt, HasNo, InsertsIn, IsCoreAt}
+use Rattle.dq_growing.specs.Cores.{HasAt, HasNo, InsertsIn, IsCoreAt, OnCore}
 use Rattle.dq_growing.specs.Notes.{Book, SameNotes, meant_place}
 use Rattle.dq_growing.specs.Moving.{HasOpenRoom, IfTo, IfCameOut, UnlessTo}
 use Rattle.dq_growing.specs.Polls.{DoesPiece, DoesPoll, IfPieceOut, TakesDeferredIn}
-use Rattle.dq_growing.specs.Runs.{IsUsedId, KeepsIds, KeepsIdsBeside, GivesId, HoldsDeadlines, HoldsOtherDeadlines, KeepsItsDeadline, LeavesInForce, NotDueBefore}
+use Rattle.dq_growing.specs.Runs.{IsUsedId, KeepsIds, KeepsIdsBeside, KeepsOtherIds, GivesId, HoldsDeadlines, HoldsOtherDeadlines, KeepsItsDeadline, LeavesInForce, NotDueBefore}
 use Rattle.dq_core.specs.declared.errors.ReapError.{ReapError}
 use Rattle.dq_growing.specs.declared.moving.Moved.{Moved}
 use Rattle.dq_growing.specs.declared.moving.NextDeadline.{NextDeadline}
 use Rattle.dq_growing.specs.Sizing.{AllWere, ComesInto, HasClearAt, HasNoRoom, OnlyOpens, OpensOne, OpensWanted, StaysOpen, SweepsNext, WasBeside}
 use Rattle.dq_growing.specs.declared.sweeping.Sweep.{Sweep}
-use Rattle.dq_growing.specs.Stands.{SameStand}
+use Rattle.dq_growing.specs.Stands.{OthersStand, SameStand}
 use Rattle.dq_growing.specs.Store.{StoreState, StandsFor, RemovesFor, TellsFor, ResetsFor, ResetsThere, RelocatesFor, ReapsFor, PollsFor, HasFor, HasOneValue, NoneStandsFor, GoesOut, TakeRefusedFor}
 use Rattle.dq_words.specs.Plays.{Covers}
 use Rattle.dq_words.specs.Seats.{Sat}
@@ -169,6 +170,34 @@ module _ {T : Type 0} where
   StoreTakesDeferred r s t =
       TakesDeferredIn s.cores r t.cores × (t.notes ≡ s.notes) × KeepsIds s t × HoldsDeadlines s t
 
+  -- no more changes than the value that is held at the place of a user's entry: no word, no
+  -- deadline, no note
+  abbrev pub OnlyValueChanges : EntryId → StoreState T Sat → StoreState T Sat → Type 0
+  OnlyValueChanges id s t =
+      (p : EntryId) × (meant_place s.notes id ≡ Some p)
+      × OnCore p.shard (λ b c. (v : T) × (c ≡ with_value_at b p.index v)) s.cores t.cores
+      × (t.notes ≡ s.notes)
+
+  -- the only value of an entry is exchanged for another one; every other entry stands as before
+  pub record Exchanges (id : EntryId) (was now : T) (s t : StoreState T Sat) : Type 0 where
+    pub only : OnlyValueChanges id s t
+    pub had : HasOnly s id was
+    pub has : HasOnly t id now
+    pub others : OthersStand (StandsFor s) (StandsFor t) id id
+    pub keeps : KeepsOtherIds id s t
+    pub holds : HoldsDeadlines s t
+
+  -- a closure exchanges the value of an entry, and answers; where none stands, nothing changes
+  abbrev pub StoreChanges : {R : Type 0} → (T → R → T → Type 0) → EntryId → Option R →
+      StoreState T Sat → StoreState T Sat → Type 0
+  StoreChanges Makes id None s t = NoneStandsFor s id × (t ≡ s)
+  StoreChanges Makes id (Some answer) s t =
+      (was : T) × (now : T) × Makes was answer now × Exchanges id was now s t
+
+  -- so whatever the closure is
+  abbrev pub StoreExchanges : EntryId → StoreState T Sat → StoreState T Sat → Type 0
+  StoreExchanges id s t = (t ≡ s) ⊎ ((was : T) × (now : T) × Exchanges id was now s t)
+
   -- a look for a free slot: nothing changes, or a core is open that may be opened, and no more does.
   -- The open one has such a slot where one was found, and it stays open where it has one
   abbrev pub StoreFindsRoom : Bool → Bool → StoreState T Sat → StoreState T Sat → Type 0
@@ -216,4 +245,5 @@ module _ {T : Type 0} where
       ⊎ (((id : EntryId) × (r : Result (Unit {0}) ReapError) × StoreReaps id r s t)
       ⊎ (((id : EntryId) × (when : ℕ) × (r : Result Key CoreError)
       × StoreResetsThere id when r s t)
-      ⊎ (((r : Option T) × StoreTakesDeferred r s t) ⊎ IsUpkeep s t))))))))))
+      ⊎ (((r : Option T) × StoreTakesDeferred r s t)
+      ⊎ (((id : EntryId) × StoreExchanges id s t) ⊎ IsUpkeep s t)))))))))))

@@ -12,7 +12,7 @@ use Rattle.dq_growing.specs.Store.{StoreState, NoneStandsFor, GoesOut}
 use Rattle.dq_growing.specs.declared.moving.Moved.TheVariants.{To, Out}
 use Rattle.dq_growing.specs.declared.moving.NextDeadline.{NextDeadline}
 use Rattle.dq_words.specs.Seats.{Sat}
-use Rattle.dq_queue.specs.Calls.{HasGiven, HasOnly, StoreRemoves, StoreResets, StoreRelocates, StorePolls}
+use Rattle.dq_queue.specs.Calls.{Exchanges, HasGiven, HasOnly, StoreRemoves, StoreResets, StoreRelocates, StorePolls}
 use Rattle.dq_queue.specs.Shards.{Held, IsAsLeft}
 
 module _ {T : Type 0} where
@@ -38,11 +38,15 @@ module _ {T : Type 0} where
   abbrev pub IsNewNumber : List (Entry (Held T)) → ℕ → Type 0
   IsNewNumber log number = (u : EntryId) → WasGivenIn log u → u.shard ≢ number
 
-  -- each call of a history kept each id that had been given by then
+  -- a call kept an id, or exchanged the value of its entry
+  abbrev pub KeepsGiven : EntryId → StoreState T Sat → StoreState T Sat → Type 0
+  KeepsGiven u s t = KeepsId s t u ⊎ ((was : T) × (now : T) × Exchanges u was now s t)
+
+  -- each call of a history did so with each id that had been given by then
   abbrev pub KeepsGivenIds : List (Entry (Held T)) → Type 0
   KeepsGivenIds [] = Unit {0}
   KeepsGivenIds (e ∷ es) =
-      ((u : EntryId) → WasGivenIn es u → ByCall (λ s t. KeepsId s t u) e es) × KeepsGivenIds es
+      ((u : EntryId) → WasGivenIn es u → ByCall (KeepsGiven u) e es) × KeepsGivenIds es
 
   -- In a history an entry's call left that shard, and these newer entries came since. The id
   -- had been given by then.
@@ -62,6 +66,19 @@ module _ {T : Type 0} where
   abbrev pub StandsOn : EntryId → T → StoreState T Sat → StoreState T Sat → Type 0
   StandsOn u v s t = HasOnly t u v × GivesNone u s t
 
+  -- a call left an entry its value, or exchanged that for another
+  abbrev pub HasNext : EntryId → T → T → StoreState T Sat → StoreState T Sat → Type 0
+  HasNext u was now s t = (now ≡ was) ⊎ Exchanges u was now s t
+
+  -- an entry stands on by each of some newest calls: each left it its value, or exchanged it; so it
+  -- had one value before them, and has the last one after them
+  abbrev pub StandsThrough :
+      EntryId → T → List (Entry (Held T)) → T → List (Entry (Held T)) → Type 0
+  StandsThrough u v [] last before = last ≡ v
+  StandsThrough u v (e ∷ es) last before =
+      (was : T) × StandsThrough u v es was before
+      × ByCall (λ s t. StandsOn u last s t × HasNext u was last s t) e (es ++ before)
+
   -- an entry left: none stands under its id, and what went out under it is its value
   abbrev pub LeavesWith : EntryId → T → StoreState T Sat → StoreState T Sat → Type 0
   LeavesWith u v s t =
@@ -71,23 +88,25 @@ module _ {T : Type 0} where
   abbrev pub StaysEnded : EntryId → StoreState T Sat → StoreState T Sat → Type 0
   StaysEnded u s t = NoneStandsFor t u × GivesNone u s t
 
-  -- an entry stood with its value until one call, by which it left; under its id none stands from
-  -- then on, and nothing goes out
+  -- an entry stood until one call, by which it left with the value that it had last; under its id
+  -- none stands from then on, and nothing goes out
   pub record LeftOnce (u : EntryId) (v : T) (since before : List (Entry (Held T))) : Type 0 where
     pub gone : List (Entry (Held T))
     pub entry : Entry (Held T)
     pub here : List (Entry (Held T))
+    pub last : T
     pub all : since ≡ gone ++ entry ∷ here
-    pub stood : ByEach (StandsOn u v) here before
-    pub left : ByCall (LeavesWith u v) entry (here ++ before)
+    pub stood : StandsThrough u v here last before
+    pub left : ByCall (LeavesWith u last) entry (here ++ before)
     pub ended : ByEach (StaysEnded u) gone (entry ∷ (here ++ before))
 
-  -- in a history an entry leaves at most once, whoever calls, and has its value until then
+  -- in a history an entry leaves at most once, whoever calls, and until then has its value, or the
+  -- one for which a call exchanged that
   abbrev pub EntriesLeaveOnceIn : List (Entry (Held T)) → Type 0
   EntriesLeaveOnceIn log =
       (u : EntryId) (v : T) (h : Held T) (since : List (Entry (Held T)))
       (is : IsSince log u h since) → HasOnly h.store u v →
-      ByEach (StandsOn u v) since (is.entry ∷ is.before)
+      ((last : T) × StandsThrough u v since last (is.entry ∷ is.before))
       ⊎ LeftOnce u v since (is.entry ∷ is.before)
 
   -- in a history none ever stands again under an id whose entry has left, and nothing goes out

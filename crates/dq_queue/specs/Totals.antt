@@ -8,6 +8,7 @@ use Rattle.dq_growing.specs.Store.{StoreState, NoneStandsFor}
 use Rattle.dq_words.specs.Seats.{Sat}
 use Rattle.dq_queue.specs.Calls.{HasOnly, StoreInserts}
 use Rattle.dq_queue.specs.Leaving.{GivesOut, WasCancelledIn}
+use Rattle.dq_queue.specs.Runs.{HasNext}
 use Rattle.dq_queue.specs.Shards.{Held, IsAsLeft, IsStoreHistory}
 
 -- how many entries stand, were given out, and were found cancelled
@@ -50,14 +51,24 @@ module _ {T : Type 0} where
   CameAbout How (e ∷ es) (old, new, left, was, number, call, history) u =
       How u old.store new.store ⊎ CameAbout How es history u
 
-  -- Of these entries so many stand, each with its value. Of the others none stands: so many were
-  -- given out by a call of the history, and so many were found cancelled by one.
+  -- by the calls of a history an entry that had one value has the last one: each left it its value,
+  -- or exchanged it
+  abbrev pub HasBecome :
+      (log : List (Entry (Held T))) → IsStoreHistory log → EntryId → T → T → Type 0
+  HasBecome [] history u v last = last ≡ v
+  HasBecome (e ∷ es) (old, new, left, was, number, call, history) u v last =
+      (w : T) × HasBecome es history u v w × HasNext u w last old.store new.store
+
+  -- Of these entries so many stand, each with its value, or with what that has become. Of the others
+  -- none stands: so many were given out by a call of the history, and so many were found cancelled by
+  -- one.
   abbrev pub AreCounted : (log : List (Entry (Held T))) → IsStoreHistory log → StoreState T Sat →
       List (EntryId × T) → Counted → Type 0
   AreCounted log history s [] n = n ≡ record { here = 0; out = 0; cancelled = 0 }
   AreCounted log history s (x ∷ came) n =
       (m : Counted) × AreCounted log history s came m
-      × ((HasOnly s x.0 x.1 × (n ≡ record m { here = m.here + 1 }))
+      × (((last : T) × HasOnly s x.0 last × HasBecome log history x.0 x.1 last
+      × (n ≡ record m { here = m.here + 1 }))
       ⊎ (NoneStandsFor s x.0
       × ((CameAbout GivesOut log history x.0 × (n ≡ record m { out = m.out + 1 }))
       ⊎ (CameAbout WasCancelledIn log history x.0 × (n ≡ record m { cancelled = m.cancelled + 1 })))))

@@ -1,8 +1,9 @@
 //! A row of shards, each behind a lock of its own, and the calls by name of their callers.
 ghost use Rattle.std.specs.Prelude.{◌≡◌, ◌<◌, ◌≤◌, ◌^◌, vec_len, Some, None, IfOk, IfErr, IfSome};
+ghost use Rattle.std.specs.Fn.{FnOnceReturnsAtMut};
 ghost use Rattle.std.specs.Sync.Mutex.{mutex_guard_value};
 ghost use Rattle.dq_queue.specs.declared.queue.QueueError.TheVariants.{Unknown};
-ghost use Rattle.dq_queue.specs.Calls.{StoreInserts, StoreRemoves, StoreRemovesIfDue, StoreResets, StoreResetsThere, StoreTells, StorePolls, StorePollsBeside, StoreTakesDeferred};
+ghost use Rattle.dq_queue.specs.Calls.{StoreChanges, StoreInserts, StoreRemoves, StoreRemovesIfDue, StoreResets, StoreResetsThere, StoreTells, StorePolls, StorePollsBeside, StoreTakesDeferred};
 ghost use Rattle.dq_queue.specs.Shards.{MadeOnce};
 
 use crate::shard::{Caller, Rooms, Shard};
@@ -269,6 +270,26 @@ impl<T, J: Rooms, A: Allocator + Clone> GrowingQueue<T, J, A> {
     {
         let mut shard = self.locked_for(rt, me);
         let answer = shard.deadline(me, entry);
+        drop(shard);
+        answer
+    }
+
+    /// Takes the lock of the caller's shard, and calls a closure with the value of an entry, which it may change where
+    /// it is, and returns what it returns. It returns none, and doesn't call it, if the entry isn't in the shard any
+    /// more, or never was. A cancelled entry has its value until it is freed.
+    pub fn with_value<R: Wait, X, F: FnOnce(&mut T) -> X>(
+        &self,
+        rt: &R,
+        me: &mut Caller<T, J, A>,
+        entry: &EntryId,
+        call: F,
+    ) -> Option<X>
+        requires { F.IsAlwaysCallable call }
+        ensures once { MadeOnce me.old (λ s t. StoreChanges
+            (FnOnceReturnsAtMut F.FnOnce call) entry.now result s t) me.new }
+    {
+        let mut shard = self.locked_for(rt, me);
+        let answer = shard.with_value(me, entry, call);
         drop(shard);
         answer
     }

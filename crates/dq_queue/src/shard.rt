@@ -1,6 +1,7 @@
 //! What lies behind a shard's lock, and the calls that callers make of it there: each is entered once in the shard's
 //! history.
 ghost use Rattle.std.specs.Prelude.{◌≡◌, ◌<◌, ◌+◌, ◌++◌, ◌∷◌, true, [], Some, None, IfOk, IfErr, IfSome, IfNone, OnOk, OnErr};
+ghost use Rattle.std.specs.Fn.{FnOnceReturnsAtMut};
 ghost use Rattle.dq_journal.specs.Once.{IsTold, IsWithNumber};
 ghost use Rattle.dq_journal.specs.Views.{first_witness, new_witness};
 ghost use Rattle.dq_growing.specs.Notes.{HasNoteRoom};
@@ -9,6 +10,7 @@ ghost use Rattle.dq_growing.specs.Store.{IsStore};
 ghost use Rattle.dq_directory.specs.Claims.{IsOf};
 ghost use Rattle.dq_queue.specs.Calls.{StoreInserts, StoreRemoves, StoreRemovesIfDue, StoreResets, StoreResetsThere, StoreTells, StorePolls};
 ghost use Rattle.dq_queue.specs.Calls.{KeepsPromise, StorePollsBeside, StoreTakesDeferred};
+ghost use Rattle.dq_queue.specs.Calls.{StoreChanges};
 ghost use Rattle.dq_queue.specs.Calls.{StoreTakesIn, StoreRefuses, StoreGives, StoreRelocates, StoreReaps};
 ghost use Rattle.dq_queue.specs.Calls.{StoreFindsRoom, StoreReserves, StoreSweeps};
 ghost use Rattle.dq_queue.specs.Claims.{AreClaimed, AreClaimsOf, BringsNoCore, ClaimsWords, HasClaim, IsOfItsWords, RefusedAsNew};
@@ -301,6 +303,20 @@ impl<T, A: Allocator + Clone> Held<T, A> {
     {
         self.sized.law();
         let answer = self.sized.reap(entry);
+        self.sized.law();
+        answer
+    }
+
+    fn with_value<R, F: FnOnce(&mut T) -> R>(&mut self, entry: &EntryId, call: F) -> Option<R>
+        requires { F.IsAlwaysCallable call }
+        ensures number { self.new.number ≡ self.old.number }
+        ensures stores { IsStore self.old.store × IsStore self.new.store }
+        ensures cores { BringsNoCore self.old.store self.new.store }
+        ensures changes { StoreChanges (FnOnceReturnsAtMut F.FnOnce call)
+            entry.now result self.old.store self.new.store }
+    {
+        self.sized.law();
+        let answer = self.sized.with_value(entry, call);
         self.sized.law();
         answer
     }
@@ -838,6 +854,30 @@ impl<T, J: Rooms, A: Allocator + Clone> Shard<T, J, A> {
         ensures claims { self.new.claims ≡ self.old.claims }
     {
         let answer = self.held.reap(entry);
+        self.history.enter_for(&mut me.history, &self.held);
+        answer
+    }
+
+    /// Calls a closure with the value of an entry, which it may change where it is, and returns what it returns. It
+    /// returns none, and doesn't call it, if the entry isn't in the shard any more, or never was. A cancelled entry has
+    /// its value until it is freed.
+    pub fn with_value<R, F: FnOnce(&mut T) -> R>(
+        &mut self,
+        me: &mut Caller<T, J, A>,
+        entry: &EntryId,
+        call: F,
+    ) -> Option<R>
+        requires number { me.old.shard ≡ self.old.held.number }
+        requires callable { F.IsAlwaysCallable call }
+        ensures once { MadeOnce me.old (λ s t. StoreChanges
+            (FnOnceReturnsAtMut F.FnOnce call) entry.now result s t) me.new }
+        ensures one_more { OneMore self.old me.old self.new }
+        ensures changes { StoreChanges (FnOnceReturnsAtMut F.FnOnce call)
+            entry.now result self.old.held.store self.new.held.store }
+        ensures number { self.new.held.number ≡ self.old.held.number }
+        ensures claims { self.new.claims ≡ self.old.claims }
+    {
+        let answer = self.held.with_value(entry, call);
         self.history.enter_for(&mut me.history, &self.held);
         answer
     }

@@ -1,9 +1,9 @@
-use Rattle.std.proofs.Common.{sym, arith}
+use Rattle.std.proofs.Common.{ap, sym, arith}
 use Rattle.std.specs.Fn.{FnOnceReturnsAtMut}
 use Rattle.dq_growing.specs.Cores.{CoreRow, IsCoreAt}
 use Rattle.dq_growing.proofs.Quiet.{turns_after, changes_late, changes_noted}
 use Rattle.dq_growing.proofs.Rows.{keeps_law, on_found}
-use Rattle.dq_growing.proofs.Standing.{found_at, found_changes, found_missing, still_past, changed_stamps}
+use Rattle.dq_growing.proofs.Standing.{found_at, found_changes, found_missing, still_past, changed_stamps, changed_words, same_begun, words_in}
 use Rattle.dq_growing.proofs.cores.Cores.with_value.Goals as goal
 
 pub returns-clause-exact : goal.returns-clause-exact
@@ -49,3 +49,12 @@ invariant_of-self g c =
     let at : IsCoreAt s.cores c.in-Some.at b = (inside, sym c.index_mut.ensures.value) in
     let noted = changes_noted Makes b a c.args.entry.now r.result r.ensures.changes in
     (keeps_law s c.in-Some.at b a c.self.invariant.0 at r.ensures.same.0 (omega arith), turns_after s i.turns c.in-Some.at b a c.self.invariant.1 at (λ u before. changes_late Makes b a c.args.entry.now u before r.result r.ensures.changes r.ensures.entry))
+
+pub returns-clause-words : goal.returns-clause-words
+returns-clause-words g c =
+    let r = c.with_value-answer in
+    let found = rw (c.shard.ensures, ← c.self.view_is) at c.in-Some.ensures.found in
+    let at = found_at _ c.in-Some.at c.args.entry.now c.index_mut.result.now r.new.self c.self.invariant.0 found c.index_mut.ensures.value r.ensures.same.0 in
+    let kept = changed_words (FnOnceReturnsAtMut g.F.FnOnce c.args.call) c.index_mut.result.now r.new.self c.args.entry.now r.result r.ensures.changes in
+    rw (← c.self.view_is)
+    (words_in _ c.in-Some.at c.index_mut.result.now r.new.self c.self.invariant.0 at r.ensures.same.0 g.W.Words.origin g.W.Words.begun (ap g.W.Words.origin kept) (same_begun g.W.Words.begun _ _ kept))

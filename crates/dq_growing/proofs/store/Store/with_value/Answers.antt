@@ -1,5 +1,7 @@
 use Rattle.std.proofs.Common.{inl, refl, sym, ◌∙◌}
 use Rattle.std.specs.Fn.{FnOnceReturnsAtMut}
+use Rattle.dq_growing.proofs.Holding.{changed_hold}
+use Rattle.dq_growing.proofs.Keeping.{changed_keep, changed_used}
 use Rattle.dq_growing.proofs.Stored.{stored, law_changes, changes_for}
 use Rattle.dq_growing.proofs.store.Store.with_value.Goals as goal
 
@@ -21,3 +23,26 @@ returns-clause-changes g c =
 pub returns-clause-exact : goal.returns-clause-exact
 returns-clause-exact g c =
     rw (← c.self.view_is) (inl (c.in-Some.place, sym c.place.ensures ∙ c.in-Some.is, (c.with_value-answer.ensures.exact, refl)))
+
+pub returns-clause-words : goal.returns-clause-words
+returns-clause-words g c = rw (← c.self.view_is) c.with_value-answer.ensures.words
+
+pub returns-clause-keeps : goal.returns-clause-keeps
+returns-clause-keeps g c =
+    let i = c.self.inside in
+    let a = c.with_value-answer in
+    let s = stored i.cores i.notes in
+    let Makes = FnOnceReturnsAtMut g.F.FnOnce c.args.call in
+    let did = changes_for Makes s a.new.self c.args.entry.now c.in-Some.place a.result c.self.invariant (sym c.place.ensures ∙ c.in-Some.is) a.ensures.changes a.ensures.none in
+    rw (← c.self.view_is) (changed_keep Makes s (stored a.new.self i.notes) c.args.entry.now a.result did (changed_used s a.new.self _ _ _ a.ensures.exact a.ensures.past))
+
+pub returns-clause-holds : goal.returns-clause-holds
+returns-clause-holds g c =
+    let i = c.self.inside in
+    let a = c.with_value-answer in
+    let s = stored i.cores i.notes in
+    let Makes = FnOnceReturnsAtMut g.F.FnOnce c.args.call in
+    let at = sym c.place.ensures ∙ c.in-Some.is in
+    let did = changes_for Makes s a.new.self c.args.entry.now c.in-Some.place a.result c.self.invariant at a.ensures.changes a.ensures.none in
+    let law = law_changes Makes s a.new.self c.args.entry.now c.in-Some.place a.result c.self.invariant at a.ensures.changes a.ensures.none a.ensures.past in
+    rw (← c.self.view_is) (changed_hold Makes s (stored a.new.self i.notes) c.args.entry.now a.result law c.law.ensures did)

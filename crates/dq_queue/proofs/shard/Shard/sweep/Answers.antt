@@ -16,7 +16,7 @@ pub invariant_of-self : goal.invariant_of-self
 invariant_of-self g c =
     let made = c.sweep-answer in
     let e = c.enter_for.ensures in
-    let call : IsStoreCall c.self.inside.held.store made.new.self.store = inr (inr (inr (inr (inr (inr (inr (inr (inr (inr (inr (inr (inr (made.result, made.ensures.sweeps))))))))))))) in
+    let call : IsStoreCall c.self.inside.held.store made.new.self.store = inr (inr (inr (inr (inr (inr (inr (inr (inr (inr (inr (inr (inr (inr (made.result, made.ensures.sweeps)))))))))))))) in
     stays g.J.Rooms.shards g.J.Rooms.history g.J.Rooms.loans g.J.Rooms.rows _ _ _ c.self.inside.history.view c.me.inside.history.view c.enter_for.new.caller.view c.enter_for.new.self.view
     c.self.inside.loans.view c.self.inside.held made.new.self c.self.inside.claims.items c.self.invariant made.ensures.number call e.once e.log e.tables.0 e.keeper made.ensures.cores
 
@@ -25,7 +25,7 @@ returns-clause-once g c =
     let s = c.self.invariant in
     let made = c.sweep-answer in
     let gives : StoreState _ Sat → StoreState _ Sat → Type 0 = λ s t. StoreSweeps made.result s t in
-    let call : IsStoreCall c.self.inside.held.store made.new.self.store = inr (inr (inr (inr (inr (inr (inr (inr (inr (inr (inr (inr (inr (made.result, made.ensures.sweeps))))))))))))) in
+    let call : IsStoreCall c.self.inside.held.store made.new.self.store = inr (inr (inr (inr (inr (inr (inr (inr (inr (inr (inr (inr (inr (inr (made.result, made.ensures.sweeps)))))))))))))) in
     let at = ap (λ (s : HeldShard _). s.held.number) c.self.view_is ∙ (sym c.requires ∙ sym (ap (λ (v : CallerView _). v.shard) c.me.view_is)) in
     once gives c.self.inside.history.view c.me.inside.history.view c.enter_for.new.caller.view c.me.inside.shard _ c.self.inside.held made.new.self c.me.view_is
     c.enter_for.ensures.once s.3 at made.ensures.number made.ensures.stores.0 made.ensures.stores.1 made.ensures.sweeps call s.4
