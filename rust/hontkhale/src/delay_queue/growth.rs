@@ -3,6 +3,7 @@
 use crate::core::{CoreConfig, DelayCore};
 use crate::delay_queue::dropping::go_on;
 use crate::delay_queue::errors::InsertErrorKind;
+use crate::delay_queue::receive::ROUND;
 use crate::delay_queue::shard::{least, Core, Seen, Shard};
 use crate::delay_queue::shared::Shared;
 use crate::directory::Clerk;
@@ -159,14 +160,14 @@ impl<T> Shared<T> {
     pub fn free_cancelled(&self, at: usize) {
         let cancels = self.common.seen[at].cancels();
         (0..SWEEPS).all(|_| self.lock(at).sweep(cancels));
-        while self.drop_some() {}
+        while self.drop_some(ROUND) {}
     }
 
     /// A bounded part of what is done where nothing is due: cancelled entries are freed and their values dropped, and the shards
     /// brought to the right size. It tells whether more is to be done before a receiver sleeps.
     pub fn maintain_all(&self) -> bool {
         let has_more = !self.common.seen.iter().all(Seen::is_quiet) && self.bring_to_size();
-        self.drop_some() || has_more
+        self.drop_some(ROUND) || has_more
     }
 
     /// Looks for cancelled entries in one of the shards, and brings each to the right size, up to one of which more is left.

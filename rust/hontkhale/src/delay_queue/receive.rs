@@ -17,8 +17,11 @@ const TAKEN_AT_ONCE: usize = 64;
 const POLLED_WHOLE: usize = 8_192;
 /// By how many steps the next one of several is polled for at first: it is mostly due, and else another core may be next.
 const FIRST_STEPS: u32 = 4;
-/// How many turns a call makes in which nothing comes out: each takes a lock for 256 steps, or drops as many values.
-const TURNS: usize = 8;
+/// How often a lock is taken in a round in which nothing comes out, each time for 256 steps, and how many rounds a call makes.
+pub(crate) const TURNS: usize = 4;
+const ROUNDS: usize = 2;
+/// How many steps such a round has. As many values are dropped before it.
+pub(crate) const ROUND: usize = TURNS * STEPS as usize;
 
 /// What some steps came to.
 pub(crate) enum Step<R> {
@@ -51,7 +54,7 @@ impl<T> Shared<T> {
                 Step::Rests => {}
             }
             if let Some(over) = over {
-                self.drop_some();
+                self.drop_some(ROUND);
                 return Err(over);
             }
             // What was put in before a close, or was due in time, comes out by one look more.
@@ -65,12 +68,12 @@ impl<T> Shared<T> {
         }
     }
 
-    /// What `take` takes in some turns. Values that were freed are dropped before each: those are turns as well.
+    /// What `take` takes in some rounds. Values that were freed are dropped before each: as many as it may drop are a round, too.
     #[inline(always)]
     fn look<R>(&self, mut take: impl FnMut() -> Step<R>) -> Step<R> {
-        let mut turns = 0;
-        while turns < TURNS {
-            turns += 1 + usize::from(self.drop_some());
+        let mut rounds = 0;
+        while rounds < ROUNDS {
+            rounds += 1 + usize::from(self.drop_some(ROUND));
             match take() {
                 Step::Works => {}
                 step => return step,
@@ -142,8 +145,18 @@ impl<T> Shared<T> {
         Step::Took(Expired { key, deadline, value })
     }
 
-    /// Takes entries that are due, at most so many, and tells how many. It ends where the steps under a lock find none, or few for
-    /// some turns.
+    /// An entry that is due, where the turns of a round find one.
+    fn take_one(&self) -> Step<Expired<T>> {
+        for _ in 0..TURNS {
+            match self.try_poll(POLLED_WHOLE) {
+                Step::Works => {}
+                step => return step,
+            }
+        }
+        Step::Works
+    }
+
+    /// Takes entries that are due, at most so many, and tells how many. It ends where the turns of a round find few.
     fn take_some(&self, row: &mut Vec<Expired<T>>, most: usize) -> Step<usize> {
         let now = self.common.time.tick();
         let (before, mut turns) = (row.len(), 0);
@@ -152,13 +165,10 @@ impl<T> Shared<T> {
                 break;
             };
             let left = most - (row.len() - before);
-            let is_done = self.take_under_lock(at, now, row, left);
-            if row.len() == before && !is_done {
-                return Step::Works;
-            }
-            turns += usize::from(!is_done);
+            turns += usize::from(!self.take_under_lock(at, now, row, left));
         }
         match row.len() - before {
+            0 if turns == TURNS => Step::Works,
             0 => Step::Rests,
             taken => Step::Took(taken),
         }
@@ -201,10 +211,10 @@ impl<T> Shared<T> {
 impl<T> Shared<T> {
     /// An entry that is due, once one is; none from a moment on.
     pub fn receive(&self, until: Option<Instant>) -> Result<Expired<T>, RecvTimeoutError> {
-        self.drop_some();
+        self.drop_some(ROUND);
         match self.try_poll(POLLED_WHOLE) {
             Step::Took(expired) => Ok(expired),
-            _ => self.wait_for(until, || self.try_poll(POLLED_WHOLE)),
+            _ => self.wait_for(until, || self.take_one()),
         }
     }
 
@@ -223,7 +233,7 @@ impl<T> Shared<T> {
     /// One call is all that a program makes of a receive: what is taken apart between two goes through memory twice.
     #[inline(never)]
     pub fn try_receive(&self) -> Result<Expired<T>, TryRecvError> {
-        self.taken_now(|| self.try_poll(POLLED_WHOLE))
+        self.taken_now(|| self.take_one())
     }
 
     pub fn try_receive_many(&self, row: &mut Vec<Expired<T>>, most: usize) -> Result<usize, TryRecvError> {
@@ -329,16 +339,16 @@ impl<T> Iterator for Drain<'_, T> {
 
     fn next(&mut self) -> Option<(Key, Instant, T)> {
         // What was cancelled is dropped while nothing is in hand.
-        while self.shared.drop_some() {}
+        while self.shared.drop_some(ROUND) {}
         let taken = self.next_on_the_way();
-        while taken.is_none() && self.shared.drop_some() {}
+        while taken.is_none() && self.shared.drop_some(ROUND) {}
         taken
     }
 }
 
 #[cfg(test)]
 mod tests {
-    use super::{Step, POLLED_WHOLE, STEPS, TURNS};
+    use super::{Step, POLLED_WHOLE, ROUND, ROUNDS, STEPS};
     use crate::delay_queue::shared::Shared;
     use crate::index::looked;
     use crate::locks::taken;
@@ -349,8 +359,9 @@ mod tests {
 
     /// More entries than a call has steps for, in cores that are polled in pieces, and in such as are polled as a whole.
     const MANY: [u64; 2] = [20_000, 8_000];
-    /// How many steps a call makes, and how many values it drops. A step looks at thirty indexes at most.
-    const MOST: usize = TURNS * STEPS as usize;
+    /// How many steps a call makes, and how many values it drops: two rounds, and a turn where it may wait. A step looks at forty
+    /// indexes at most, those of a drop among them.
+    const MOST: usize = ROUNDS * ROUND + STEPS as usize;
 
     type Tries = fn(&DelayQueue<Arc<()>>) -> Option<Expired<Arc<()>>>;
 
@@ -427,7 +438,7 @@ mod tests {
                 let (left, waits) = (linked(&queue.shared), Arc::strong_count(&value));
                 let looks = looked::by(|| out = tries(&queue));
                 calls += 1;
-                assert!(looks <= 30 * MOST, "{looks}");
+                assert!(looks <= 40 * MOST, "{looks}");
                 assert!(left - linked(&queue.shared) <= MOST);
                 assert!(waits - Arc::strong_count(&value) <= MOST);
             }
@@ -455,7 +466,7 @@ mod tests {
             while out.is_none() {
                 let looks = looked::by(|| out = tries(&queue));
                 calls += 1;
-                assert!(looks <= 30 * MOST, "{looks}");
+                assert!(looks <= 40 * MOST, "{looks}");
             }
             assert!(calls > 1 && queue.len() as u64 == MANY[0]);
         }

@@ -2,7 +2,8 @@
 //! poll it again. A task joins the line of receivers where it has nothing to take, and leaves it with what it takes.
 
 use crate::delay_queue::errors::{RecvTimeoutError, TryRecvError};
-use crate::delay_queue::receive::Step;
+use crate::delay_queue::receive::{Step, TURNS};
+use crate::delay_queue::shard::STEPS;
 use crate::delay_queue::shared::Shared;
 use crate::delay_queue::waking::{Seat, Wakes};
 use crate::delay_queue::{DelayQueue, Expired, Iter, TryIter};
@@ -10,9 +11,6 @@ use std::fmt;
 use std::sync::Arc;
 use std::task::{Context, Poll, Waker};
 use std::time::{Duration, Instant};
-
-/// How often a poll takes a lock, at most.
-const TURNS: usize = 4;
 
 /// Receives from a [`DelayQueue`], in a thread or in a task, and ends by itself.
 ///
@@ -172,7 +170,7 @@ impl<T> Receiver<T> {
         self.wake_at = None;
         for _ in 0..TURNS {
             let shared = &self.shared;
-            shared.drop_some();
+            shared.drop_some(STEPS as usize);
             // It is asked first: what was put in before a close comes out.
             let is_closed = shared.common.is_closed();
             match take(shared) {
@@ -254,8 +252,7 @@ impl<'r, T> IntoIterator for &'r Receiver<T> {
 
 #[cfg(test)]
 mod tests {
-    use super::TURNS;
-    use crate::delay_queue::shard::STEPS;
+    use crate::delay_queue::receive::ROUND;
     use crate::delay_queue::{Key, ManualClock};
     use crate::index::looked;
     use crate::{DelayQueue, Receiver};
@@ -297,7 +294,6 @@ mod tests {
     /// The entry that is due stands behind them.
     #[test]
     fn a_poll_frees_few_entries_and_folds_one_core_and_wakes_its_task_for_the_rest() {
-        const MOST: usize = TURNS * STEPS as usize;
         let (clock, value) = (ManualClock::new(), Arc::new(()));
         let queue = DelayQueue::builder().shards(1).clock(&clock).build();
         let insert = |after| {
@@ -321,10 +317,10 @@ mod tests {
             outs += usize::from(receiver.poll_recv(&mut Context::from_waker(&waker)).is_ready());
             polls += 1;
             let after = seen();
-            assert!(linked - after.0 <= MOST && cores <= after.1 + 1 && values - after.2 <= MOST);
+            assert!(linked - after.0 <= ROUND && cores <= after.1 + 1 && values - after.2 <= ROUND);
         }
         assert_eq!((outs, seen()), (1, (0, 1, 1)));
-        assert!(polls > 20_000 / MOST);
+        assert!(polls > 20_000 / ROUND);
     }
 
     #[test]

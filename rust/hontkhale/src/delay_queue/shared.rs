@@ -10,7 +10,7 @@ use crate::bell::{Hints, Rung, NEVER};
 use crate::delay_queue::dropping::{go_on, lose, DropQueue};
 use crate::delay_queue::errors::{InsertError, InsertErrorKind};
 use crate::delay_queue::key::Key;
-use crate::delay_queue::shard::{Locked, Seen, Shard, STEPS};
+use crate::delay_queue::shard::{Locked, Seen, Shard};
 use crate::delay_queue::time::Time;
 use crate::delay_queue::waking::{Seat, Waiting};
 use crate::directory::{Clerk, Directory};
@@ -323,19 +323,19 @@ impl<T> Shared<T> {
 }
 
 impl<T> Shared<T> {
-    /// Drops as many deferred values as a poll makes steps, and tells whether more may be left. No lock is held meanwhile.
+    /// Drops so many deferred values at most, and tells whether more may be left. No lock is held meanwhile.
     #[inline]
-    pub fn drop_some(&self) -> bool {
-        self.deferred.has_values() && self.drop_piece()
+    pub fn drop_some(&self, most: usize) -> bool {
+        self.deferred.has_values() && self.drop_piece(most)
     }
 
     #[cold]
-    fn drop_piece(&self) -> bool {
+    fn drop_piece(&self, most: usize) -> bool {
         self.deferred.drop_all();
         let values = (0..self.shards.len()).flat_map(|at| iter::from_fn(move || self.lock(at).take_deferred()));
         // Each is dropped while the lock is free. Within a drop of the queue they stay deferred.
         let drops = |value| self.deferred.drop_value(value);
-        values.take(STEPS as usize).map(drops).count() == STEPS as usize
+        values.take(most).map(drops).count() == most
     }
 
     /// Whether there are no such values that this thread may drop now.
