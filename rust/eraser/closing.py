@@ -42,7 +42,7 @@ class Closed:
 
 
 # A call that a proved shard makes on its store, and what `DelayQueue` does with a shard's. What is read of one changes nothing.
-SHARDS, FRONTS, READS = re.compile(r"\bself\.sized\.(\w+)\("), re.compile(r"\.entries\b(?:\s*\.(\w+)\()?"), {"hint", "store", "sizing", "with_value"}
+SHARDS, FRONTS, READS = re.compile(r"\.sized\.(\w+)\("), re.compile(r"\.entries\b(?:\s*\.(\w+)\()?"), {"store", "sizing"}
 
 
 def stores_are_shards(shard, front):
