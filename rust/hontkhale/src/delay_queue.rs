@@ -291,7 +291,7 @@ impl<T> DelayQueue<T> {
         let _lends = Lends(&self.shared);
         let (mut shard, entry) = (self.shared.lock_of(key)?, key.entry());
         shard.entries.deadline(&entry).map_err(refused)?;
-        let made = with_lock(&mut *shard, key.queue as usize, |shard| {
+        let made = with_lock(&mut *shard, key.queue() as usize, |shard| {
             shard.entries.with_value(&entry, change)
         });
         Ok(made.expect("a live entry"))
