@@ -1,5 +1,6 @@
 //! Instants and durations as ticks.
 
+use crate::delay_queue::whole;
 use crate::ticks::LAST_TICK;
 use std::time::{Duration, Instant};
 
@@ -67,14 +68,6 @@ impl Clock {
         let to_come = self.start.saturating_duration_since(Instant::now());
         (passed, to_come)
     }
-}
-
-/// The whole milliseconds of a length, and [`LAST_TICK`] where they are more.
-#[inline]
-pub(crate) fn whole(length: Duration) -> u64 {
-    // Longer ones come to no end, and their milliseconds to no more than a number holds.
-    let seconds = length.as_secs().min(LAST_TICK / 1_000 + 1);
-    LAST_TICK.min(seconds * 1_000 + u64::from(length.subsec_millis()))
 }
 
 fn rounded_up(length: Duration) -> u64 {

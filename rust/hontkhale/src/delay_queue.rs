@@ -25,6 +25,7 @@ pub use key::Key;
 pub use receive::{Drain, Iter, TryIter};
 pub use receiver::Receiver;
 pub use stats::{Metrics, Stats};
+pub(crate) use time::whole;
 pub use time::ManualClock;
 
 use crate::bell::NEVER;
@@ -291,7 +292,7 @@ impl<T> DelayQueue<T> {
         let _lends = Lends(&self.shared);
         let (mut shard, entry) = (self.shared.lock_of(key)?, key.entry());
         shard.entries.deadline(&entry).map_err(refused)?;
-        let made = with_lock(&mut *shard, key.queue as usize, |shard| {
+        let made = with_lock(&mut *shard, key.queue() as usize, |shard| {
             shard.entries.with_value(&entry, change)
         });
         Ok(made.expect("a live entry"))

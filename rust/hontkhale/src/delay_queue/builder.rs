@@ -17,6 +17,9 @@ use std::sync::Arc;
 use std::thread;
 use std::time::Instant;
 
+/// A receive looks at the hints of all shards, so they are few.
+const MOST_SHARDS: usize = 64;
+
 /// What a [`DelayQueue`] is made by, as [`DelayQueue::builder`] begins it.
 ///
 /// ```
@@ -61,7 +64,7 @@ impl<T> Builder<T> {
     /// for another number. With 1 all threads use one shard. Without this call they are as many as the machine runs threads, 2 to
     /// 16.
     pub fn shards(mut self, shards: usize) -> Builder<T> {
-        self.shards = shards.clamp(1, 64);
+        self.shards = shards.clamp(1, MOST_SHARDS);
         self
     }
 

@@ -14,9 +14,10 @@ use std::hash::{Hash, Hasher};
 use std::sync::atomic::Ordering::SeqCst;
 use std::time::{Duration, Instant};
 
-/// The bits of a birth or of a stamp, and of an index, in a key.
+/// The bits of a birth or of a stamp, of an index, and of a core's number in a key.
 const STAMP_BITS: u32 = 20;
 const INDEX_BITS: u32 = 16;
+const NUMBER_BITS: u32 = 32;
 
 /// The name of an entry of a [`DelayQueue`](crate::DelayQueue), from its insert to its end.
 ///
@@ -43,10 +44,8 @@ const INDEX_BITS: u32 = 16;
 /// ```
 #[derive(Clone, Copy)]
 pub struct Key {
-    /// The number of the queue.
-    pub(crate) queue: u32,
-    /// The number of the core.
-    core: u32,
+    /// The number of the queue, and that of the core.
+    place: u64,
     /// The shard, the index, the birth, and the stamp that the entry had when the key was made.
     entry: u64,
 }
@@ -57,10 +56,13 @@ impl Key {
         let name = (shard as u64) << INDEX_BITS | u64::from(entry.index());
         let born = name << STAMP_BITS | u64::from(entry.born());
         Key {
-            queue,
-            core: entry.shard(),
+            place: u64::from(queue) << NUMBER_BITS | u64::from(entry.shard()),
             entry: born << STAMP_BITS | u64::from(key.stamp()),
         }
+    }
+
+    pub(crate) fn queue(&self) -> u32 {
+        (self.place >> NUMBER_BITS) as u32
     }
 
     /// The shard's place.
@@ -68,10 +70,16 @@ impl Key {
         (self.entry >> (INDEX_BITS + 2 * STAMP_BITS)) as usize
     }
 
+    /// The core's number.
+    #[inline(always)]
+    pub(crate) fn number(&self) -> u32 {
+        self.place as u32
+    }
+
     pub(crate) fn entry(&self) -> ticks::EntryId {
         let index = (self.entry >> (2 * STAMP_BITS)) as u16;
         let born = (self.entry >> STAMP_BITS) as u32 & ((1 << STAMP_BITS) - 1);
-        ticks::EntryId::new(self.core, u32::from(index), born)
+        ticks::EntryId::new(self.number(), u32::from(index), born)
     }
 
     /// The core's own key.
@@ -80,8 +88,8 @@ impl Key {
     }
 
     /// What is the same in all keys of the entry.
-    fn name(&self) -> (u32, u32, u64) {
-        (self.queue, self.core, self.entry >> STAMP_BITS)
+    fn name(&self) -> (u64, u64) {
+        (self.place, self.entry >> STAMP_BITS)
     }
 }
 
@@ -115,7 +123,7 @@ impl fmt::Debug for Key {
     fn fmt(&self, f: &mut fmt::Formatter<'_>) -> fmt::Result {
         let entry = self.entry();
         f.debug_struct("Key")
-            .field("queue", &self.queue)
+            .field("queue", &self.queue())
             .field("shard", &self.shard())
             .field("core", &entry.shard())
             .field("index", &entry.index())
@@ -156,10 +164,10 @@ impl Common {
     /// an earlier stamp, and an entry that was moved is found as removed.
     #[inline(always)]
     fn quick_step(&self, key: &Key, step: Step) -> Option<Made> {
-        if key.queue != self.id {
+        if key.queue() != self.id {
             return Some(Err(KeyError::WrongQueue));
         }
-        match step.make(self.words.get(key.core)?, &key.inner()) {
+        match step.make(self.words.get(key.number())?, &key.inner()) {
             Ok(deadline) => Some(Ok(deadline)),
             Err(CallError::TooFar { .. }) => Some(Err(KeyError::TooFar)),
             Err(CallError::Ended { how }) if !matches!(how, Look::LookRemoved(_)) => Some(Err(KeyError::Ended)),
@@ -190,7 +198,7 @@ impl Common {
     /// Raises the deadline of a live entry to a tick where that isn't sooner, without a lock, and tells whether it did.
     #[inline(always)]
     pub fn is_later(&self, key: &Key, tick: u64) -> bool {
-        let Some(words) = self.words.get(key.core).filter(|_| key.queue == self.id) else {
+        let Some(words) = self.words.get(key.number()).filter(|_| key.queue() == self.id) else {
             return false;
         };
         let key = key.inner();
@@ -251,7 +259,7 @@ impl<T> Shared<T> {
     /// The shard of a key of this queue.
     #[inline(always)]
     pub fn lock_of(&self, key: &Key) -> Result<Locked<'_, T>, KeyError> {
-        if key.queue != self.common.id {
+        if key.queue() != self.common.id {
             return Err(KeyError::WrongQueue);
         }
         Ok(self.lock(key.shard()))

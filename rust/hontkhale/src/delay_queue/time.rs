@@ -1,6 +1,5 @@
 //! From where a queue has the time.
 
-use crate::clock::whole;
 use crate::delay_queue::dropping::{first_panic, go_on};
 use crate::delay_queue::shared::Common;
 use crate::ticks::LAST_TICK;
@@ -279,6 +278,14 @@ impl Time {
 #[inline(never)]
 fn passed_by_std(start: Instant, when: Instant) -> Duration {
     when.saturating_duration_since(start)
+}
+
+/// The whole milliseconds of a length, and [`LAST_TICK`] where they are more.
+#[inline]
+pub(crate) fn whole(length: Duration) -> u64 {
+    // Longer ones come to no end, and their milliseconds to no more than a number holds.
+    let seconds = length.as_secs().min(LAST_TICK / 1_000 + 1);
+    LAST_TICK.min(seconds * 1_000 + u64::from(length.subsec_millis()))
 }
 
 /// The first tick that isn't before the end of a length, or one beyond the last, and how many nanoseconds that end is before it.
