@@ -1,7 +1,6 @@
 //! Instants and durations as ticks.
 
 use crate::delay_queue::whole;
-use crate::ticks::LAST_TICK;
 use std::time::{Duration, Instant};
 
 /// Gives ticks for instants: a tick is one millisecond since the clock was started.
@@ -39,17 +38,17 @@ impl Clock {
         Clock { start }
     }
 
-    /// The present tick: the whole milliseconds that have passed, and [`LAST_TICK`] where they are more.
+    /// The present tick: the whole milliseconds that have passed, and [`LAST_TICK`](crate::parts::owner::LAST_TICK) where they are more.
     pub fn tick(&self) -> u64 {
         whole(self.start.elapsed())
     }
 
-    /// The first tick that isn't before an instant, at most [`LAST_TICK`].
+    /// The first tick that isn't before an instant, at most [`LAST_TICK`](crate::parts::owner::LAST_TICK).
     pub fn at(&self, instant: Instant) -> u64 {
         rounded_up(instant.saturating_duration_since(self.start))
     }
 
-    /// The first tick that isn't before this moment and a duration, at most [`LAST_TICK`].
+    /// The first tick that isn't before this moment and a duration, at most [`LAST_TICK`](crate::parts::owner::LAST_TICK).
     pub fn after(&self, duration: Duration) -> u64 {
         let (passed, to_come) = self.since_start();
         rounded_up(passed.saturating_add(duration).saturating_sub(to_come))
