@@ -38,7 +38,7 @@ impl Clock {
         Clock { start }
     }
 
-    /// The present tick: the whole milliseconds that have passed, and [`LAST_TICK`](crate::parts::owner::LAST_TICK) where they are more.
+    /// The present tick: the whole milliseconds that have passed, at most [`LAST_TICK`](crate::parts::owner::LAST_TICK).
     pub fn tick(&self) -> u64 {
         whole(self.start.elapsed())
     }
@@ -82,7 +82,8 @@ impl crate::shards::parking::TickSource for Clock {
 
 #[cfg(test)]
 mod tests {
-    use super::{Clock, LAST_TICK};
+    use super::Clock;
+    use crate::ticks::LAST_TICK;
     use std::time::{Duration, Instant};
 
     const SECOND: Duration = Duration::from_secs(1);
