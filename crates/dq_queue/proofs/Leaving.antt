@@ -44,6 +44,7 @@ use Rattle.dq_growing.specs.Polls.{PollsCore, PollsRow, TakesDeferredIn, noting_
 use Rattle.dq_growing.specs.declared.sweeping.Sweep.{Sweep}
 use Rattle.dq_growing.specs.Sizing.{OnlyOpens, SweepsNext}
 use Rattle.dq_growing.specs.Stands.{HasEntry, IsThere, KeepsWords, SameStand}
+use Rattle.dq_growing.specs.Sized.{SizedState}
 use Rattle.dq_growing.specs.Store.{StoreState, IsStore, StandsFor, NoneStandsFor, GoesOnFor, GoesOut, NotesAfter, NotesAnswered, NotesReaped, ReapsFor, RelocatesFor, RemovesFor, ResetsFor, TellsFor, AfterReset, answer_as, expired_as, piece_as, removed_as, ResetsThere}
 use Rattle.dq_growing.proofs.Holding.{CoreRaises, pieces_raise, polls_raise, sweeps_raise}
 use Rattle.dq_growing.proofs.Keeping.{piece_gone, poll_gone, way_stood}
@@ -62,7 +63,7 @@ use Rattle.dq_words.specs.Seats.{Sat}
 use Rattle.dq_queue.specs.Calls.{DoesSteps, KeepsNumbers, NoneLeft, StoreExchanges, StorePolls, StoreRelocates, StoreRemoves}
 use Rattle.dq_queue.specs.Endings.{InEachTable, IsKeptCore, present_key}
 use Rattle.dq_queue.specs.Leaving.{EachLosesNone, LosesNone, NoneIsLostIn, StoreLosesNone, WasCancelledIn, WasCancelledOnce}
-use Rattle.dq_queue.specs.Shards.{Held, IsStoreHistory}
+use Rattle.dq_queue.specs.Shards.{IsStoreHistory}
 use Rattle.dq_queue.proofs.Claims.{table_by}
 use Rattle.dq_queue.proofs.Outs.{answer_way, length_row, ok_not_err, on_core, seen_word}
 
@@ -752,9 +753,9 @@ loses_none T s t (inr (inr (inr (inr (inr (inr (inr (inr (inr (inr (inr (inr (in
 loses_none T s t (inr (inr (inr (inr (inr (inr (inr (inr (inr (inr (inr (inr (inr (inr y)))))))))))))) = let did = y.1 in sweeps_lose s t y.0 did.0 did.1 did.4
 
 -- over a history
-each_loses_none : {T : Type 0} (log : List (Call (Held T))) (history : IsStoreHistory log) → EachLosesNone log history
+each_loses_none : {T : Type 0} (log : List (Call (SizedState T Sat))) (history : IsStoreHistory log) → EachLosesNone log history
 each_loses_none [] history = tt {0}
-each_loses_none {T} (e ∷ es) (old, new, left, was, number, call, history) = (loses_none T old.store new.store call, each_loses_none es history)
+each_loses_none {T} (e ∷ es) (old, new, left, was, call, history) = (loses_none T old.store new.store call, each_loses_none es history)
 
-pub none_is_lost : {T : Type 0} (log : List (Call (Held T))) → NoneIsLostIn log
+pub none_is_lost : {T : Type 0} (log : List (Call (SizedState T Sat))) → NoneIsLostIn log
 none_is_lost log history = each_loses_none log history

@@ -20,6 +20,7 @@ use Rattle.dq_growing.specs.Cores.{HasNo, IsCoreAt}
 use Rattle.dq_growing.specs.Notes.{ArePastBy, numbers_of}
 use Rattle.dq_growing.specs.Runs.{IsUsedId}
 use Rattle.dq_growing.specs.Sizing.{WasBeside}
+use Rattle.dq_growing.specs.Sized.{SizedState}
 use Rattle.dq_growing.specs.Store.{StoreState}
 use Rattle.dq_growing.proofs.Rows.{at_snoc, snoc_last, snoc_long}
 use Rattle.dq_growing.proofs.Standing.{some_is}
@@ -29,7 +30,7 @@ use Rattle.dq_queue.specs.Calls.{HasGiven, IsStoreCall, StoreTakesIn, StoreGives
 use Rattle.dq_queue.specs.Claims.{AreClaimed, AreClaimsOf, BringsNoCore, ClaimsWords, HasClaim, IsClaimAt, IsClaimed}
 use Rattle.dq_queue.specs.Loans.{is_away, IsLent, IsLentCore, IsLentFold, IsAway, IsAwayBy, IsStill, LoansAreKept}
 use Rattle.dq_queue.specs.Runs.{ByCall, IsNewNumber, KeepsGiven, KeepsGivenIds, WasGivenIn}
-use Rattle.dq_queue.specs.Shards.{Held, IsAsLeft, IsStoreHistory}
+use Rattle.dq_queue.specs.Shards.{IsAsLeft, IsStoreHistory}
 use Rattle.dq_queue.proofs.Claims.{claim_before, claim_last, claim_more, comes_claimed, more_claimed, same_cores, still_claimed, were_there}
 use Rattle.dq_queue.proofs.Runs.{BringsNone, by_call, keeps_id, used_in}
 
@@ -144,18 +145,18 @@ module _ {T : Type 0} where
   -- one call more
 
   -- what a call has to leave, that the shard's word be kept
-  pub record Leaves (log : List (Entry (Held T))) (b : StoreState T Sat) (more : List (Entry (Core T Sat))) (is : List (Claimed Open)) : Type 0 where
+  pub record Leaves (log : List (Entry (SizedState T Sat))) (b : StoreState T Sat) (more : List (Entry (Core T Sat))) (is : List (Claimed Open)) : Type 0 where
     pub away : (k : ℕ) (c : Core T Sat) → IsAway more k c → HasNo b.cores.cores c.shard
     pub claimed : (k : ℕ) (c : Core T Sat) → IsAway more k c → IsClaimed is c
     pub past : (u : EntryId) → WasGivenIn log u → (k : ℕ) (c : Core T Sat) → IsAway more k c → ArePastBy (numbers_of u) c
     pub apart : (k l : ℕ) (c d : Core T Sat) → IsAway more k c → IsAway more l d → c.shard ≡ d.shard → k ≡ l
 
-  kept_by : (log : List (Entry (Held T))) (e : Entry (Held T)) (a b : Held T) (u : EntryId) → e.left ≡ Some b → IsAsLeft log a → WasGivenIn log u → KeepsGiven u a.store b.store
+  kept_by : (log : List (Entry (SizedState T Sat))) (e : Entry (SizedState T Sat)) (a b : SizedState T Sat) (u : EntryId) → e.left ≡ Some b → IsAsLeft log a → WasGivenIn log u → KeepsGiven u a.store b.store
       → ByCall (KeepsGiven u) e log
   kept_by [] e a b u left at given kept = absurd given
   kept_by (x ∷ xs) e a b u left at given kept = by_call (KeepsGiven u) e [] x xs a b at left kept
 
-  pub step : (log : List (Entry (Held T))) (e : Entry (Held T)) (a b : Held T) (loans more : List (Entry (Core T Sat))) (was is : List (Claimed Open))
+  pub step : (log : List (Entry (SizedState T Sat))) (e : Entry (SizedState T Sat)) (a b : SizedState T Sat) (loans more : List (Entry (Core T Sat))) (was is : List (Claimed Open))
       → LoansAreKept log a.store loans was → e.left ≡ Some b → IsAsLeft log a → ((u : EntryId) → WasGivenIn log u → KeepsGiven u a.store b.store)
       → AreClaimed b.store.cores.cores is → ((j : ℕ) (k : Claimed Open) → IsClaimAt was j k → IsClaimAt is j k)
       → Leaves log b.store more is → LoansAreKept (e ∷ log) b.store more is
@@ -168,8 +169,8 @@ module _ {T : Type 0} where
     apart = leaves.apart;
   }
     where
-      given_now : (u : EntryId) → ((h : Held T) × (e.left ≡ Some h) × HasGiven h.store u) → HasGiven b.store u
-      given_now u g = let P : Held T → Type 0 = λ h. HasGiven h.store u in subst P (some_is g.0 b (sym g.1 ∙ left)) g.2
+      given_now : (u : EntryId) → ((h : SizedState T Sat) × (e.left ≡ Some h) × HasGiven h.store u) → HasGiven b.store u
+      given_now u g = let P : SizedState T Sat → Type 0 = λ h. HasGiven h.store u in subst P (some_is g.0 b (sym g.1 ∙ left)) g.2
 
       known : (u : EntryId) → WasGivenIn (e ∷ log) u → HasClaim is u.shard
       known u (inl now) =
@@ -187,10 +188,10 @@ module _ {T : Type 0} where
       past u (inr older) k c out = leaves.past u older k c out
 
   -- at first nothing is given, and no core is away
-  pub none_yet : (h : View (Held T)) (g : View (Core T Sat)) (a : Held T) (claims : List (Claimed Open)) → h ≡ first_witness → g ≡ first_witness
+  pub none_yet : (h : View (SizedState T Sat)) (g : View (Core T Sat)) (a : SizedState T Sat) (claims : List (Claimed Open)) → h ≡ first_witness → g ≡ first_witness
       → LoansAreKept h.log a.store g.log claims
   none_yet h g a claims history loans =
-      let P : List (Entry (Held T)) × List (Entry (Core T Sat)) → Type 0 = λ x. LoansAreKept x.0 a.store x.1 claims in
+      let P : List (Entry (SizedState T Sat)) × List (Entry (Core T Sat)) → Type 0 = λ x. LoansAreKept x.0 a.store x.1 claims in
       let first : P ([], []) = record {
         ids = tt {0};
         known = λ u given. absurd given;
@@ -199,7 +200,7 @@ module _ {T : Type 0} where
         claimed = λ k c out. absurd (none k c out);
         apart = λ k l c d out. absurd (none k c out);
       } in
-      subst P (λ n. (ap (λ (v : View (Held T)). v.log) (sym history) n, ap (λ (v : View (Core T Sat)). v.log) (sym loans) n)) first
+      subst P (λ n. (ap (λ (v : View (SizedState T Sat)). v.log) (sym history) n, ap (λ (v : View (Core T Sat)). v.log) (sym loans) n)) first
     where
       none : (k : ℕ) (c : Core T Sat) → IsAway [] k c → ⊥
       none k c out = off (is_away (entry k (Some c) ∷ out.0)) (ap not out.2) (ap is_away (sym out.1))
@@ -218,12 +219,12 @@ module _ {T : Type 0} where
   no_core_of : (s t : StoreState T Sat) (n : ℕ) → BringsNoCore s t → HasNo s.cores.cores n → HasNo t.cores.cores n
   no_core_of s t n brings none i c at same = let b = brings i c at in none b.0 b.1 b.2 (sym b.3 ∙ same)
 
-  ids_kept : (log : List (Entry (Held T))) (a b : Held T) → IsStoreHistory log → KeepsGivenIds log → IsAsLeft log a → IsStoreCall a.store b.store → BringsNoCore a.store b.store
+  ids_kept : (log : List (Entry (SizedState T Sat))) (a b : SizedState T Sat) → IsStoreHistory log → KeepsGivenIds log → IsAsLeft log a → IsStoreCall a.store b.store → BringsNoCore a.store b.store
       → (u : EntryId) → WasGivenIn log u → KeepsGiven u a.store b.store
   ids_kept log a b history kept at call brings u given =
       keeps_id u a.store b.store call (none_brought a.store b.store u brings) (used_in log history kept u given a at)
 
-  pub ordinary : (log : List (Entry (Held T))) (e : Entry (Held T)) (a b : Held T) (loans : List (Entry (Core T Sat))) (was : List (Claimed Open))
+  pub ordinary : (log : List (Entry (SizedState T Sat))) (e : Entry (SizedState T Sat)) (a b : SizedState T Sat) (loans : List (Entry (Core T Sat))) (was : List (Claimed Open))
       → LoansAreKept log a.store loans was → IsStoreHistory log → e.left ≡ Some b → IsAsLeft log a → IsStoreCall a.store b.store → BringsNoCore a.store b.store
       → AreClaimed a.store.cores.cores was → LoansAreKept (e ∷ log) b.store loans was
   ordinary log e a b loans was old history left at call brings claimed =
@@ -236,7 +237,7 @@ module _ {T : Type 0} where
       })
 
   -- a core of a new number comes in
-  pub comes_new : (log : List (Entry (Held T))) (e : Entry (Held T)) (a b : Held T) (loans : List (Entry (Core T Sat))) (was : List (Claimed Open)) (c : Core T Sat) (own : Claimed Open)
+  pub comes_new : (log : List (Entry (SizedState T Sat))) (e : Entry (SizedState T Sat)) (a b : SizedState T Sat) (loans : List (Entry (Core T Sat))) (was : List (Claimed Open)) (c : Core T Sat) (own : Claimed Open)
       → LoansAreKept log a.store loans was → IsStoreHistory log → e.left ≡ Some b → IsAsLeft log a → StoreTakesIn c (Ok (tt {0})) a.store b.store
       → AreClaimed a.store.cores.cores was → (¬ HasClaim was own.number) → ClaimsWords own c → LoansAreKept (e ∷ log) b.store loans (was ++ own ∷ [])
   comes_new log e a b loans was c own old history left at takes claimed fresh words =
@@ -274,13 +275,13 @@ module _ {T : Type 0} where
           (at_snoc a.store.cores.cores c x i (subst P takes.0.0.0 core))
 
   -- a number that no claim has is a new one
-  pub new_number : (log : List (Entry (Held T))) (s : StoreState T Sat) (loans : List (Entry (Core T Sat))) (was : List (Claimed Open)) (c : Core T Sat) (own : Claimed Open)
+  pub new_number : (log : List (Entry (SizedState T Sat))) (s : StoreState T Sat) (loans : List (Entry (Core T Sat))) (was : List (Claimed Open)) (c : Core T Sat) (own : Claimed Open)
       (r : Result (Unit {0}) (TakeError × Core T Sat)) → LoansAreKept log s loans was → OnOk r (¬ HasClaim was own.number) → ClaimsWords own c → OnOk r (IsNewNumber log c.shard)
   new_number log s loans was c own (Ok done) old fresh words = λ u given same. let y = old.known u given in fresh (y.0, y.1, y.2, y.3 ∙ (same ∙ sym words.0))
   new_number log s loans was c own (Err e) old fresh words = tt {0}
 
   -- so it is of a core that comes in with its claim, if it has a new number; refused, it is as it was
-  pub takes_new : (rows : List Named) (log : List (Entry (Held T))) (e : Entry (Held T)) (a b : Held T) (loans : List (Entry (Core T Sat))) (was is : List (Claimed Open)) (c : Core T Sat)
+  pub takes_new : (rows : List Named) (log : List (Entry (SizedState T Sat))) (e : Entry (SizedState T Sat)) (a b : SizedState T Sat) (loans : List (Entry (Core T Sat))) (was is : List (Claimed Open)) (c : Core T Sat)
       (own : Claimed Open) (r : Result (Unit {0}) (TakeError × Core T Sat)) → LoansAreKept log a.store loans was → IsStoreHistory log → e.left ≡ Some b → IsAsLeft log a
       → StoreTakesIn c r a.store b.store → AreClaimsOf rows was × AreClaimed a.store.cores.cores was → OnOk r (¬ HasClaim was own.number) → OnOk r (is ≡ was ++ own ∷ []) → OnErr r (is ≡ was)
       → IsOf rows own × ClaimsWords own c → AreClaimsOf rows is × AreClaimed b.store.cores.cores is × LoansAreKept (e ∷ log) b.store loans is
@@ -301,7 +302,7 @@ module _ {T : Type 0} where
       )
 
   -- a core that drained leaves
-  module _ (log : List (Entry (Held T))) (e : Entry (Held T)) (a b : Held T) (h v w : View (Core T Sat)) (now : List (Entry (Core T Sat))) (was : List (Claimed Open)) (c : Core T Sat) where
+  module _ (log : List (Entry (SizedState T Sat))) (e : Entry (SizedState T Sat)) (a b : SizedState T Sat) (h v w : View (Core T Sat)) (now : List (Entry (Core T Sat))) (was : List (Claimed Open)) (c : Core T Sat) where
     pub goes_out : LoansAreKept log a.store h.log was → IsStoreHistory log → e.left ≡ Some b → IsAsLeft log a → StoreGives (Some c) a.store b.store
         → AreClaimed a.store.cores.cores was → EntersOnce h v (Some c) w → now ≡ w.log
         → LoansAreKept (e ∷ log) b.store now was
@@ -364,7 +365,7 @@ module _ {T : Type 0} where
             (λ ne. inl (others_out h v w c enters now is k d ne out))
 
   -- a core that left comes back
-  module _ (log : List (Entry (Held T))) (e : Entry (Held T)) (a b : Held T) (h v w : View (Core T Sat)) (now : List (Entry (Core T Sat))) (was : List (Claimed Open)) (c : Core T Sat)
+  module _ (log : List (Entry (SizedState T Sat))) (e : Entry (SizedState T Sat)) (a b : SizedState T Sat) (h v w : View (Core T Sat)) (now : List (Entry (Core T Sat))) (was : List (Claimed Open)) (c : Core T Sat)
       (old : LoansAreKept log a.store h.log was) (history : IsStoreHistory log) (left : e.left ≡ Some b) (at : IsAsLeft log a) (claimed : AreClaimed a.store.cores.cores was)
       (lent : IsLentCore v c) (enters : EntersOnce h v (Some c) w) (is : now ≡ w.log) where
     abbrev gone : Core T Sat

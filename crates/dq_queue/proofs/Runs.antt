@@ -17,6 +17,7 @@ use Rattle.dq_growing.specs.Moving.{IfCameOut}
 use Rattle.dq_growing.specs.Notes.{ArePastBy, Book, numbers_of}
 use Rattle.dq_growing.specs.Runs.{IsUsedId, KeepsId, KeepsIds, KeepsOtherIds, GivesId, KeepsItsDeadline, NotDueBefore, HoldsDeadline, HoldsDeadlines, LeavesInForce}
 use Rattle.dq_growing.specs.Stands.{OneLeaves}
+use Rattle.dq_growing.specs.Sized.{SizedState}
 use Rattle.dq_growing.specs.Store.{StoreState, AfterReset, ChangesFor, ChangesThere, RemovesIfDueFor, reset_as, StandsFor, HasFor, HasOneValue, NoneStandsFor, ComesFor, GoesOut}
 use Rattle.dq_growing.specs.declared.moving.NextDeadline.{NextDeadline}
 use Rattle.dq_growing.specs.declared.moving.NextDeadline.TheVariants.{Same, At, SameIfAfter}
@@ -27,7 +28,7 @@ use Rattle.dq_growing.proofs.Stored.{stored}
 use Rattle.dq_words.specs.Seats.{Sat}
 use Rattle.dq_queue.specs.Calls.{Exchanges, IsStoreCall, OnlyValueChanges, StoreChanges, StoreExchanges, StoreRemovesIfDue, StoreTakesIn, StoreResets, StoreResetsThere, StoreRelocates, HasOnly, ComesNew}
 use Rattle.dq_queue.specs.Runs.{ByCall, ByEach, WasGivenIn, KeepsGiven, KeepsGivenIds, HasNext, StandsOn, StandsThrough, LeavesWith, StaysEnded, LeftOnce, SetsDeadline, SetsNone, LeavesNoSooner, StaysDue, EntriesLeaveOnceIn, EndedStaysEndedIn, DeadlinesHoldIn}
-use Rattle.dq_queue.specs.Shards.{Held, IsAsLeft, IsStoreHistory}
+use Rattle.dq_queue.specs.Shards.{IsAsLeft, IsStoreHistory}
 
 -- a move asks for no deadline, or for one
 next_keeps : (next : NextDeadline) → KeepsItsDeadline next ⊎ (¬ KeepsItsDeadline next)
@@ -259,80 +260,85 @@ module _ {T : Type 0} where
       let here = x.has.0 in
       ((x.has, ((λ w z. z.1 here.0 here.1), (λ g. g.0 used))), inr (subst P (x.had.1 was v x.had.0 only.0) x))
 
-  -- the shard that the newest entry left
+  -- the store that the newest entry left
 
-  one_left : (es : List (Entry (Held T))) (x : Entry (Held T)) (xs : List (Entry (Held T))) (a b : Held T) → IsAsLeft (es ++ x ∷ xs) a → IsAsLeft (es ++ x ∷ xs) b → a ≡ b
-  one_left [] x xs a b p q = some_is a b (sym p ∙ q)
-  one_left (e ∷ es) x xs a b p q = some_is a b (sym p ∙ q)
+  one_store : (e : Entry (SizedState T Sat)) (a b : SizedState T Sat) → ((p : SizedState T Sat) × (e.left ≡ Some p) × (p.store ≡ a.store))
+      → ((q : SizedState T Sat) × (e.left ≡ Some q) × (q.store ≡ b.store)) → a.store ≡ b.store
+  one_store e a b p q = sym p.2 ∙ (ap (λ (s : SizedState T Sat). s.store) (some_is p.0 q.0 (sym p.1 ∙ q.1)) ∙ q.2)
 
-  pub by_call : (Did : StoreState T Sat → StoreState T Sat → Type 0) (e : Entry (Held T)) (es : List (Entry (Held T))) (x : Entry (Held T)) (xs : List (Entry (Held T))) (s t : Held T)
+  one_left : (es : List (Entry (SizedState T Sat))) (x : Entry (SizedState T Sat)) (xs : List (Entry (SizedState T Sat))) (a b : SizedState T Sat) → IsAsLeft (es ++ x ∷ xs) a → IsAsLeft (es ++ x ∷ xs) b → a.store ≡ b.store
+  one_left [] x xs a b p q = one_store x a b p q
+  one_left (e ∷ es) x xs a b p q = one_store e a b p q
+
+  pub by_call : (Did : StoreState T Sat → StoreState T Sat → Type 0) (e : Entry (SizedState T Sat)) (es : List (Entry (SizedState T Sat))) (x : Entry (SizedState T Sat)) (xs : List (Entry (SizedState T Sat))) (s t : SizedState T Sat)
       → IsAsLeft (es ++ x ∷ xs) s → e.left ≡ Some t → Did s.store t.store → ByCall Did e (es ++ x ∷ xs)
   by_call Did e es x xs s t was left did = λ a b p q.
-      let P : Held T × Held T → Type 0 = λ y. Did y.0.store y.1.store in
+      let P : StoreState T Sat × SizedState T Sat → Type 0 = λ y. Did y.0 y.1.store in
       let first = one_left es x xs s a was p in
       let second = some_is t b (sym left ∙ q) in
       subst P (λ n. (first n, second n)) did
 
   -- an id that had been given is a used one in the store that the history left
-  pub used_in : (log : List (Entry (Held T))) → IsStoreHistory log → KeepsGivenIds log → (u : EntryId) → WasGivenIn log u → (s : Held T) → IsAsLeft log s → IsUsedId s.store u
+  pub used_in : (log : List (Entry (SizedState T Sat))) → IsStoreHistory log → KeepsGivenIds log → (u : EntryId) → WasGivenIn log u → (s : SizedState T Sat) → IsAsLeft log s → IsUsedId s.store u
   used_in [] history kept u given s at = absurd given
-  used_in (e ∷ es) history kept u (inl now) s at = let P : Held T → Type 0 = λ k. IsUsedId k.store u in subst P (some_is now.0 s (sym now.1 ∙ at)) now.2.0
+  used_in (e ∷ es) history kept u (inl now) s at = let P : StoreState T Sat → Type 0 = λ k. IsUsedId k u in subst P (ap (λ (k : SizedState T Sat). k.store) (some_is now.0 at.0 (sym now.1 ∙ at.1)) ∙ at.2) now.2.0
   used_in (e ∷ es) history kept u (inr older) s at =
       let before = history.0 in
-      still_used u before.store s.store (kept.0 u older before s history.3 at) (used_in es history.6 kept.1 u older before history.3)
+      let P : StoreState T Sat → Type 0 = λ k. IsUsedId k u in
+      subst P at.2 (still_used u before.store at.0.store (kept.0 u older before at.0 history.3 at.1) (used_in es history.5 kept.1 u older before history.3))
 
   -- since a call that left a shard
-  module _ (x : Entry (Held T)) (xs : List (Entry (Held T))) (h : Held T) (left : x.left ≡ Some h) (u : EntryId) (given : WasGivenIn (x ∷ xs) u) where
-    given_then : (es : List (Entry (Held T))) → WasGivenIn (es ++ x ∷ xs) u
+  module _ (x : Entry (SizedState T Sat)) (xs : List (Entry (SizedState T Sat))) (h : SizedState T Sat) (left : x.left ≡ Some h) (u : EntryId) (given : WasGivenIn (x ∷ xs) u) where
+    given_then : (es : List (Entry (SizedState T Sat))) → WasGivenIn (es ++ x ∷ xs) u
     given_then [] = given
     given_then (e ∷ es) = inr (given_then es)
 
-    used_then : (es : List (Entry (Held T))) → IsStoreHistory (es ++ x ∷ xs) → KeepsGivenIds (es ++ x ∷ xs) → (s : Held T) → IsAsLeft (es ++ x ∷ xs) s → IsUsedId s.store u
+    used_then : (es : List (Entry (SizedState T Sat))) → IsStoreHistory (es ++ x ∷ xs) → KeepsGivenIds (es ++ x ∷ xs) → (s : SizedState T Sat) → IsAsLeft (es ++ x ∷ xs) s → IsUsedId s.store u
     used_then es history kept s at = used_in (es ++ x ∷ xs) history kept u (given_then es) s at
 
-    abbrev Ended : List (Entry (Held T)) → Type 0
-    Ended es = (k : Held T) × IsAsLeft (es ++ x ∷ xs) k × NoneStandsFor k.store u × ByEach (StaysEnded u) es (x ∷ xs)
+    abbrev Ended : List (Entry (SizedState T Sat)) → Type 0
+    Ended es = (k : SizedState T Sat) × IsAsLeft (es ++ x ∷ xs) k × NoneStandsFor k.store u × ByEach (StaysEnded u) es (x ∷ xs)
 
-    pub ended_since : NoneStandsFor h.store u → (es : List (Entry (Held T))) → IsStoreHistory (es ++ x ∷ xs) → KeepsGivenIds (es ++ x ∷ xs) → Ended es
-    ended_since none [] history kept = (h, left, none, tt {0})
+    pub ended_since : NoneStandsFor h.store u → (es : List (Entry (SizedState T Sat))) → IsStoreHistory (es ++ x ∷ xs) → KeepsGivenIds (es ++ x ∷ xs) → Ended es
+    ended_since none [] history kept = (h, (h, left, refl), none, tt {0})
     ended_since none (e ∷ es) history kept =
-        let r = ended_since none es history.6 kept.1 in
+        let r = ended_since none es history.5 kept.1 in
         let s = history.0 in
         let t = history.1 in
         let same = one_left es x xs r.0 s r.1 history.3 in
-        let P : Held T → Type 0 = λ k. NoneStandsFor k.store u in
+        let P : StoreState T Sat → Type 0 = λ k. NoneStandsFor k u in
         let at = subst P same r.2 in
-        let used = used_then es history.6 kept.1 s history.3 in
+        let used = used_then es history.5 kept.1 s history.3 in
         let k = kept.0 u (given_then es) s t history.3 history.2 in
         let did = stays_ended u s.store t.store k used at in
-        (t, history.2, did.0, (by_call (StaysEnded u) e es x xs s t history.3 history.2 did, r.3))
+        (t, (t, history.2, refl), did.0, (by_call (StaysEnded u) e es x xs s t history.3 history.2 did, r.3))
 
-    abbrev Due : ℕ → List (Entry (Held T)) → Type 0
-    Due tick es = (k : Held T) × IsAsLeft (es ++ x ∷ xs) k × NotDueBefore k.store u tick × ByEach (StaysDue u tick) es (x ∷ xs)
+    abbrev Due : ℕ → List (Entry (SizedState T Sat)) → Type 0
+    Due tick es = (k : SizedState T Sat) × IsAsLeft (es ++ x ∷ xs) k × NotDueBefore k.store u tick × ByEach (StaysDue u tick) es (x ∷ xs)
 
-    pub due_since : (tick : ℕ) → NotDueBefore h.store u tick → (es : List (Entry (Held T))) → IsStoreHistory (es ++ x ∷ xs) → KeepsGivenIds (es ++ x ∷ xs)
+    pub due_since : (tick : ℕ) → NotDueBefore h.store u tick → (es : List (Entry (SizedState T Sat))) → IsStoreHistory (es ++ x ∷ xs) → KeepsGivenIds (es ++ x ∷ xs)
         → ByEach (SetsNone u) es (x ∷ xs) → Due tick es
-    due_since tick none [] history kept sets = (h, left, none, tt {0})
+    due_since tick none [] history kept sets = (h, (h, left, refl), none, tt {0})
     due_since tick none (e ∷ es) history kept sets =
-        let r = due_since tick none es history.6 kept.1 sets.1 in
+        let r = due_since tick none es history.5 kept.1 sets.1 in
         let s = history.0 in
         let t = history.1 in
         let same = one_left es x xs r.0 s r.1 history.3 in
-        let P : Held T → Type 0 = λ k. NotDueBefore k.store u tick in
+        let P : StoreState T Sat → Type 0 = λ k. NotDueBefore k u tick in
         let at = subst P same r.2 in
-        let used = used_then es history.6 kept.1 s history.3 in
-        let held = holds_due u s.store t.store history.5 (sets.0 s t history.3 history.2) used tick at in
+        let used = used_then es history.5 kept.1 s history.3 in
+        let held = holds_due u s.store t.store history.4 (sets.0 s t history.3 history.2) used tick at in
         let did : StaysDue u tick s.store t.store = (held, leaves_due u tick s.store t.store at) in
-        (t, history.2, held, (by_call (StaysDue u tick) e es x xs s t history.3 history.2 did, r.3))
+        (t, (t, history.2, refl), held, (by_call (StaysDue u tick) e es x xs s t history.3 history.2 did, r.3))
 
-    abbrev Either : T → List (Entry (Held T)) → StoreState T Sat → Type 0
+    abbrev Either : T → List (Entry (SizedState T Sat)) → StoreState T Sat → Type 0
     Either v es s = ((w : T) × HasOnly s u w × StandsThrough u v es w (x ∷ xs)) ⊎ (NoneStandsFor s u × LeftOnce u v es (x ∷ xs))
 
-    abbrev Goes : T → List (Entry (Held T)) → Type 0
-    Goes v es = (k : Held T) × IsAsLeft (es ++ x ∷ xs) k × Either v es k.store
+    abbrev Goes : T → List (Entry (SizedState T Sat)) → Type 0
+    Goes v es = (k : SizedState T Sat) × IsAsLeft (es ++ x ∷ xs) k × Either v es k.store
 
     -- the newest call of one more
-    stands_more : (v w : T) (e : Entry (Held T)) (es : List (Entry (Held T))) (s t : Held T) → IsAsLeft (es ++ x ∷ xs) s → e.left ≡ Some t → IsUsedId s.store u → KeepsGiven u s.store t.store
+    stands_more : (v w : T) (e : Entry (SizedState T Sat)) (es : List (Entry (SizedState T Sat))) (s t : SizedState T Sat) → IsAsLeft (es ++ x ∷ xs) s → e.left ≡ Some t → IsUsedId s.store u → KeepsGiven u s.store t.store
         → HasOnly s.store u w → StandsThrough u v es w (x ∷ xs) → Either v (e ∷ es) t.store
     stands_more v w e es s t was is given (inr (a, b, exchanged)) only through =
         let did = exchanged_on u w a b s.store t.store given only exchanged in
@@ -346,13 +352,13 @@ module _ {T : Type 0} where
         inr (none, record { gone = []; entry = e; here = es; last = w; all = refl; stood = through; left = by_call (LeavesWith u w) e es x xs s t was is did; ended = tt {0} }))
         (kept.stays w only.0)
 
-    one_more : (v : T) (e : Entry (Held T)) (es : List (Entry (Held T))) (s t : Held T) → IsAsLeft (es ++ x ∷ xs) s → e.left ≡ Some t → IsUsedId s.store u → KeepsGiven u s.store t.store
+    one_more : (v : T) (e : Entry (SizedState T Sat)) (es : List (Entry (SizedState T Sat))) (s t : SizedState T Sat) → IsAsLeft (es ++ x ∷ xs) s → e.left ≡ Some t → IsUsedId s.store u → KeepsGiven u s.store t.store
         → Either v es s.store → Either v (e ∷ es) t.store
     one_more v e es s t was is given kept (inl y) = stands_more v y.0 e es s t was is given kept y.1 y.2
     one_more v e es s t was is given kept (inr y) =
         let l = y.1 in
         let did = stays_ended u s.store t.store kept given y.0 in
-        let P : List (Entry (Held T)) → Type 0 = λ k. ByCall (StaysEnded u) e k in
+        let P : List (Entry (SizedState T Sat)) → Type 0 = λ k. ByCall (StaysEnded u) e k in
         let long : es ++ x ∷ xs ≡ l.gone ++ (l.entry ∷ (l.here ++ x ∷ xs)) = ap (λ k. k ++ x ∷ xs) l.all ∙ append_assoc l.gone (l.entry ∷ l.here) (x ∷ xs) in
         inr (
           did.0,
@@ -368,38 +374,38 @@ module _ {T : Type 0} where
           },
         )
 
-    pub goes_since : (v : T) → HasOnly h.store u v → (es : List (Entry (Held T))) → IsStoreHistory (es ++ x ∷ xs) → KeepsGivenIds (es ++ x ∷ xs) → Goes v es
-    goes_since v only [] history kept = (h, left, inl (v, only, refl))
+    pub goes_since : (v : T) → HasOnly h.store u v → (es : List (Entry (SizedState T Sat))) → IsStoreHistory (es ++ x ∷ xs) → KeepsGivenIds (es ++ x ∷ xs) → Goes v es
+    goes_since v only [] history kept = (h, (h, left, refl), inl (v, only, refl))
     goes_since v only (e ∷ es) history kept =
-        let r = goes_since v only es history.6 kept.1 in
+        let r = goes_since v only es history.5 kept.1 in
         let s = history.0 in
         let t = history.1 in
         let same = one_left es x xs r.0 s r.1 history.3 in
-        let P : Held T → Type 0 = λ k. Either v es k.store in
+        let P : StoreState T Sat → Type 0 = λ k. Either v es k in
         let at = subst P same r.2 in
-        let used = used_then es history.6 kept.1 s history.3 in
+        let used = used_then es history.5 kept.1 s history.3 in
         let k = kept.0 u (given_then es) s t history.3 history.2 in
-        (t, history.2, one_more v e es s t history.3 history.2 used k at)
+        (t, (t, history.2, refl), one_more v e es s t history.3 history.2 used k at)
 
 -- over a history
 
-pub leave_once : {T : Type 0} (log : List (Entry (Held T))) → IsStoreHistory log → KeepsGivenIds log → EntriesLeaveOnceIn log
+pub leave_once : {T : Type 0} (log : List (Entry (SizedState T Sat))) → IsStoreHistory log → KeepsGivenIds log → EntriesLeaveOnceIn log
 leave_once {T} log history kept u v h since is only =
-    let P : List (Entry (Held T)) → Type 0 = λ k. IsStoreHistory k × KeepsGivenIds k in
+    let P : List (Entry (SizedState T Sat)) → Type 0 = λ k. IsStoreHistory k × KeepsGivenIds k in
     let now = subst P is.all (history, kept) in
     let r = goes_since is.entry is.before h is.left u is.given v only since now.0 now.1 in
     ⊎_elim (λ y. inl (y.0, y.2)) (λ y. inr y.1) r.2
 
-pub ended_stays : {T : Type 0} (log : List (Entry (Held T))) → IsStoreHistory log → KeepsGivenIds log → EndedStaysEndedIn log
+pub ended_stays : {T : Type 0} (log : List (Entry (SizedState T Sat))) → IsStoreHistory log → KeepsGivenIds log → EndedStaysEndedIn log
 ended_stays {T} log history kept u h since is none =
-    let P : List (Entry (Held T)) → Type 0 = λ k. IsStoreHistory k × KeepsGivenIds k in
+    let P : List (Entry (SizedState T Sat)) → Type 0 = λ k. IsStoreHistory k × KeepsGivenIds k in
     let now = subst P is.all (history, kept) in
     let r = ended_since is.entry is.before h is.left u is.given none since now.0 now.1 in
     r.3
 
-pub deadlines_hold : {T : Type 0} (log : List (Entry (Held T))) → IsStoreHistory log → KeepsGivenIds log → DeadlinesHoldIn log
+pub deadlines_hold : {T : Type 0} (log : List (Entry (SizedState T Sat))) → IsStoreHistory log → KeepsGivenIds log → DeadlinesHoldIn log
 deadlines_hold {T} log history kept u tick h since is none sets =
-    let P : List (Entry (Held T)) → Type 0 = λ k. IsStoreHistory k × KeepsGivenIds k in
+    let P : List (Entry (SizedState T Sat)) → Type 0 = λ k. IsStoreHistory k × KeepsGivenIds k in
     let now = subst P is.all (history, kept) in
     let r = due_since is.entry is.before h is.left u is.given tick none since now.0 now.1 sets in
     r.3

@@ -13,6 +13,7 @@ use Rattle.dq_core.specs.declared.outcomes.Turn.TheVariants.{Out as CameOut}
 use Rattle.dq_growing.specs.Cores.{IsCoreAt}
 use Rattle.dq_growing.specs.Notes.{user_at}
 use Rattle.dq_growing.specs.Stands.{HasEntry}
+use Rattle.dq_growing.specs.Sized.{SizedState}
 use Rattle.dq_growing.specs.Store.{StoreState, HasFor, NoneStandsFor}
 use Rattle.dq_growing.specs.declared.moving.Moved.TheVariants.{Out}
 use Rattle.dq_growing.specs.declared.moving.NextDeadline.{NextDeadline}
@@ -21,7 +22,7 @@ use Rattle.dq_words.specs.declared.views.View.{View}
 use Rattle.dq_words.specs.Seats.{Sat}
 use Rattle.dq_queue.specs.Calls.{IsStoreCall, StoreRemoves, StoreRelocates, StorePolls}
 use Rattle.dq_queue.specs.Endings.{InEachTable, IsKeptCore, file_under, present_key}
-use Rattle.dq_queue.specs.Shards.{Held, IsStoreHistory}
+use Rattle.dq_queue.specs.Shards.{IsStoreHistory}
 
 -- a key's stamp was cancelled once, by a caller, and its keeper never ended it
 abbrev pub WasCancelledOnce : Key → State ℕ View → Type 0
@@ -62,13 +63,13 @@ module _ {T : Type 0} where
       GivesOut u s t ⊎ WasCancelledIn u s t
 
   -- so of each call of a history
-  abbrev pub EachLosesNone : (log : List (Call (Held T))) → IsStoreHistory log → Type 0
+  abbrev pub EachLosesNone : (log : List (Call (SizedState T Sat))) → IsStoreHistory log → Type 0
   EachLosesNone [] history = Unit {0}
-  EachLosesNone (e ∷ es) (old, new, left, was, number, call, history) =
+  EachLosesNone (e ∷ es) (old, new, left, was, call, history) =
       LosesNone old.store new.store × EachLosesNone es history
 
   -- in a history no entry was ever lost, whoever called
-  abbrev pub NoneIsLostIn : List (Call (Held T)) → Type 0
+  abbrev pub NoneIsLostIn : List (Call (SizedState T Sat)) → Type 0
   NoneIsLostIn log = (history : IsStoreHistory log) → EachLosesNone log history
 
 -- no call of a store loses an entry

@@ -12,6 +12,7 @@ use Rattle.dq_directory.specs.Claims.{Claimed}
 use Rattle.dq_growing.specs.declared.cores.TakeError.{TakeError}
 use Rattle.dq_growing.specs.Cores.{HasNo}
 use Rattle.dq_growing.specs.Notes.{ArePastBy, numbers_of}
+use Rattle.dq_growing.specs.Sized.{SizedState}
 use Rattle.dq_growing.specs.Store.{StoreState}
 use Rattle.dq_journal.specs.declared.views.Entry.{Entry}
 use Rattle.dq_journal.specs.declared.views.View.{View}
@@ -22,7 +23,6 @@ use Rattle.dq_words.specs.Seats.{Sat}
 use Rattle.dq_queue.specs.Calls.{StoreGives, StoreRefuses, StoreTakesIn}
 use Rattle.dq_queue.specs.Claims.{HasClaim, IsClaimed}
 use Rattle.dq_queue.specs.Runs.{KeepsGivenIds, WasGivenIn}
-use Rattle.dq_queue.specs.Shards.{Held}
 
 -- whether a core is away, by its loan's entries: one was made as it left, the next as it came back
 abbrev pub is_away : {E : Type 0} → List (Entry E) → Bool
@@ -76,7 +76,7 @@ module _ {T : Type 0} where
   -- What a shard keeps of its history and of the cores that are away. Its claims have the number of
   -- each id that had been given, and of each core that is away. None of these gives such an id anew,
   -- no core of their numbers is in the store, and no two of them have one number.
-  pub record LoansAreKept (log : List (Entry (Held T))) (store : StoreState T Sat)
+  pub record LoansAreKept (log : List (Entry (SizedState T Sat))) (store : StoreState T Sat)
       (register : List (Entry (Core T Sat))) (claims : List (Claimed Open)) : Type 0 where
     pub ids : KeepsGivenIds log
     pub known : (u : EntryId) → WasGivenIn log u → HasClaim claims u.shard

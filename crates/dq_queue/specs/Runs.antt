@@ -8,34 +8,35 @@ use Rattle.dq_core.specs.declared.outcomes.Turn.TheVariants.{Out as CameOut}
 use Rattle.dq_core.specs.declared.outcomes.Piece.TheVariants.{Answer}
 use Rattle.dq_journal.specs.declared.views.Entry.{Entry}
 use Rattle.dq_growing.specs.Runs.{KeepsId, GivesId, KeepsItsDeadline, NotDueBefore}
+use Rattle.dq_growing.specs.Sized.{SizedState}
 use Rattle.dq_growing.specs.Store.{StoreState, NoneStandsFor, GoesOut}
 use Rattle.dq_growing.specs.declared.moving.Moved.TheVariants.{To, Out}
 use Rattle.dq_growing.specs.declared.moving.NextDeadline.{NextDeadline}
 use Rattle.dq_words.specs.Seats.{Sat}
 use Rattle.dq_queue.specs.Calls.{Exchanges, HasGiven, HasOnly, StoreRemoves, StoreResets, StoreRelocates, StorePolls}
-use Rattle.dq_queue.specs.Shards.{Held, IsAsLeft}
+use Rattle.dq_queue.specs.Shards.{IsAsLeft}
 
 module _ {T : Type 0} where
   -- the call of an entry did so, from what the entries before it had left to what it left
-  abbrev pub ByCall : (StoreState T Sat → StoreState T Sat → Type 0) → Entry (Held T) →
-      List (Entry (Held T)) → Type 0
+  abbrev pub ByCall : (StoreState T Sat → StoreState T Sat → Type 0) → Entry (SizedState T Sat) →
+      List (Entry (SizedState T Sat)) → Type 0
   ByCall Did e before =
-      (s t : Held T) → IsAsLeft before s → e.left ≡ Some t → Did s.store t.store
+      (s t : SizedState T Sat) → IsAsLeft before s → e.left ≡ Some t → Did s.store t.store
 
   -- so of each call of some newest entries; the others came before
-  abbrev pub ByEach : (StoreState T Sat → StoreState T Sat → Type 0) → List (Entry (Held T)) →
-      List (Entry (Held T)) → Type 0
+  abbrev pub ByEach : (StoreState T Sat → StoreState T Sat → Type 0) →
+      List (Entry (SizedState T Sat)) → List (Entry (SizedState T Sat)) → Type 0
   ByEach Did [] before = Unit {0}
   ByEach Did (e ∷ es) before = ByCall Did e (es ++ before) × ByEach Did es before
 
   -- a call of a history left a store that had given an id
-  abbrev pub WasGivenIn : List (Entry (Held T)) → EntryId → Type 0
+  abbrev pub WasGivenIn : List (Entry (SizedState T Sat)) → EntryId → Type 0
   WasGivenIn [] u = ⊥
   WasGivenIn (e ∷ es) u =
-      ((h : Held T) × (e.left ≡ Some h) × HasGiven h.store u) ⊎ WasGivenIn es u
+      ((h : SizedState T Sat) × (e.left ≡ Some h) × HasGiven h.store u) ⊎ WasGivenIn es u
 
   -- no call of a history left a store that had given an id of a number
-  abbrev pub IsNewNumber : List (Entry (Held T)) → ℕ → Type 0
+  abbrev pub IsNewNumber : List (Entry (SizedState T Sat)) → ℕ → Type 0
   IsNewNumber log number = (u : EntryId) → WasGivenIn log u → u.shard ≢ number
 
   -- a call kept an id, or exchanged the value of its entry
@@ -43,17 +44,17 @@ module _ {T : Type 0} where
   KeepsGiven u s t = KeepsId s t u ⊎ ((was : T) × (now : T) × Exchanges u was now s t)
 
   -- each call of a history did so with each id that had been given by then
-  abbrev pub KeepsGivenIds : List (Entry (Held T)) → Type 0
+  abbrev pub KeepsGivenIds : List (Entry (SizedState T Sat)) → Type 0
   KeepsGivenIds [] = Unit {0}
   KeepsGivenIds (e ∷ es) =
       ((u : EntryId) → WasGivenIn es u → ByCall (KeepsGiven u) e es) × KeepsGivenIds es
 
   -- In a history an entry's call left that shard, and these newer entries came since. The id
   -- had been given by then.
-  pub record IsSince (log : List (Entry (Held T))) (u : EntryId) (h : Held T)
-      (since : List (Entry (Held T))) : Type 0 where
-    pub entry : Entry (Held T)
-    pub before : List (Entry (Held T))
+  pub record IsSince (log : List (Entry (SizedState T Sat))) (u : EntryId) (h : SizedState T Sat)
+      (since : List (Entry (SizedState T Sat))) : Type 0 where
+    pub entry : Entry (SizedState T Sat)
+    pub before : List (Entry (SizedState T Sat))
     pub all : log ≡ since ++ entry ∷ before
     pub left : entry.left ≡ Some h
     pub given : WasGivenIn (entry ∷ before) u
@@ -73,7 +74,7 @@ module _ {T : Type 0} where
   -- an entry stands on by each of some newest calls: each left it its value, or exchanged it; so it
   -- had one value before them, and has the last one after them
   abbrev pub StandsThrough :
-      EntryId → T → List (Entry (Held T)) → T → List (Entry (Held T)) → Type 0
+      EntryId → T → List (Entry (SizedState T Sat)) → T → List (Entry (SizedState T Sat)) → Type 0
   StandsThrough u v [] last before = last ≡ v
   StandsThrough u v (e ∷ es) last before =
       (was : T) × StandsThrough u v es was before
@@ -90,10 +91,11 @@ module _ {T : Type 0} where
 
   -- an entry stood until one call, by which it left with the value that it had last; under its id
   -- none stands from then on, and nothing goes out
-  pub record LeftOnce (u : EntryId) (v : T) (since before : List (Entry (Held T))) : Type 0 where
-    pub gone : List (Entry (Held T))
-    pub entry : Entry (Held T)
-    pub here : List (Entry (Held T))
+  pub record LeftOnce (u : EntryId) (v : T)
+      (since before : List (Entry (SizedState T Sat))) : Type 0 where
+    pub gone : List (Entry (SizedState T Sat))
+    pub entry : Entry (SizedState T Sat)
+    pub here : List (Entry (SizedState T Sat))
     pub last : T
     pub all : since ≡ gone ++ entry ∷ here
     pub stood : StandsThrough u v here last before
@@ -102,17 +104,18 @@ module _ {T : Type 0} where
 
   -- in a history an entry leaves at most once, whoever calls, and until then has its value, or the
   -- one for which a call exchanged that
-  abbrev pub EntriesLeaveOnceIn : List (Entry (Held T)) → Type 0
+  abbrev pub EntriesLeaveOnceIn : List (Entry (SizedState T Sat)) → Type 0
   EntriesLeaveOnceIn log =
-      (u : EntryId) (v : T) (h : Held T) (since : List (Entry (Held T)))
+      (u : EntryId) (v : T) (h : SizedState T Sat) (since : List (Entry (SizedState T Sat)))
       (is : IsSince log u h since) → HasOnly h.store u v →
       ((last : T) × StandsThrough u v since last (is.entry ∷ is.before))
       ⊎ LeftOnce u v since (is.entry ∷ is.before)
 
   -- in a history none ever stands again under an id whose entry has left, and nothing goes out
-  abbrev pub EndedStaysEndedIn : List (Entry (Held T)) → Type 0
+  abbrev pub EndedStaysEndedIn : List (Entry (SizedState T Sat)) → Type 0
   EndedStaysEndedIn log =
-      (u : EntryId) (h : Held T) (since : List (Entry (Held T))) (is : IsSince log u h since) →
+      (u : EntryId) (h : SizedState T Sat) (since : List (Entry (SizedState T Sat)))
+      (is : IsSince log u h since) →
       NoneStandsFor h.store u → ByEach (StaysEnded u) since (is.entry ∷ is.before)
 
   -- a call gave an entry a deadline that was asked for: a reset did, or a move
@@ -149,9 +152,9 @@ module _ {T : Type 0} where
 
   -- In a history the deadline of an entry never falls, and it leaves at none before the one that it
   -- had, whoever calls, unless a call gives it one that was asked for.
-  abbrev pub DeadlinesHoldIn : List (Entry (Held T)) → Type 0
+  abbrev pub DeadlinesHoldIn : List (Entry (SizedState T Sat)) → Type 0
   DeadlinesHoldIn log =
-      (u : EntryId) (tick : ℕ) (h : Held T) (since : List (Entry (Held T)))
+      (u : EntryId) (tick : ℕ) (h : SizedState T Sat) (since : List (Entry (SizedState T Sat)))
       (is : IsSince log u h since) → NotDueBefore h.store u tick →
       ByEach (SetsNone u) since (is.entry ∷ is.before) →
       ByEach (StaysDue u tick) since (is.entry ∷ is.before)

@@ -5,6 +5,7 @@ use Rattle.dq_directory.specs.Claims.{Claimed}
 use Rattle.dq_journal.specs.declared.views.Entry.{Entry}
 use Rattle.dq_journal.specs.declared.views.View.{View}
 use Rattle.dq_journal.specs.History.{entry, entries_by}
+use Rattle.dq_growing.specs.Sized.{SizedState}
 use Rattle.dq_growing.specs.Store.{StoreState, IsStore}
 use Rattle.dq_words.specs.OpenCalls.{Open}
 use Rattle.dq_words.specs.Seats.{Sat}
@@ -14,49 +15,49 @@ use Rattle.dq_queue.specs.Calls.{IsStoreCall}
 abbrev pub unnamed : TableId
 unnamed = record { words = 0; slots = 0; views_name = 0; atom = 0; block = 0; offset = 0; slot_names = [] }
 
--- what lies behind a shard's lock: the shard's number, and its store
-pub record Held (T : Type 0) : Type 0 where
-  pub number : ℕ
-  pub store : StoreState T Sat
-
--- a shard, what is known of its history under the lock, and its claims of the words of its cores
+-- a shard: its number, and its store, which knows its size and its hint; what is known of its
+-- history under the lock; and its claims of the words of its cores
 pub record HeldShard (T : Type 0) : Type 0 where
-  pub held : Held T
-  pub history : View (Held T)
+  pub number : ℕ
+  pub sized : SizedState T Sat
+  pub history : View (SizedState T Sat)
   pub claims : List (Claimed Open)
 
 -- a caller: the number of its shard, and what it knows of the history
 pub record CallerView (T : Type 0) : Type 0 where
   pub shard : ℕ
-  pub history : View (Held T)
+  pub history : View (SizedState T Sat)
 
 -- the caller of that shard, which knows so much
-abbrev pub caller_of : {T : Type 0} → ℕ → View (Held T) → CallerView T
+abbrev pub caller_of : {T : Type 0} → ℕ → View (SizedState T Sat) → CallerView T
 caller_of shard history = record { shard = shard; history = history }
 
 module _ {T : Type 0} where
-  -- the shard is what the newest entry left; with no entry yet it is as it was made
-  abbrev pub IsAsLeft : List (Entry (Held T)) → Held T → Type 0
-  IsAsLeft [] h = Unit {0}
-  IsAsLeft (e ∷ es) h = e.left ≡ Some h
+  -- The shard's store is what the newest entry left; with no entry yet it is as it was made. What is
+  -- known of its size, and its hint, may have changed since.
+  abbrev pub IsAsLeft : List (Entry (SizedState T Sat)) → SizedState T Sat → Type 0
+  IsAsLeft [] s = Unit {0}
+  IsAsLeft (e ∷ es) s =
+      (left : SizedState T Sat) × (e.left ≡ Some left) × (left.store ≡ s.store)
 
   -- each entry is what one call left of what the entries before it had left
-  abbrev pub IsStoreHistory : List (Entry (Held T)) → Type 0
+  abbrev pub IsStoreHistory : List (Entry (SizedState T Sat)) → Type 0
   IsStoreHistory [] = Unit {0}
   IsStoreHistory (e ∷ es) =
-      (old : Held T) × (new : Held T) × (e.left ≡ Some new) × IsAsLeft es old
-      × (new.number ≡ old.number) × IsStoreCall old.store new.store × IsStoreHistory es
+      (old : SizedState T Sat) × (new : SizedState T Sat) × (e.left ≡ Some new) × IsAsLeft es old
+      × IsStoreCall old.store new.store × IsStoreHistory es
 
-  -- The caller's call was made once, on the shard of its number: it took the store, as the history
-  -- had left it, from one state to another, and is the newest entry. What is between are other
-  -- callers' entries, since the history has of this caller this entry and those that it knew, and
-  -- no other.
+  -- The caller's call was made once, on the shard whose history this is: it took the store, as the
+  -- history had left it, from one state to another, and is the newest entry. What is between are
+  -- other callers' entries, since the history has of this caller this entry and those that it knew,
+  -- and no other.
   abbrev pub MadeOnce :
       CallerView T → (StoreState T Sat → StoreState T Sat → Type 0) → CallerView T → Type 0
   MadeOnce v gives w =
-      (between : List (Entry (Held T))) × (old : Held T) × (new : Held T)
+      (between : List (Entry (SizedState T Sat))) × (old : SizedState T Sat)
+      × (new : SizedState T Sat)
       × (w.history.log ≡ entry v.history.number (Some new) ∷ (between ++ v.history.log))
-      × IsAsLeft (between ++ v.history.log) old × (old.number ≡ v.shard) × (new.number ≡ v.shard)
+      × IsAsLeft (between ++ v.history.log) old
       × IsStore old.store × IsStore new.store × gives old.store new.store
       × (w.history.mine ≡ entry v.history.number (Some new) ∷ v.history.mine)
       × (entries_by w.history.number w.history.log ≡ w.history.mine)
@@ -66,13 +67,17 @@ module _ {T : Type 0} where
   -- and no caller more was made.
   abbrev pub OneMore : HeldShard T → CallerView T → HeldShard T → Type 0
   OneMore s v t =
-      (t.history.log ≡ entry v.history.number (Some t.held) ∷ s.history.log)
+      (t.history.log ≡ entry v.history.number (Some t.sized) ∷ s.history.log)
       × (t.history.made ≡ s.history.made)
+
+  -- no call is entered and no caller made; the shard has its number and its claims
+  abbrev pub EntersNone : HeldShard T → HeldShard T → Type 0
+  EntersNone s t = (t.number ≡ s.number) × (t.history ≡ s.history) × (t.claims ≡ s.claims)
 
   -- of the caller's calls a history has those that it knew and one more, which did that
   abbrev pub HasCallMore :
-      CallerView T → (StoreState T Sat → StoreState T Sat → Type 0) → List (Entry (Held T)) → Type 0
+      CallerView T → (StoreState T Sat → StoreState T Sat → Type 0) →
+      List (Entry (SizedState T Sat)) → Type 0
   HasCallMore v gives log =
-      (old : Held T) × (new : Held T) × (old.number ≡ v.shard) × (new.number ≡ v.shard)
-      × gives old.store new.store
+      (old : SizedState T Sat) × (new : SizedState T Sat) × gives old.store new.store
       × (entries_by v.history.number log ≡ entry v.history.number (Some new) ∷ v.history.mine)

@@ -4,12 +4,13 @@ use Rattle.std.specs.Prelude.{◌≡◌, ◌≢◌, ◌⊎◌, ℕ, ◌+◌, Lis
 use Rattle.dq_ticks.specs.declared.keys.EntryId.{EntryId}
 use Rattle.dq_ticks.specs.declared.keys.Key.{Key}
 use Rattle.dq_journal.specs.declared.views.Entry.{Entry}
+use Rattle.dq_growing.specs.Sized.{SizedState}
 use Rattle.dq_growing.specs.Store.{StoreState, NoneStandsFor}
 use Rattle.dq_words.specs.Seats.{Sat}
 use Rattle.dq_queue.specs.Calls.{HasOnly, StoreInserts}
 use Rattle.dq_queue.specs.Leaving.{GivesOut, WasCancelledIn}
 use Rattle.dq_queue.specs.Runs.{HasNext}
-use Rattle.dq_queue.specs.Shards.{Held, IsAsLeft, IsStoreHistory}
+use Rattle.dq_queue.specs.Shards.{IsAsLeft, IsStoreHistory}
 
 -- how many entries stand, were given out, and were found cancelled
 pub record Counted : Type 0 where
@@ -26,10 +27,10 @@ module _ {T : Type 0} where
 
   -- entries that came in by a history's calls, all of them or some, the newest first, each with its
   -- value
-  abbrev pub CameIn : (log : List (Entry (Held T))) → IsStoreHistory log → List (EntryId × T) →
-      Type 0
+  abbrev pub CameIn : (log : List (Entry (SizedState T Sat))) → IsStoreHistory log →
+      List (EntryId × T) → Type 0
   CameIn [] history came = came ≡ []
-  CameIn (e ∷ es) (old, new, left, was, number, call, history) came =
+  CameIn (e ∷ es) (old, new, left, was, call, history) came =
       ((u : EntryId) × (v : T) × (older : List (EntryId × T)) × (came ≡ (u, v) ∷ older)
       × WasPutIn u v old.store new.store × CameIn es history older)
       ⊎ CameIn es history came
@@ -46,23 +47,24 @@ module _ {T : Type 0} where
 
   -- by some call of a history that came about of an id
   abbrev pub CameAbout : (EntryId → StoreState T Sat → StoreState T Sat → Type 0) →
-      (log : List (Entry (Held T))) → IsStoreHistory log → EntryId → Type 0
+      (log : List (Entry (SizedState T Sat))) → IsStoreHistory log → EntryId → Type 0
   CameAbout How [] history u = ⊥
-  CameAbout How (e ∷ es) (old, new, left, was, number, call, history) u =
+  CameAbout How (e ∷ es) (old, new, left, was, call, history) u =
       How u old.store new.store ⊎ CameAbout How es history u
 
   -- by the calls of a history an entry that had one value has the last one: each left it its value,
   -- or exchanged it
   abbrev pub HasBecome :
-      (log : List (Entry (Held T))) → IsStoreHistory log → EntryId → T → T → Type 0
+      (log : List (Entry (SizedState T Sat))) → IsStoreHistory log → EntryId → T → T → Type 0
   HasBecome [] history u v last = last ≡ v
-  HasBecome (e ∷ es) (old, new, left, was, number, call, history) u v last =
+  HasBecome (e ∷ es) (old, new, left, was, call, history) u v last =
       (w : T) × HasBecome es history u v w × HasNext u w last old.store new.store
 
   -- Of these entries so many stand, each with its value, or with what that has become. Of the others
   -- none stands: so many were given out by a call of the history, and so many were found cancelled by
   -- one.
-  abbrev pub AreCounted : (log : List (Entry (Held T))) → IsStoreHistory log → StoreState T Sat →
+  abbrev pub AreCounted :
+      (log : List (Entry (SizedState T Sat))) → IsStoreHistory log → StoreState T Sat →
       List (EntryId × T) → Counted → Type 0
   AreCounted log history s [] n = n ≡ record { here = 0; out = 0; cancelled = 0 }
   AreCounted log history s (x ∷ came) n =
@@ -75,9 +77,9 @@ module _ {T : Type 0} where
 
   -- In a history as many entries came in as stand there, were given out and were cancelled, each
   -- under an id of its own: of all that came in, and of any choice of them.
-  abbrev pub TotalsAgreeIn : List (Entry (Held T)) → Type 0
+  abbrev pub TotalsAgreeIn : List (Entry (SizedState T Sat)) → Type 0
   TotalsAgreeIn log =
-      (history : IsStoreHistory log) (came : List (EntryId × T)) (h : Held T) →
+      (history : IsStoreHistory log) (came : List (EntryId × T)) (h : SizedState T Sat) →
       CameIn log history came → IsAsLeft log h →
       HaveOwnIds came
       × ((n : Counted) × AreCounted log history h.store came n

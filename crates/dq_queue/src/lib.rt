@@ -14,5 +14,5 @@ mod words;
 pub use loans::{Drained, FoldedDrained};
 pub use making::{MakeError, numbered_core};
 pub use queue::{GrowingQueue, QueueError};
-pub use shard::{Caller, Held, Rooms, Shard};
+pub use shard::{Caller, Rooms, Shard};
 pub use words::{Promise, QueueWords};

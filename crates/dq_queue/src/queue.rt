@@ -78,7 +78,7 @@ impl<T, J: Rooms, A: Allocator> GrowingQueue<T, J, A> {
         rt: &R,
         shard: u32,
     ) -> Result<MutexGuard<'_, Shard<T, J, A>>, QueueError>
-        ensures number { IfOk result (λ s. (mutex_guard_value s).held.number ≡ shard) }
+        ensures number { IfOk result (λ s. (mutex_guard_value s).number ≡ shard) }
         ensures refused { IfErr result (λ e. (J.shards ≤ shard) × (e ≡ Unknown)) }
     {
         if shard as usize >= self.row.len() {
@@ -93,7 +93,7 @@ impl<T, J: Rooms, A: Allocator> GrowingQueue<T, J, A> {
     /// `Unknown` if there is no such shard.
     pub fn try_lock(&self, shard: u32) -> Result<Option<MutexGuard<'_, Shard<T, J, A>>>, QueueError>
         ensures number { IfOk result
-            (λ r. IfSome r (λ s. (mutex_guard_value s).held.number ≡ shard)) }
+            (λ r. IfSome r (λ s. (mutex_guard_value s).number ≡ shard)) }
         ensures refused { IfErr result (λ e. (J.shards ≤ shard) × (e ≡ Unknown)) }
     {
         if shard as usize >= self.row.len() {
@@ -111,7 +111,7 @@ impl<T, J: Rooms, A: Allocator> GrowingQueue<T, J, A> {
     // The shard of that number, with its lock held. Whether it stands at its place is compared once.
     fn locked<R: Wait>(&self, rt: &R, shard: u32) -> MutexGuard<'_, Shard<T, J, A>>
         requires { shard < self.now }
-        ensures { (mutex_guard_value result).held.number ≡ shard }
+        ensures { (mutex_guard_value result).number ≡ shard }
     {
         let locked = self.row[shard as usize].lock(rt);
         if locked.number() != shard {
@@ -125,7 +125,7 @@ impl<T, J: Rooms, A: Allocator> GrowingQueue<T, J, A> {
 
     // The caller's shard, with its lock held.
     fn locked_for<R: Wait>(&self, rt: &R, me: &Caller<T, J, A>) -> MutexGuard<'_, Shard<T, J, A>>
-        ensures { (mutex_guard_value result).held.number ≡ me.now.shard }
+        ensures { (mutex_guard_value result).number ≡ me.now.shard }
     {
         let shard = me.shard();
         if shard as usize >= self.row.len() {

@@ -1,11 +1,13 @@
 //! What lies behind a shard's lock, and the calls that callers make of it there: each is entered once in the shard's
 //! history.
-ghost use Rattle.std.specs.Prelude.{◌≡◌, ◌<◌, ◌+◌, ◌++◌, ◌∷◌, true, [], Some, None, IfOk, IfErr, IfSome, IfNone, OnOk, OnErr};
+ghost use Rattle.std.specs.Prelude.{◌≡◌, ◌<◌, ◌+◌, ◌++◌, ◌∷◌, max, true, [], Some, None, IfOk, IfErr, IfSome, IfNone, OnOk, OnErr};
 ghost use Rattle.std.specs.Fn.{FnOnceReturnsAtMut};
 ghost use Rattle.dq_journal.specs.Once.{IsTold, IsWithNumber};
 ghost use Rattle.dq_journal.specs.Views.{first_witness, new_witness};
 ghost use Rattle.dq_growing.specs.Notes.{HasNoteRoom};
 ghost use Rattle.dq_growing.specs.Polls.{IfPieceOut, NoneLiveIn};
+ghost use Rattle.dq_growing.specs.Sized.{NotesNext};
+ghost use Rattle.dq_growing.specs.Sizing.{with_work, NotesLeft};
 ghost use Rattle.dq_growing.specs.Store.{IsStore};
 ghost use Rattle.dq_directory.specs.Claims.{IsOf};
 ghost use Rattle.dq_queue.specs.Calls.{StoreInserts, StoreRemoves, StoreRemovesIfDue, StoreResets, StoreResetsThere, StoreTells, StorePolls};
@@ -18,7 +20,7 @@ ghost use Rattle.dq_queue.specs.Leaving.{NoneIsLostIn};
 ghost use Rattle.dq_queue.specs.Loans.{StoreGivesOut, StoreRefusesBack, StoreTakesBack};
 ghost use Rattle.dq_queue.specs.Runs.{DeadlinesHoldIn, EndedStaysEndedIn, EntriesLeaveOnceIn, IsNewNumber, KeepsGivenIds};
 ghost use Rattle.dq_queue.specs.Totals.{TotalsAgreeIn};
-ghost use Rattle.dq_queue.specs.Shards.{MadeOnce, OneMore, IsStoreHistory, unnamed};
+ghost use Rattle.dq_queue.specs.Shards.{EntersNone, MadeOnce, OneMore, IsStoreHistory, unnamed};
 
 use crate::endings;
 use crate::loans::Drained;
@@ -58,347 +60,14 @@ impl Rooms for Brand {
     ghost rows = { [] };
 }
 
-/// A shard's number, and its store, which keeps its size and knows its hint.
-#[derive(Drop)]
-pub struct Held<T, A: Allocator = Global> {
-    number: u32,
-    sized: SizedStore<T, Keeper<A>, A>,
-}
-
-impl<T, A: Allocator> Model for Held<T, A> {
-    ghost use Rattle.dq_queue.specs.Shards.{Held as HeldView};
-
-    ghost Value = { HeldView T };
-
-    ghost view = { λ s. record { number = s.number; store = s.sized.store } };
-}
-
-impl<T, A: Allocator> Held<T, A> {
-    /// The store of the shard of that number.
-    pub fn new(number: u32, sized: SizedStore<T, Keeper<A>, A>) -> Held<T, A>
-        ensures number { result.number ≡ number }
-        ensures store { result.store ≡ sized.store }
-    {
-        Held { number, sized }
-    }
-}
-
-// The store's calls, each between two laws.
-impl<T, A: Allocator + Clone> Held<T, A> {
-    fn insert(&mut self, value: T, when: u64) -> (Result<Key, (CoreError, T)>, Option<T>)
-        ensures number { self.new.number ≡ self.old.number }
-        ensures stores { IsStore self.old.store × IsStore self.new.store }
-        ensures cores { BringsNoCore self.old.store self.new.store }
-        ensures inserts { StoreInserts value when result self.old.store self.new.store }
-    {
-        self.sized.law();
-        let answer = self.sized.insert(value, when);
-        self.sized.law();
-        answer
-    }
-
-    fn remove(&mut self, entry: &EntryId) -> Result<Removed<T>, CoreError>
-        ensures number { self.new.number ≡ self.old.number }
-        ensures stores { IsStore self.old.store × IsStore self.new.store }
-        ensures cores { BringsNoCore self.old.store self.new.store }
-        ensures removes { StoreRemoves entry.now result self.old.store self.new.store }
-    {
-        self.sized.law();
-        let answer = self.sized.remove(entry);
-        self.sized.law();
-        answer
-    }
-
-    fn remove_if_due(&mut self, entry: &EntryId, tick: u64) -> Result<Option<Removed<T>>, CoreError>
-        ensures number { self.new.number ≡ self.old.number }
-        ensures stores { IsStore self.old.store × IsStore self.new.store }
-        ensures cores { BringsNoCore self.old.store self.new.store }
-        ensures removes { StoreRemovesIfDue entry.now tick result self.old.store self.new.store }
-    {
-        self.sized.law();
-        let answer = self.sized.remove_if_due(entry, tick);
-        self.sized.law();
-        answer
-    }
-
-    fn reset(&mut self, entry: &EntryId, when: u64) -> (Result<Key, CoreError>, Option<T>)
-        ensures number { self.new.number ≡ self.old.number }
-        ensures stores { IsStore self.old.store × IsStore self.new.store }
-        ensures cores { BringsNoCore self.old.store self.new.store }
-        ensures resets { StoreResets entry.now when result self.old.store self.new.store }
-    {
-        self.sized.law();
-        let answer = self.sized.reset(entry, when);
-        self.sized.law();
-        answer
-    }
-
-    fn reset_in_place(&mut self, entry: &EntryId, when: u64) -> Result<Key, CoreError>
-        ensures number { self.new.number ≡ self.old.number }
-        ensures stores { IsStore self.old.store × IsStore self.new.store }
-        ensures cores { BringsNoCore self.old.store self.new.store }
-        ensures resets { StoreResetsThere entry.now when result self.old.store self.new.store }
-    {
-        self.sized.law();
-        let answer = self.sized.reset_in_place(entry, when);
-        self.sized.law();
-        answer
-    }
-
-    fn deadline(&mut self, entry: &EntryId) -> Result<u64, CoreError>
-        ensures number { self.new.number ≡ self.old.number }
-        ensures stores { IsStore self.old.store × IsStore self.new.store }
-        ensures cores { BringsNoCore self.old.store self.new.store }
-        ensures tells { StoreTells entry.now result self.old.store self.new.store }
-    {
-        self.sized.law();
-        let answer = self.sized.deadline(entry);
-        self.sized.law();
-        answer
-    }
-
-    fn poll(&mut self, tick: u64) -> Result<Piece<T>, CoreError>
-        ensures number { self.new.number ≡ self.old.number }
-        ensures stores { IsStore self.old.store × IsStore self.new.store }
-        ensures cores { BringsNoCore self.old.store self.new.store }
-        ensures polls { StorePolls tick None result self.old.store self.new.store }
-    {
-        self.sized.law();
-        let answer = self.sized.poll(tick);
-        self.sized.law();
-        answer
-    }
-
-    fn poll_some(&mut self, tick: u64, most: u32) -> Result<Piece<T>, CoreError>
-        ensures number { self.new.number ≡ self.old.number }
-        ensures stores { IsStore self.old.store × IsStore self.new.store }
-        ensures cores { BringsNoCore self.old.store self.new.store }
-        ensures polls { StorePolls tick (Some most) result self.old.store self.new.store }
-    {
-        self.sized.law();
-        let answer = self.sized.poll_some(tick, most);
-        self.sized.law();
-        answer
-    }
-
-    // The same, and what the promise tells holds of what comes out.
-    fn poll_beside<J: Rooms>(
-        &mut self,
-        promise: &mut Promise<J, A>,
-        tick: u64,
-        most: u32,
-    ) -> Result<Piece<T>, CoreError>
-        requires { IsOfItsWords self.old.store promise.old }
-        ensures number { self.new.number ≡ self.old.number }
-        ensures stores { IsStore self.old.store × IsStore self.new.store }
-        ensures cores { BringsNoCore self.old.store self.new.store }
-        ensures polls { StorePolls tick (Some most) result self.old.store self.new.store }
-        ensures kept { IfPieceOut result (KeepsPromise self.old.store.notes promise.old) }
-        ensures same { promise.new ≡ promise.old }
-    {
-        self.sized.law();
-        let answer = self.sized.poll_some(tick, most);
-        let number = promise.claim.number();
-        self.sized.beside(number, &mut promise.receipt);
-        self.sized.law();
-        endings::outs_are_in_force::<T>();
-        answer
-    }
-
-    fn take_deferred(&mut self) -> Option<T>
-        ensures number { self.new.number ≡ self.old.number }
-        ensures stores { IsStore self.old.store × IsStore self.new.store }
-        ensures cores { BringsNoCore self.old.store self.new.store }
-        ensures takes { StoreTakesDeferred result self.old.store self.new.store }
-    {
-        self.sized.law();
-        let answer = self.sized.take_deferred();
-        self.sized.law();
-        answer
-    }
-
-    fn take_in(
-        &mut self,
-        core: DelayCore<T, Keeper<A>, A>,
-    ) -> Result<(), (TakeError, DelayCore<T, Keeper<A>, A>)>
-        ensures number { self.new.number ≡ self.old.number }
-        ensures stores { IsStore self.old.store × IsStore self.new.store }
-        ensures takes { StoreTakesIn core result self.old.store self.new.store }
-        ensures refused { StoreRefuses core result self.old.store }
-    {
-        self.sized.law();
-        let answer = self.sized.bring(core);
-        self.sized.law();
-        answer
-    }
-
-    // The same of a core whose number none of these claims has. Its own comes to them, where it is taken in.
-    fn take_new<J: Rooms>(
-        &mut self,
-        claims: &mut Vec<Claim<OpenWords<A>, A>, A>,
-        words: &QueueWords<J, A>,
-        core: DelayCore<T, Keeper<A>, A>,
-        claim: &Claim<OpenWords<A>, A>,
-    ) -> Result<(), (TakeError, DelayCore<T, Keeper<A>, A>)>
-        requires all { AreClaimsOf J.rows claims.old.items }
-        requires one { IsOf J.rows claim.now }
-        ensures number { self.new.number ≡ self.old.number }
-        ensures stores { IsStore self.old.store × IsStore self.new.store }
-        ensures takes { StoreTakesIn core result self.old.store self.new.store }
-        ensures refused { IfErr result
-            (λ e. RefusedAsNew claims.old.items claim.now.number self.old.store core e.0) }
-        ensures fresh { OnOk result (¬ HasClaim claims.old.items claim.now.number) }
-        ensures more { OnOk result (claims.new.items ≡ claims.old.items ++ claim.now ∷ []) }
-        ensures same { OnErr result (claims.new.items ≡ claims.old.items) }
-    {
-        self.sized.law();
-        if claims.reserve(1).is_err() {
-            return Err((TakeError::NoMemory, core));
-        }
-        if words.knows(claims.as_slice(), claim) {
-            return Err((TakeError::UsedNumber, core));
-        }
-        match self.take_in(core) {
-            Ok(()) => {
-                claims.push_reserved(claim.again());
-                Ok(())
-            }
-            Err(refused) => Err(refused),
-        }
-    }
-
-    fn take_drained(&mut self) -> Option<DelayCore<T, Keeper<A>, A>>
-        ensures number { self.new.number ≡ self.old.number }
-        ensures stores { IsStore self.old.store × IsStore self.new.store }
-        ensures cores { BringsNoCore self.old.store self.new.store }
-        ensures gives { StoreGives result self.old.store self.new.store }
-    {
-        self.sized.law();
-        let answer = self.sized.take_needless();
-        self.sized.law();
-        answer
-    }
-
-    fn relocate(
-        &mut self,
-        entry: &EntryId,
-        next: NextDeadline,
-    ) -> (Result<Moved<T>, CoreError>, Option<T>)
-        ensures number { self.new.number ≡ self.old.number }
-        ensures stores { IsStore self.old.store × IsStore self.new.store }
-        ensures cores { BringsNoCore self.old.store self.new.store }
-        ensures relocates { StoreRelocates entry.now next result self.old.store self.new.store }
-    {
-        self.sized.law();
-        let answer = self.sized.relocate(entry, next);
-        self.sized.law();
-        answer
-    }
-
-    fn reap(&mut self, entry: &EntryId) -> Result<(), ReapError>
-        ensures number { self.new.number ≡ self.old.number }
-        ensures stores { IsStore self.old.store × IsStore self.new.store }
-        ensures cores { BringsNoCore self.old.store self.new.store }
-        ensures reaps { StoreReaps entry.now result self.old.store self.new.store }
-    {
-        self.sized.law();
-        let answer = self.sized.reap(entry);
-        self.sized.law();
-        answer
-    }
-
-    fn with_value<R, F: FnOnce(&mut T) -> R>(&mut self, entry: &EntryId, call: F) -> Option<R>
-        requires { F.IsAlwaysCallable call }
-        ensures number { self.new.number ≡ self.old.number }
-        ensures stores { IsStore self.old.store × IsStore self.new.store }
-        ensures cores { BringsNoCore self.old.store self.new.store }
-        ensures changes { StoreChanges (FnOnceReturnsAtMut F.FnOnce call)
-            entry.now result self.old.store self.new.store }
-    {
-        self.sized.law();
-        let answer = self.sized.with_value(entry, call);
-        self.sized.law();
-        answer
-    }
-
-    fn finds_room(&mut self, any_will_do: bool) -> bool
-        ensures number { self.new.number ≡ self.old.number }
-        ensures stores { IsStore self.old.store × IsStore self.new.store }
-        ensures cores { BringsNoCore self.old.store self.new.store }
-        ensures finds { StoreFindsRoom any_will_do result self.old.store self.new.store }
-    {
-        self.sized.law();
-        let answer = self.sized.finds_room(any_will_do);
-        self.sized.law();
-        answer
-    }
-
-    fn reserve(&mut self, cores: usize) -> Result<(), AllocError>
-        ensures number { self.new.number ≡ self.old.number }
-        ensures stores { IsStore self.old.store × IsStore self.new.store }
-        ensures cores { BringsNoCore self.old.store self.new.store }
-        ensures reserves { StoreReserves self.old.store self.new.store }
-        ensures room { OnOk result (HasNoteRoom self.new.store.notes) }
-    {
-        self.sized.law();
-        let answer = self.sized.reserve(cores);
-        self.sized.law();
-        answer
-    }
-
-    fn sweep(&mut self, cancels: u64) -> bool
-        ensures number { self.new.number ≡ self.old.number }
-        ensures stores { IsStore self.old.store × IsStore self.new.store }
-        ensures cores { BringsNoCore self.old.store self.new.store }
-        ensures sweeps { StoreSweeps result self.old.store self.new.store }
-    {
-        self.sized.law();
-        let answer = self.sized.sweep(cancels);
-        self.sized.law();
-        answer
-    }
-}
-
-// Calls for the size and the hint alone: the store stays.
-impl<T, A: Allocator + Clone> Held<T, A> {
-    fn note_left(&mut self, left: u64)
-        ensures { self.new ≡ self.old }
-    {
-        self.sized.note_left(left);
-    }
-
-    fn note_work(&mut self)
-        ensures { self.new ≡ self.old }
-    {
-        self.sized.note_work();
-    }
-
-    fn keep(&mut self, entries: usize)
-        ensures { self.new ≡ self.old }
-    {
-        self.sized.keep(entries);
-    }
-
-    fn note_next(&mut self)
-        ensures { self.new ≡ self.old }
-    {
-        self.sized.note_next();
-    }
-
-    fn call_others(&mut self)
-        ensures { self.new ≡ self.old }
-    {
-        self.sized.call_others();
-    }
-}
-
-/// A shard, whose history is that which its number names, and the words of whose cores stand in the queue's directory.
-/// It has a register of the cores that are away from it.
+/// A shard: its number, and its store, which keeps its size and knows its hint. Its history is that which its number
+/// names, and the words of its cores stand in the queue's directory. It has a register of the cores that are away from it.
 #[derive(Drop)]
 pub struct Shard<T, J: Rooms, A: Allocator = Global> {
-    held: Held<T, A>,
+    number: u32,
+    sized: SizedStore<T, Keeper<A>, A>,
     claims: Vec<Claim<OpenWords<A>, A>, A>,
-    history: Witness<Held<T, A>, A>,
+    history: Witness<SizedStore<T, Keeper<A>, A>, A>,
     loans: Witness<DelayCore<T, Keeper<A>, A>, A>,
     rooms: PhantomData<J>,
 }
@@ -412,22 +81,27 @@ impl<T, J: Rooms, A: Allocator> Model for Shard<T, J, A> {
 
     ghost Value = { HeldShard T };
 
-    ghost view = { λ s. record { held = s.held; history = s.history.view; claims = s.claims.items } };
+    ghost view = { λ s. record {
+      number = s.number;
+      sized = s.sized;
+      history = s.history.view;
+      claims = s.claims.items;
+    } };
 
-    ghost invariant = { λ s. (s.held.number < J.shards)
-        × (s.history.table ≡ J.history s.held.number) × IsUnderLock s.history.view
-        × IsAsLeft s.history.view.log s.held × IsStoreHistory s.history.view.log
+    ghost invariant = { λ s. (s.number < J.shards)
+        × (s.history.table ≡ J.history s.number) × IsUnderLock s.history.view
+        × IsAsLeft s.history.view.log s.sized × IsStoreHistory s.history.view.log
         × AreClaimsOf J.rows s.claims.items
-        × AreClaimed s.held.store.cores.cores s.claims.items
-        × (s.loans.table ≡ J.loans s.held.number) × IsUnderLock s.loans.view
-        × LoansAreKept s.history.view.log s.held.store s.loans.view.log s.claims.items };
+        × AreClaimed s.sized.store.cores.cores s.claims.items
+        × (s.loans.table ≡ J.loans s.number) × IsUnderLock s.loans.view
+        × LoansAreKept s.history.view.log s.sized.store s.loans.view.log s.claims.items };
 }
 
 /// A caller of one shard, in any thread.
 #[derive(Drop)]
 pub struct Caller<T, J: Rooms, A: Allocator = Global> {
     shard: u32,
-    history: Witness<Held<T, A>, A>,
+    history: Witness<SizedStore<T, Keeper<A>, A>, A>,
     rooms: PhantomData<J>,
 }
 
@@ -458,23 +132,25 @@ impl<T, J: Rooms, A: Allocator> Shard<T, J, A> {
     /// A shard with a history and a register of loans in which nothing is yet, under the names of its number. It has
     /// these claims of the words of its cores.
     pub fn of(
-        held: Held<T, A>,
+        number: u32,
+        sized: SizedStore<T, Keeper<A>, A>,
         claims: Vec<Claim<OpenWords<A>, A>, A>,
-        history: Witness<Held<T, A>, A>,
+        history: Witness<SizedStore<T, Keeper<A>, A>, A>,
         loans: Witness<DelayCore<T, Keeper<A>, A>, A>,
     ) -> Shard<T, J, A>
-        requires number { held.number < J.shards }
+        requires number { number < J.shards }
         requires claims { AreClaimsOf J.rows claims.items }
-        requires claimed { AreClaimed held.store.cores.cores claims.items }
-        requires history { (history.table ≡ J.history held.number)
-            × (history.view ≡ first_witness) }
-        requires loans { (loans.table ≡ J.loans held.number) × (loans.view ≡ first_witness) }
-        ensures held { result.held ≡ held }
+        requires claimed { AreClaimed sized.store.cores.cores claims.items }
+        requires history { (history.table ≡ J.history number) × (history.view ≡ first_witness) }
+        requires loans { (loans.table ≡ J.loans number) × (loans.view ≡ first_witness) }
+        ensures number { result.number ≡ number }
+        ensures sized { result.sized ≡ sized }
         ensures history { result.history ≡ first_witness }
         ensures claims { result.claims ≡ claims.items }
     {
         Shard {
-            held,
+            number,
+            sized,
             claims,
             history,
             loans,
@@ -484,9 +160,9 @@ impl<T, J: Rooms, A: Allocator> Shard<T, J, A> {
 
     /// Returns the shard's number.
     pub fn number(&self) -> u32
-        ensures { result ≡ self.now.held.number }
+        ensures { result ≡ self.now.number }
     {
-        self.held.number
+        self.number
     }
 
     /// Makes one caller more of this shard, which may go to any thread.
@@ -496,18 +172,19 @@ impl<T, J: Rooms, A: Allocator> Shard<T, J, A> {
     pub fn issue(&mut self) -> Result<Caller<T, J, A>, AllocError>
         // It has no call in the history yet.
         ensures history { IfOk result (λ c. c.history ≡ new_witness self.old.history) }
-        ensures number { IfOk result (λ c. c.shard ≡ self.old.held.number) }
+        ensures number { IfOk result (λ c. c.shard ≡ self.old.number) }
         ensures one_more { IfOk result
             (λ _. self.new.history.made ≡ self.old.history.made + 1) }
 
         // The store stays, and no call is entered.
-        ensures held { (self.new.held ≡ self.old.held) × (self.new.claims ≡ self.old.claims) }
+        ensures stays { (self.new.sized ≡ self.old.sized) × (self.new.number ≡ self.old.number)
+            × (self.new.claims ≡ self.old.claims) }
         ensures log { self.new.history.log ≡ self.old.history.log }
         ensures refused { OnErr result (self.new ≡ self.old) }
     {
         let history = self.history.open()?;
         Ok(Caller {
-            shard: self.held.number,
+            shard: self.number,
             history,
             rooms: PhantomData,
         })
@@ -515,7 +192,7 @@ impl<T, J: Rooms, A: Allocator> Shard<T, J, A> {
 
     /// Tells a caller the whole history of the shard: of its own calls it has those that it made, each once.
     pub fn tell(&mut self, me: &mut Caller<T, J, A>)
-        requires { me.old.shard ≡ self.old.held.number }
+        requires { me.old.shard ≡ self.old.number }
         ensures told { IsTold self.old.history me.old.history me.new.history }
         ensures history { IsStoreHistory self.old.history.log }
 
@@ -529,12 +206,71 @@ impl<T, J: Rooms, A: Allocator> Shard<T, J, A> {
         // None is lost: what leaves was given out, or had been cancelled. As many came in as stand, and left so.
         ensures none_lost { NoneIsLostIn self.old.history.log }
         ensures totals { TotalsAgreeIn self.old.history.log }
-        ensures same { (me.new.shard ≡ me.old.shard) × (self.new.held ≡ self.old.held)
-            × (self.new.claims ≡ self.old.claims)
+        ensures same { (me.new.shard ≡ me.old.shard) × (self.new.number ≡ self.old.number)
+            × (self.new.sized ≡ self.old.sized) × (self.new.claims ≡ self.old.claims)
             × (self.new.history.log ≡ self.old.history.log) }
     {
         self.history.tell(&mut me.history);
     }
+}
+
+// A core whose number none of these claims has comes in, as the store takes one in. Its own claim comes to them.
+fn take_new<T, J: Rooms, A: Allocator + Clone>(
+    sized: &mut SizedStore<T, Keeper<A>, A>,
+    claims: &mut Vec<Claim<OpenWords<A>, A>, A>,
+    words: &QueueWords<J, A>,
+    core: DelayCore<T, Keeper<A>, A>,
+    claim: &Claim<OpenWords<A>, A>,
+) -> Result<(), (TakeError, DelayCore<T, Keeper<A>, A>)>
+    requires all { AreClaimsOf J.rows claims.old.items }
+    requires one { IsOf J.rows claim.now }
+    ensures stores { IsStore sized.old.store × IsStore sized.new.store }
+    ensures takes { StoreTakesIn core result sized.old.store sized.new.store }
+    ensures refused { IfErr result
+        (λ e. RefusedAsNew claims.old.items claim.now.number sized.old.store core e.0) }
+    ensures fresh { OnOk result (¬ HasClaim claims.old.items claim.now.number) }
+    ensures more { OnOk result (claims.new.items ≡ claims.old.items ++ claim.now ∷ []) }
+    ensures same { OnErr result (claims.new.items ≡ claims.old.items) }
+{
+    sized.law();
+    if claims.reserve(1).is_err() {
+        return Err((TakeError::NoMemory, core));
+    }
+    if words.knows(claims.as_slice(), claim) {
+        return Err((TakeError::UsedNumber, core));
+    }
+    let answer = sized.bring(core);
+    sized.law();
+    match answer {
+        Ok(()) => {
+            claims.push_reserved(claim.again());
+            Ok(())
+        }
+        Err(refused) => Err(refused),
+    }
+}
+
+// A poll of a store beside the promise of a call by the queue's words, by at most `most` steps.
+fn poll_beside<T, J: Rooms, A: Allocator + Clone>(
+    sized: &mut SizedStore<T, Keeper<A>, A>,
+    promise: &mut Promise<J, A>,
+    tick: u64,
+    most: u32,
+) -> Result<Piece<T>, CoreError>
+    requires { IsOfItsWords sized.old.store promise.old }
+    ensures stores { IsStore sized.old.store × IsStore sized.new.store }
+    ensures cores { BringsNoCore sized.old.store sized.new.store }
+    ensures polls { StorePolls tick (Some most) result sized.old.store sized.new.store }
+    ensures kept { IfPieceOut result (KeepsPromise sized.old.store.notes promise.old) }
+    ensures same { promise.new ≡ promise.old }
+{
+    sized.law();
+    let answer = sized.poll_some(tick, most);
+    let number = promise.claim.number();
+    sized.beside(number, &mut promise.receipt);
+    sized.law();
+    endings::outs_are_in_force::<T>();
+    answer
 }
 
 impl<T, J: Rooms, A: Allocator + Clone> Shard<T, J, A> {
@@ -552,15 +288,17 @@ impl<T, J: Rooms, A: Allocator + Clone> Shard<T, J, A> {
         value: T,
         when: u64,
     ) -> (Result<Key, (CoreError, T)>, Option<T>)
-        requires { me.old.shard ≡ self.old.held.number }
+        requires { me.old.shard ≡ self.old.number }
         ensures once { MadeOnce me.old (λ s t. StoreInserts value when result s t) me.new }
         ensures one_more { OneMore self.old me.old self.new }
-        ensures inserts { StoreInserts value when result self.old.held.store self.new.held.store }
-        ensures number { self.new.held.number ≡ self.old.held.number }
+        ensures inserts { StoreInserts value when result self.old.sized.store self.new.sized.store }
+        ensures number { self.new.number ≡ self.old.number }
         ensures claims { self.new.claims ≡ self.old.claims }
     {
-        let answer = self.held.insert(value, when);
-        self.history.enter_for(&mut me.history, &self.held);
+        self.sized.law();
+        let answer = self.sized.insert(value, when);
+        self.sized.law();
+        self.history.enter_for(&mut me.history, &self.sized);
         answer
     }
 
@@ -576,15 +314,17 @@ impl<T, J: Rooms, A: Allocator + Clone> Shard<T, J, A> {
         me: &mut Caller<T, J, A>,
         entry: &EntryId,
     ) -> Result<Removed<T>, CoreError>
-        requires { me.old.shard ≡ self.old.held.number }
+        requires { me.old.shard ≡ self.old.number }
         ensures once { MadeOnce me.old (λ s t. StoreRemoves entry.now result s t) me.new }
         ensures one_more { OneMore self.old me.old self.new }
-        ensures removes { StoreRemoves entry.now result self.old.held.store self.new.held.store }
-        ensures number { self.new.held.number ≡ self.old.held.number }
+        ensures removes { StoreRemoves entry.now result self.old.sized.store self.new.sized.store }
+        ensures number { self.new.number ≡ self.old.number }
         ensures claims { self.new.claims ≡ self.old.claims }
     {
-        let answer = self.held.remove(entry);
-        self.history.enter_for(&mut me.history, &self.held);
+        self.sized.law();
+        let answer = self.sized.remove(entry);
+        self.sized.law();
+        self.history.enter_for(&mut me.history, &self.sized);
         answer
     }
 
@@ -602,16 +342,18 @@ impl<T, J: Rooms, A: Allocator + Clone> Shard<T, J, A> {
         entry: &EntryId,
         tick: u64,
     ) -> Result<Option<Removed<T>>, CoreError>
-        requires { me.old.shard ≡ self.old.held.number }
+        requires { me.old.shard ≡ self.old.number }
         ensures once { MadeOnce me.old (λ s t. StoreRemovesIfDue entry.now tick result s t) me.new }
         ensures one_more { OneMore self.old me.old self.new }
         ensures removes { StoreRemovesIfDue entry.now tick result
-            self.old.held.store self.new.held.store }
-        ensures number { self.new.held.number ≡ self.old.held.number }
+            self.old.sized.store self.new.sized.store }
+        ensures number { self.new.number ≡ self.old.number }
         ensures claims { self.new.claims ≡ self.old.claims }
     {
-        let answer = self.held.remove_if_due(entry, tick);
-        self.history.enter_for(&mut me.history, &self.held);
+        self.sized.law();
+        let answer = self.sized.remove_if_due(entry, tick);
+        self.sized.law();
+        self.history.enter_for(&mut me.history, &self.sized);
         answer
     }
 
@@ -633,15 +375,18 @@ impl<T, J: Rooms, A: Allocator + Clone> Shard<T, J, A> {
         entry: &EntryId,
         when: u64,
     ) -> (Result<Key, CoreError>, Option<T>)
-        requires { me.old.shard ≡ self.old.held.number }
+        requires { me.old.shard ≡ self.old.number }
         ensures once { MadeOnce me.old (λ s t. StoreResets entry.now when result s t) me.new }
         ensures one_more { OneMore self.old me.old self.new }
-        ensures resets { StoreResets entry.now when result self.old.held.store self.new.held.store }
-        ensures number { self.new.held.number ≡ self.old.held.number }
+        ensures resets { StoreResets entry.now when result
+            self.old.sized.store self.new.sized.store }
+        ensures number { self.new.number ≡ self.old.number }
         ensures claims { self.new.claims ≡ self.old.claims }
     {
-        let answer = self.held.reset(entry, when);
-        self.history.enter_for(&mut me.history, &self.held);
+        self.sized.law();
+        let answer = self.sized.reset(entry, when);
+        self.sized.law();
+        self.history.enter_for(&mut me.history, &self.sized);
         answer
     }
 
@@ -659,16 +404,18 @@ impl<T, J: Rooms, A: Allocator + Clone> Shard<T, J, A> {
         entry: &EntryId,
         when: u64,
     ) -> Result<Key, CoreError>
-        requires { me.old.shard ≡ self.old.held.number }
+        requires { me.old.shard ≡ self.old.number }
         ensures once { MadeOnce me.old (λ s t. StoreResetsThere entry.now when result s t) me.new }
         ensures one_more { OneMore self.old me.old self.new }
         ensures resets { StoreResetsThere entry.now when result
-            self.old.held.store self.new.held.store }
-        ensures number { self.new.held.number ≡ self.old.held.number }
+            self.old.sized.store self.new.sized.store }
+        ensures number { self.new.number ≡ self.old.number }
         ensures claims { self.new.claims ≡ self.old.claims }
     {
-        let answer = self.held.reset_in_place(entry, when);
-        self.history.enter_for(&mut me.history, &self.held);
+        self.sized.law();
+        let answer = self.sized.reset_in_place(entry, when);
+        self.sized.law();
+        self.history.enter_for(&mut me.history, &self.sized);
         answer
     }
 
@@ -679,15 +426,17 @@ impl<T, J: Rooms, A: Allocator + Clone> Shard<T, J, A> {
     /// - `Missing` if the entry isn't in the shard any more, or never was.
     /// - `WasCancelled` if the entry was cancelled.
     pub fn deadline(&mut self, me: &mut Caller<T, J, A>, entry: &EntryId) -> Result<u64, CoreError>
-        requires { me.old.shard ≡ self.old.held.number }
+        requires { me.old.shard ≡ self.old.number }
         ensures once { MadeOnce me.old (λ s t. StoreTells entry.now result s t) me.new }
         ensures one_more { OneMore self.old me.old self.new }
-        ensures tells { StoreTells entry.now result self.old.held.store self.new.held.store }
-        ensures number { self.new.held.number ≡ self.old.held.number }
+        ensures tells { StoreTells entry.now result self.old.sized.store self.new.sized.store }
+        ensures number { self.new.number ≡ self.old.number }
         ensures claims { self.new.claims ≡ self.old.claims }
     {
-        let answer = self.held.deadline(entry);
-        self.history.enter_for(&mut me.history, &self.held);
+        self.sized.law();
+        let answer = self.sized.deadline(entry);
+        self.sized.law();
+        self.history.enter_for(&mut me.history, &self.sized);
         answer
     }
 
@@ -698,15 +447,17 @@ impl<T, J: Rooms, A: Allocator + Clone> Shard<T, J, A> {
     /// # Errors
     /// `TickTooLarge` beyond the last tick, which is not noted then.
     pub fn poll(&mut self, me: &mut Caller<T, J, A>, tick: u64) -> Result<Piece<T>, CoreError>
-        requires { me.old.shard ≡ self.old.held.number }
+        requires { me.old.shard ≡ self.old.number }
         ensures once { MadeOnce me.old (λ s t. StorePolls tick None result s t) me.new }
         ensures one_more { OneMore self.old me.old self.new }
-        ensures polls { StorePolls tick None result self.old.held.store self.new.held.store }
-        ensures number { self.new.held.number ≡ self.old.held.number }
+        ensures polls { StorePolls tick None result self.old.sized.store self.new.sized.store }
+        ensures number { self.new.number ≡ self.old.number }
         ensures claims { self.new.claims ≡ self.old.claims }
     {
-        let answer = self.held.poll(tick);
-        self.history.enter_for(&mut me.history, &self.held);
+        self.sized.law();
+        let answer = self.sized.poll(tick);
+        self.sized.law();
+        self.history.enter_for(&mut me.history, &self.sized);
         answer
     }
 
@@ -720,15 +471,18 @@ impl<T, J: Rooms, A: Allocator + Clone> Shard<T, J, A> {
         tick: u64,
         most: u32,
     ) -> Result<Piece<T>, CoreError>
-        requires { me.old.shard ≡ self.old.held.number }
+        requires { me.old.shard ≡ self.old.number }
         ensures once { MadeOnce me.old (λ s t. StorePolls tick (Some most) result s t) me.new }
         ensures one_more { OneMore self.old me.old self.new }
-        ensures polls { StorePolls tick (Some most) result self.old.held.store self.new.held.store }
-        ensures number { self.new.held.number ≡ self.old.held.number }
+        ensures polls { StorePolls tick (Some most) result
+            self.old.sized.store self.new.sized.store }
+        ensures number { self.new.number ≡ self.old.number }
         ensures claims { self.new.claims ≡ self.old.claims }
     {
-        let answer = self.held.poll_some(tick, most);
-        self.history.enter_for(&mut me.history, &self.held);
+        self.sized.law();
+        let answer = self.sized.poll_some(tick, most);
+        self.sized.law();
+        self.history.enter_for(&mut me.history, &self.sized);
         answer
     }
 
@@ -744,33 +498,35 @@ impl<T, J: Rooms, A: Allocator + Clone> Shard<T, J, A> {
         tick: u64,
         most: u32,
     ) -> Result<Piece<T>, CoreError>
-        requires { me.old.shard ≡ self.old.held.number }
+        requires { me.old.shard ≡ self.old.number }
         ensures once { MadeOnce me.old
             (λ s t. StorePollsBeside promise.old tick (Some most) result s t) me.new }
         ensures one_more { OneMore self.old me.old self.new }
         ensures polls { StorePollsBeside promise.old tick (Some most) result
-            self.old.held.store self.new.held.store }
-        ensures number { self.new.held.number ≡ self.old.held.number }
+            self.old.sized.store self.new.sized.store }
+        ensures number { self.new.number ≡ self.old.number }
         ensures claims { self.new.claims ≡ self.old.claims }
         ensures same { promise.new ≡ promise.old }
     {
         let _ = words.knows(self.claims.as_slice(), &promise.claim);
-        let answer = self.held.poll_beside(promise, tick, most);
-        self.history.enter_for(&mut me.history, &self.held);
+        let answer = poll_beside(&mut self.sized, promise, tick, most);
+        self.history.enter_for(&mut me.history, &self.sized);
         answer
     }
 
     /// Takes out a freed value that waits for its drop. It returns none if no value waits.
     pub fn take_deferred(&mut self, me: &mut Caller<T, J, A>) -> Option<T>
-        requires { me.old.shard ≡ self.old.held.number }
+        requires { me.old.shard ≡ self.old.number }
         ensures once { MadeOnce me.old (λ s t. StoreTakesDeferred result s t) me.new }
         ensures one_more { OneMore self.old me.old self.new }
-        ensures takes { StoreTakesDeferred result self.old.held.store self.new.held.store }
-        ensures number { self.new.held.number ≡ self.old.held.number }
+        ensures takes { StoreTakesDeferred result self.old.sized.store self.new.sized.store }
+        ensures number { self.new.number ≡ self.old.number }
         ensures claims { self.new.claims ≡ self.old.claims }
     {
-        let answer = self.held.take_deferred();
-        self.history.enter_for(&mut me.history, &self.held);
+        self.sized.law();
+        let answer = self.sized.take_deferred();
+        self.sized.law();
+        self.history.enter_for(&mut me.history, &self.sized);
         answer
     }
 
@@ -793,21 +549,21 @@ impl<T, J: Rooms, A: Allocator + Clone> Shard<T, J, A> {
         core: DelayCore<T, Keeper<A>, A>,
         claim: &Claim<OpenWords<A>, A>,
     ) -> Result<(), (TakeError, DelayCore<T, Keeper<A>, A>)>
-        requires number { me.old.shard ≡ self.old.held.number }
+        requires number { me.old.shard ≡ self.old.number }
         requires claim { IsOf J.rows claim.now × ClaimsWords claim.now core }
         ensures once { MadeOnce me.old (λ s t. StoreTakesIn core result s t) me.new }
         ensures one_more { OneMore self.old me.old self.new }
         ensures fresh { OnOk result (IsNewNumber self.old.history.log core.shard) }
         ensures unclaimed { OnOk result (¬ HasClaim self.old.claims claim.now.number) }
-        ensures takes { StoreTakesIn core result self.old.held.store self.new.held.store }
-        ensures number { self.new.held.number ≡ self.old.held.number }
+        ensures takes { StoreTakesIn core result self.old.sized.store self.new.sized.store }
+        ensures number { self.new.number ≡ self.old.number }
         ensures more { OnOk result (self.new.claims ≡ self.old.claims ++ claim.now ∷ []) }
         ensures same { OnErr result (self.new.claims ≡ self.old.claims) }
         ensures refused { IfErr result
-            (λ e. RefusedAsNew self.old.claims claim.now.number self.old.held.store core e.0) }
+            (λ e. RefusedAsNew self.old.claims claim.now.number self.old.sized.store core e.0) }
     {
-        let answer = self.held.take_new(&mut self.claims, words, core, claim);
-        self.history.enter_for(&mut me.history, &self.held);
+        let answer = take_new(&mut self.sized, &mut self.claims, words, core, claim);
+        self.history.enter_for(&mut me.history, &self.sized);
         answer
     }
 
@@ -829,15 +585,18 @@ impl<T, J: Rooms, A: Allocator + Clone> Shard<T, J, A> {
         entry: &EntryId,
         next: NextDeadline,
     ) -> (Result<Moved<T>, CoreError>, Option<T>)
-        requires { me.old.shard ≡ self.old.held.number }
+        requires { me.old.shard ≡ self.old.number }
         ensures once { MadeOnce me.old (λ s t. StoreRelocates entry.now next result s t) me.new }
         ensures one_more { OneMore self.old me.old self.new }
-        ensures relocates { StoreRelocates entry.now next result self.old.held.store self.new.held.store }
-        ensures number { self.new.held.number ≡ self.old.held.number }
+        ensures relocates { StoreRelocates entry.now next result
+            self.old.sized.store self.new.sized.store }
+        ensures number { self.new.number ≡ self.old.number }
         ensures claims { self.new.claims ≡ self.old.claims }
     {
-        let answer = self.held.relocate(entry, next);
-        self.history.enter_for(&mut me.history, &self.held);
+        self.sized.law();
+        let answer = self.sized.relocate(entry, next);
+        self.sized.law();
+        self.history.enter_for(&mut me.history, &self.sized);
         answer
     }
 
@@ -846,15 +605,17 @@ impl<T, J: Rooms, A: Allocator + Clone> Shard<T, J, A> {
     /// # Errors
     /// `Missing` where no entry of that id is linked; `Live` where it is found live.
     pub fn reap(&mut self, me: &mut Caller<T, J, A>, entry: &EntryId) -> Result<(), ReapError>
-        requires { me.old.shard ≡ self.old.held.number }
+        requires { me.old.shard ≡ self.old.number }
         ensures once { MadeOnce me.old (λ s t. StoreReaps entry.now result s t) me.new }
         ensures one_more { OneMore self.old me.old self.new }
-        ensures reaps { StoreReaps entry.now result self.old.held.store self.new.held.store }
-        ensures number { self.new.held.number ≡ self.old.held.number }
+        ensures reaps { StoreReaps entry.now result self.old.sized.store self.new.sized.store }
+        ensures number { self.new.number ≡ self.old.number }
         ensures claims { self.new.claims ≡ self.old.claims }
     {
-        let answer = self.held.reap(entry);
-        self.history.enter_for(&mut me.history, &self.held);
+        self.sized.law();
+        let answer = self.sized.reap(entry);
+        self.sized.law();
+        self.history.enter_for(&mut me.history, &self.sized);
         answer
     }
 
@@ -867,35 +628,39 @@ impl<T, J: Rooms, A: Allocator + Clone> Shard<T, J, A> {
         entry: &EntryId,
         call: F,
     ) -> Option<R>
-        requires number { me.old.shard ≡ self.old.held.number }
+        requires number { me.old.shard ≡ self.old.number }
         requires callable { F.IsAlwaysCallable call }
         ensures once { MadeOnce me.old (λ s t. StoreChanges
             (FnOnceReturnsAtMut F.FnOnce call) entry.now result s t) me.new }
         ensures one_more { OneMore self.old me.old self.new }
         ensures changes { StoreChanges (FnOnceReturnsAtMut F.FnOnce call)
-            entry.now result self.old.held.store self.new.held.store }
-        ensures number { self.new.held.number ≡ self.old.held.number }
+            entry.now result self.old.sized.store self.new.sized.store }
+        ensures number { self.new.number ≡ self.old.number }
         ensures claims { self.new.claims ≡ self.old.claims }
     {
-        let answer = self.held.with_value(entry, call);
-        self.history.enter_for(&mut me.history, &self.held);
+        self.sized.law();
+        let answer = self.sized.with_value(entry, call);
+        self.sized.law();
+        self.history.enter_for(&mut me.history, &self.sized);
         answer
     }
 
     /// Whether a slot is free for an insert: in the open core, or in another one of which half is free, or, where any
     /// will do, in any. That one is open then. No value that waits for its drop is in the way.
     pub fn finds_room(&mut self, me: &mut Caller<T, J, A>, any_will_do: bool) -> bool
-        requires { me.old.shard ≡ self.old.held.number }
+        requires { me.old.shard ≡ self.old.number }
         ensures once { MadeOnce me.old
             (λ s t. StoreFindsRoom any_will_do result s t) me.new }
         ensures one_more { OneMore self.old me.old self.new }
         ensures finds { StoreFindsRoom any_will_do result
-            self.old.held.store self.new.held.store }
-        ensures number { self.new.held.number ≡ self.old.held.number }
+            self.old.sized.store self.new.sized.store }
+        ensures number { self.new.number ≡ self.old.number }
         ensures claims { self.new.claims ≡ self.old.claims }
     {
-        let answer = self.held.finds_room(any_will_do);
-        self.history.enter_for(&mut me.history, &self.held);
+        self.sized.law();
+        let answer = self.sized.finds_room(any_will_do);
+        self.sized.law();
+        self.history.enter_for(&mut me.history, &self.sized);
         answer
     }
 
@@ -904,31 +669,35 @@ impl<T, J: Rooms, A: Allocator + Clone> Shard<T, J, A> {
     /// # Errors
     /// If memory is refused.
     pub fn reserve(&mut self, me: &mut Caller<T, J, A>, cores: usize) -> Result<(), AllocError>
-        requires { me.old.shard ≡ self.old.held.number }
+        requires { me.old.shard ≡ self.old.number }
         ensures once { MadeOnce me.old (λ s t. StoreReserves s t) me.new }
         ensures one_more { OneMore self.old me.old self.new }
-        ensures reserves { StoreReserves self.old.held.store self.new.held.store }
-        ensures room { OnOk result (HasNoteRoom self.new.held.store.notes) }
-        ensures number { self.new.held.number ≡ self.old.held.number }
+        ensures reserves { StoreReserves self.old.sized.store self.new.sized.store }
+        ensures room { OnOk result (HasNoteRoom self.new.sized.store.notes) }
+        ensures number { self.new.number ≡ self.old.number }
         ensures claims { self.new.claims ≡ self.old.claims }
     {
-        let answer = self.held.reserve(cores);
-        self.history.enter_for(&mut me.history, &self.held);
+        self.sized.law();
+        let answer = self.sized.reserve(cores);
+        self.sized.law();
+        self.history.enter_for(&mut me.history, &self.sized);
         answer
     }
 
     /// Frees cancelled entries at the next slots, 256 at most, unless each was looked at since the last of so many
     /// cancels. It tells whether it looked at some. No value is dropped: each waits until it is taken out.
     pub fn sweep(&mut self, me: &mut Caller<T, J, A>, cancels: u64) -> bool
-        requires { me.old.shard ≡ self.old.held.number }
+        requires { me.old.shard ≡ self.old.number }
         ensures once { MadeOnce me.old (λ s t. StoreSweeps result s t) me.new }
         ensures one_more { OneMore self.old me.old self.new }
-        ensures sweeps { StoreSweeps result self.old.held.store self.new.held.store }
-        ensures number { self.new.held.number ≡ self.old.held.number }
+        ensures sweeps { StoreSweeps result self.old.sized.store self.new.sized.store }
+        ensures number { self.new.number ≡ self.old.number }
         ensures claims { self.new.claims ≡ self.old.claims }
     {
-        let answer = self.held.sweep(cancels);
-        self.history.enter_for(&mut me.history, &self.held);
+        self.sized.law();
+        let answer = self.sized.sweep(cancels);
+        self.sized.law();
+        self.history.enter_for(&mut me.history, &self.sized);
         answer
     }
 }
@@ -937,44 +706,61 @@ impl<T, J: Rooms, A: Allocator + Clone> Shard<T, J, A> {
 impl<T, J: Rooms, A: Allocator + Clone> Shard<T, J, A> {
     /// Returns the hint: a tick of one millisecond that is not after the deadline of any live entry.
     pub fn hint(&self) -> u64
-        ensures { NoneLiveIn self.now.held.store.cores result }
+        ensures hint { result ≡ self.now.sized.hint }
+        ensures law { NoneLiveIn self.now.sized.store.cores result }
     {
-        self.held.sized.hint()
+        self.sized.hint()
     }
 
     /// Notes that an entry left its core, and that so many are left.
     pub fn note_left(&mut self, left: u64)
-        ensures { self.new ≡ self.old }
+        ensures notes { NotesLeft left
+            self.old.sized.sizing self.old.sized.store self.new.sized.sizing }
+        ensures size { self.new.sized
+            ≡ record self.old.sized { sizing = self.new.sized.sizing } }
+        ensures none { EntersNone self.old self.new }
     {
-        self.held.note_left(left);
+        self.sized.note_left(left);
     }
 
     /// Notes that there may be something to do for the store's size.
     pub fn note_work(&mut self)
-        ensures { self.new ≡ self.old }
+        ensures size { self.new.sized
+            ≡ record self.old.sized { sizing = with_work self.old.sized.sizing } }
+        ensures none { EntersNone self.old self.new }
     {
-        self.held.note_work();
+        self.sized.note_work();
     }
 
     /// Keeps memory for so many entries for good.
     pub fn keep(&mut self, entries: usize)
-        ensures { self.new ≡ self.old }
+        ensures size { self.new.sized ≡ record self.old.sized {
+          sizing = record self.old.sized.sizing {
+            kept = max self.old.sized.sizing.kept entries;
+          };
+        } }
+        ensures none { EntersNone self.old self.new }
     {
-        self.held.keep(entries);
+        self.sized.keep(entries);
     }
 
     /// Looks when the next entry is due, if there is one core, for the hint of the store.
     pub fn note_next(&mut self)
-        ensures { self.new ≡ self.old }
+        ensures hint { NotesNext
+            self.old.sized.store.cores self.old.sized.hint self.new.sized.hint }
+        ensures size { (self.new.sized.store ≡ self.old.sized.store)
+            × (self.new.sized.sizing ≡ self.old.sized.sizing) }
+        ensures none { EntersNone self.old self.new }
     {
-        self.held.note_next();
+        self.sized.note_next();
     }
 
     /// Has others come at once, whatever is due: a value waits for its drop.
     pub fn call_others(&mut self)
-        ensures { self.new ≡ self.old }
+        ensures size { self.new.sized ≡ record self.old.sized { hint = 0 } }
+        ensures none { EntersNone self.old self.new }
     {
-        self.held.call_others();
+        self.sized.call_others();
     }
 }
 
@@ -988,15 +774,15 @@ impl<T: Drop, J: Rooms, A: Allocator + Clone + Drop> Shard<T, J, A> {
         &mut self,
         me: &mut Caller<T, J, A>,
     ) -> Result<Option<Drained<T, J, A>>, AllocError>
-        requires { me.old.shard ≡ self.old.held.number }
+        requires { me.old.shard ≡ self.old.number }
         ensures once { IfOk result (λ r. MadeOnce me.old (λ s t. StoreGivesOut r s t) me.new) }
         ensures one_more { OnOk result (OneMore self.old me.old self.new) }
         ensures gives { IfOk result
-            (λ r. StoreGivesOut r self.old.held.store self.new.held.store) }
+            (λ r. StoreGivesOut r self.old.sized.store self.new.sized.store) }
         ensures shard { IfOk result
-            (λ r. IfSome r (λ d. d.shard ≡ self.old.held.number)) }
+            (λ r. IfSome r (λ d. d.shard ≡ self.old.number)) }
         ensures refused { OnErr result ((self.new ≡ self.old) × (me.new ≡ me.old)) }
-        ensures number { self.new.held.number ≡ self.old.held.number }
+        ensures number { self.new.number ≡ self.old.number }
         ensures claims { self.new.claims ≡ self.old.claims }
     {
         let loan = self.loans.open()?;
@@ -1009,19 +795,21 @@ impl<T: Drop, J: Rooms, A: Allocator + Clone + Drop> Shard<T, J, A> {
         me: &mut Caller<T, J, A>,
         mut loan: Witness<DelayCore<T, Keeper<A>, A>, A>,
     ) -> Option<Drained<T, J, A>>
-        requires number { me.old.shard ≡ self.old.held.number }
-        requires table { loan.table ≡ J.loans self.old.held.number }
+        requires number { me.old.shard ≡ self.old.number }
+        requires table { loan.table ≡ J.loans self.old.number }
         requires unused { IsWithNumber loan.view × (loan.view.mine ≡ []) }
         ensures once { MadeOnce me.old (λ s t. StoreGivesOut result s t) me.new }
         ensures one_more { OneMore self.old me.old self.new }
-        ensures gives { StoreGivesOut result self.old.held.store self.new.held.store }
-        ensures shard { IfSome result (λ d. d.shard ≡ self.old.held.number) }
-        ensures number { self.new.held.number ≡ self.old.held.number }
+        ensures gives { StoreGivesOut result self.old.sized.store self.new.sized.store }
+        ensures shard { IfSome result (λ d. d.shard ≡ self.old.number) }
+        ensures number { self.new.number ≡ self.old.number }
         ensures claims { self.new.claims ≡ self.old.claims }
     {
         let shard = self.number();
-        let answer = self.held.take_drained();
-        self.history.enter_for(&mut me.history, &self.held);
+        self.sized.law();
+        let answer = self.sized.take_needless();
+        self.sized.law();
+        self.history.enter_for(&mut me.history, &self.sized);
         match answer {
             None => None,
             Some(core) => {
@@ -1050,16 +838,16 @@ impl<T: Drop, J: Rooms, A: Allocator + Clone + Drop> Shard<T, J, A> {
         me: &mut Caller<T, J, A>,
         drained: Drained<T, J, A>,
     ) -> Result<(), (TakeError, Drained<T, J, A>)>
-        requires number { me.old.shard ≡ self.old.held.number }
-        requires drained { drained.shard ≡ self.old.held.number }
+        requires number { me.old.shard ≡ self.old.number }
+        requires drained { drained.shard ≡ self.old.number }
         ensures once { MadeOnce me.old (λ s t. StoreTakesBack drained result s t) me.new }
         ensures one_more { OneMore self.old me.old self.new }
-        ensures takes { StoreTakesBack drained result self.old.held.store self.new.held.store }
-        ensures refused { StoreRefusesBack drained result self.old.held.store }
+        ensures takes { StoreTakesBack drained result self.old.sized.store self.new.sized.store }
+        ensures refused { StoreRefusesBack drained result self.old.sized.store }
         ensures back { IfErr result
             (λ e. (e.1.core ≡ drained.core) × (e.1.shard ≡ drained.shard)
             × (e.1.loan.number ≡ drained.loan.number)) }
-        ensures number { self.new.held.number ≡ self.old.held.number }
+        ensures number { self.new.number ≡ self.old.number }
         ensures claims { self.new.claims ≡ self.old.claims }
     {
         let Drained {
@@ -1070,8 +858,10 @@ impl<T: Drop, J: Rooms, A: Allocator + Clone + Drop> Shard<T, J, A> {
         } = drained;
         // The register has the core as one that is in from here on. If it is refused, it is entered once more.
         self.loans.enter_for(&mut loan, &core);
-        let answer = self.held.take_in(core);
-        self.history.enter_for(&mut me.history, &self.held);
+        self.sized.law();
+        let answer = self.sized.bring(core);
+        self.sized.law();
+        self.history.enter_for(&mut me.history, &self.sized);
         match answer {
             Ok(()) => Ok(()),
             Err((error, back)) => {

@@ -1,37 +1,47 @@
 use Rattle.std.proofs.Common.{sym, ap, ◌∙◌, inl, inr, subst}
 use Rattle.dq_growing.specs.Store.{StoreState}
-use Rattle.dq_words.specs.Seats.{Sat}
 use Rattle.dq_queue.specs.Calls.{StoreRelocates, IsStoreCall}
 use Rattle.dq_queue.specs.Shards.{CallerView, HeldShard}
+use Rattle.dq_words.specs.Seats.{Sat}
+use Rattle.dq_queue.proofs.Claims.{brings_none, relocates_long}
 use Rattle.dq_queue.proofs.Histories.{once, one_name, stays}
+use Rattle.dq_queue.proofs.Leaving.{moves_on_none}
+use Rattle.dq_queue.proofs.Runs.{moved_out}
 use Rattle.dq_queue.proofs.shard.Shard.relocate.Goals as goal
 
 pub enter_for-requires-clause-table : goal.enter_for-requires-clause-table
 enter_for-requires-clause-table g c =
-    let at = ap (λ (s : HeldShard _). s.held.number) c.self.view_is ∙ (sym c.requires ∙ sym (ap (λ (v : CallerView _). v.shard) c.me.view_is)) in
-    let made = c.relocate-answer in
+    let at = ap (λ (s : HeldShard _). s.number) c.self.view_is ∙ (sym c.requires ∙ sym (ap (λ (v : CallerView _). v.shard) c.me.view_is)) in
     one_name g.J.Rooms.history c.self.inside.history.table c.me.inside.history.table _ _ c.self.invariant.1 c.me.invariant.1 at
 
 pub invariant_of-self : goal.invariant_of-self
 invariant_of-self g c =
-    let made = c.relocate-answer in
     let e = c.enter_for.ensures in
-    let call : IsStoreCall c.self.inside.held.store made.new.self.store = inr (inr (inr (inr (inr (inr (inr (inl (c.args.entry.now, c.args.next, made.result, made.ensures.relocates)))))))) in
-    stays g.J.Rooms.shards g.J.Rooms.history g.J.Rooms.loans g.J.Rooms.rows _ _ _ c.self.inside.history.view c.me.inside.history.view c.enter_for.new.caller.view c.enter_for.new.self.view
-    c.self.inside.loans.view c.self.inside.held made.new.self c.self.inside.claims.items c.self.invariant made.ensures.number call e.once e.log e.tables.0 e.keeper made.ensures.cores
+    let made = c.relocate-answer in
+    let s = c.self.inside.sized.store in
+    let t = made.new.self.store in
+    let gives : StoreRelocates c.args.entry.now c.args.next made.result s t = (made.ensures.relocates, made.ensures.keeps, moved_out s t c.args.entry.now made.result.0 made.ensures.came_out, made.ensures.holds, made.ensures.unless, made.ensures.same, made.ensures.told, made.ensures.in_force, made.ensures.due, moves_on_none s t c.args.entry.now made.result.0 made.ensures.goes_on) in
+    let call : IsStoreCall s t = inr (inr (inr (inr (inr (inr (inr (inl (c.args.entry.now, c.args.next, made.result, gives)))))))) in
+    stays g.J.Rooms.shards g.J.Rooms.history g.J.Rooms.loans g.J.Rooms.rows _ _ _ _ c.self.inside.history.view c.me.inside.history.view c.enter_for.new.caller.view c.enter_for.new.self.view
+    c.self.inside.loans.view c.self.inside.sized made.new.self c.self.inside.claims.items c.self.invariant call e.once e.log e.tables.0 e.keeper (brings_none s t made.ensures.words (relocates_long s t c.args.entry.now c.args.next made.result made.ensures.relocates))
 
 pub returns-clause-once : goal.returns-clause-once
 returns-clause-once g c =
-    let s = c.self.invariant in
+    let kept = c.self.invariant in
     let made = c.relocate-answer in
-    let gives : StoreState _ Sat → StoreState _ Sat → Type 0 = λ s t. StoreRelocates c.args.entry.now c.args.next made.result s t in
-    let call : IsStoreCall c.self.inside.held.store made.new.self.store = inr (inr (inr (inr (inr (inr (inr (inl (c.args.entry.now, c.args.next, made.result, made.ensures.relocates)))))))) in
-    let at = ap (λ (s : HeldShard _). s.held.number) c.self.view_is ∙ (sym c.requires ∙ sym (ap (λ (v : CallerView _). v.shard) c.me.view_is)) in
-    once gives c.self.inside.history.view c.me.inside.history.view c.enter_for.new.caller.view c.me.inside.shard _ c.self.inside.held made.new.self c.me.view_is
-    c.enter_for.ensures.once s.3 at made.ensures.number made.ensures.stores.0 made.ensures.stores.1 made.ensures.relocates call s.4
+    let s = c.self.inside.sized.store in
+    let t = made.new.self.store in
+    let gives : StoreRelocates c.args.entry.now c.args.next made.result s t = (made.ensures.relocates, made.ensures.keeps, moved_out s t c.args.entry.now made.result.0 made.ensures.came_out, made.ensures.holds, made.ensures.unless, made.ensures.same, made.ensures.told, made.ensures.in_force, made.ensures.due, moves_on_none s t c.args.entry.now made.result.0 made.ensures.goes_on) in
+    let call : IsStoreCall s t = inr (inr (inr (inr (inr (inr (inr (inl (c.args.entry.now, c.args.next, made.result, gives)))))))) in
+    let P : StoreState _ Sat → StoreState _ Sat → Type 0 = λ x y. StoreRelocates c.args.entry.now c.args.next made.result x y in
+    once P c.self.inside.history.view c.me.inside.history.view c.enter_for.new.caller.view c.me.inside.shard _ c.self.inside.sized made.new.self c.me.view_is
+    c.enter_for.ensures.once kept.3 c.law.ensures.law c.law-2.ensures.law gives call kept.4
 
 pub returns-clause-relocates : goal.returns-clause-relocates
 returns-clause-relocates g c =
     let made = c.relocate-answer in
-    let P : HeldShard _ → Type 0 = λ h. StoreRelocates c.args.entry.now c.args.next made.result h.held.store made.new.self.store in
-    subst P c.self.view_is made.ensures.relocates
+    let s = c.self.inside.sized.store in
+    let t = made.new.self.store in
+    let gives : StoreRelocates c.args.entry.now c.args.next made.result s t = (made.ensures.relocates, made.ensures.keeps, moved_out s t c.args.entry.now made.result.0 made.ensures.came_out, made.ensures.holds, made.ensures.unless, made.ensures.same, made.ensures.told, made.ensures.in_force, made.ensures.due, moves_on_none s t c.args.entry.now made.result.0 made.ensures.goes_on) in
+    let P : HeldShard _ → Type 0 = λ x. StoreRelocates c.args.entry.now c.args.next made.result x.sized.store t in
+    subst P c.self.view_is gives

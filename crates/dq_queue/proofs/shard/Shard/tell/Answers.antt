@@ -11,7 +11,7 @@ use Rattle.dq_queue.proofs.shard.Shard.tell.Goals as goal
 
 pub tell-requires-clause-table : goal.tell-requires-clause-table
 tell-requires-clause-table g c =
-    let at = ap (λ (s : HeldShard _). s.held.number) c.self.view_is ∙ (sym c.requires ∙ sym (ap (λ (v : CallerView _). v.shard) c.me.view_is)) in
+    let at = ap (λ (s : HeldShard _). s.number) c.self.view_is ∙ (sym c.requires ∙ sym (ap (λ (v : CallerView _). v.shard) c.me.view_is)) in
     one_name g.J.Rooms.history c.self.inside.history.table c.me.inside.history.table _ _ c.self.invariant.1 c.me.invariant.1 at
 
 pub returns-clause-leaves : goal.returns-clause-leaves

@@ -1,42 +1,56 @@
 use Rattle.std.proofs.Common.{sym, ap, ◌∙◌, subst}
 use Rattle.std.specs.Fn.{FnOnceReturnsAtMut}
 use Rattle.dq_growing.specs.Store.{StoreState}
-use Rattle.dq_words.specs.Seats.{Sat}
 use Rattle.dq_queue.specs.Calls.{StoreChanges, IsStoreCall}
 use Rattle.dq_queue.specs.Shards.{CallerView, HeldShard}
+use Rattle.dq_words.specs.Seats.{Sat}
+use Rattle.dq_queue.proofs.Claims.{brings_none, changes_long}
 use Rattle.dq_queue.proofs.Histories.{once, one_name, stays}
-use Rattle.dq_queue.proofs.Runs.{changes_call}
+use Rattle.dq_queue.proofs.Runs.{changed_by, changes_call}
 use Rattle.dq_queue.proofs.shard.Shard.with_value.Goals as goal
 
 pub enter_for-requires-clause-table : goal.enter_for-requires-clause-table
 enter_for-requires-clause-table g c =
-    let at = ap (λ (s : HeldShard _). s.held.number) c.self.view_is ∙ (sym c.requires.number ∙ sym (ap (λ (v : CallerView _). v.shard) c.me.view_is)) in
-    let made = c.with_value-answer in
+    let at = ap (λ (s : HeldShard _). s.number) c.self.view_is ∙ (sym c.requires.number ∙ sym (ap (λ (v : CallerView _). v.shard) c.me.view_is)) in
     one_name g.J.Rooms.history c.self.inside.history.table c.me.inside.history.table _ _ c.self.invariant.1 c.me.invariant.1 at
 
 pub invariant_of-self : goal.invariant_of-self
 invariant_of-self g c =
-    let made = c.with_value-answer in
-    let Makes = FnOnceReturnsAtMut g.F.FnOnce c.args.call in
     let e = c.enter_for.ensures in
-    let call : IsStoreCall c.self.inside.held.store made.new.self.store = changes_call Makes c.self.inside.held.store made.new.self.store c.args.entry.now made.result made.ensures.changes in
-    stays g.J.Rooms.shards g.J.Rooms.history g.J.Rooms.loans g.J.Rooms.rows _ _ _ c.self.inside.history.view c.me.inside.history.view c.enter_for.new.caller.view c.enter_for.new.self.view
-    c.self.inside.loans.view c.self.inside.held made.new.self c.self.inside.claims.items c.self.invariant made.ensures.number call e.once e.log e.tables.0 e.keeper made.ensures.cores
+    let made = c.with_value-answer in
+    let x = c.args.entry.now in
+    let Makes = FnOnceReturnsAtMut g.F.FnOnce c.args.call in
+    let s = c.self.inside.sized.store in
+    let t = made.new.self.store in
+    let gives : StoreChanges Makes x made.result s t =
+    changed_by Makes s t x made.result c.law.ensures.one c.law-2.ensures.one made.ensures.changes made.ensures.exact made.ensures.keeps made.ensures.holds in
+    let call : IsStoreCall s t = changes_call Makes s t x made.result gives in
+    stays g.J.Rooms.shards g.J.Rooms.history g.J.Rooms.loans g.J.Rooms.rows _ _ _ _ c.self.inside.history.view c.me.inside.history.view c.enter_for.new.caller.view c.enter_for.new.self.view
+    c.self.inside.loans.view c.self.inside.sized made.new.self c.self.inside.claims.items c.self.invariant call e.once e.log e.tables.0 e.keeper (brings_none s t made.ensures.words (changes_long Makes s t x made.result made.ensures.exact))
 
 pub returns-clause-once : goal.returns-clause-once
 returns-clause-once g c =
-    let s = c.self.invariant in
+    let kept = c.self.invariant in
     let made = c.with_value-answer in
+    let u = c.args.entry.now in
     let Makes = FnOnceReturnsAtMut g.F.FnOnce c.args.call in
-    let gives : StoreState _ Sat → StoreState _ Sat → Type 0 = λ s t. StoreChanges Makes c.args.entry.now made.result s t in
-    let call : IsStoreCall c.self.inside.held.store made.new.self.store = changes_call Makes c.self.inside.held.store made.new.self.store c.args.entry.now made.result made.ensures.changes in
-    let at = ap (λ (s : HeldShard _). s.held.number) c.self.view_is ∙ (sym c.requires.number ∙ sym (ap (λ (v : CallerView _). v.shard) c.me.view_is)) in
-    once gives c.self.inside.history.view c.me.inside.history.view c.enter_for.new.caller.view c.me.inside.shard _ c.self.inside.held made.new.self c.me.view_is
-    c.enter_for.ensures.once s.3 at made.ensures.number made.ensures.stores.0 made.ensures.stores.1 made.ensures.changes call s.4
+    let s = c.self.inside.sized.store in
+    let t = made.new.self.store in
+    let gives : StoreChanges Makes u made.result s t =
+    changed_by Makes s t u made.result c.law.ensures.one c.law-2.ensures.one made.ensures.changes made.ensures.exact made.ensures.keeps made.ensures.holds in
+    let call : IsStoreCall s t = changes_call Makes s t u made.result gives in
+    let P : StoreState _ Sat → StoreState _ Sat → Type 0 = λ x y. StoreChanges Makes u made.result x y in
+    once P c.self.inside.history.view c.me.inside.history.view c.enter_for.new.caller.view c.me.inside.shard _ c.self.inside.sized made.new.self c.me.view_is
+    c.enter_for.ensures.once kept.3 c.law.ensures.law c.law-2.ensures.law gives call kept.4
 
 pub returns-clause-changes : goal.returns-clause-changes
 returns-clause-changes g c =
     let made = c.with_value-answer in
+    let u = c.args.entry.now in
     let Makes = FnOnceReturnsAtMut g.F.FnOnce c.args.call in
-    let P : HeldShard _ → Type 0 = λ s. StoreChanges Makes c.args.entry.now made.result s.held.store made.new.self.store in
-    subst P c.self.view_is made.ensures.changes
+    let s = c.self.inside.sized.store in
+    let t = made.new.self.store in
+    let gives : StoreChanges Makes u made.result s t =
+    changed_by Makes s t u made.result c.law.ensures.one c.law-2.ensures.one made.ensures.changes made.ensures.exact made.ensures.keeps made.ensures.holds in
+    let P : HeldShard _ → Type 0 = λ x. StoreChanges Makes u made.result x.sized.store t in
+    subst P c.self.view_is gives

@@ -4,7 +4,7 @@ use Rattle.dq_growing.specs.declared.cores.TakeError.TheVariants.{NoMemory, Used
 use Rattle.dq_words.specs.OpenCalls.{Open}
 use Rattle.dq_queue.specs.Claims.{HasClaim}
 use Rattle.dq_queue.proofs.Claims.{comes_not, was_ok}
-use Rattle.dq_queue.proofs.shard.Held.take_new.Goals as goal
+use Rattle.dq_queue.proofs.shard.take_new.Goals as goal
 
 pub returns-in-Ok-clause-fresh : goal.returns-in-Ok-clause-fresh
 returns-in-Ok-clause-fresh g c =
@@ -23,10 +23,10 @@ returns-in-Err-clause-refused g c =
     inr (inr (none, c.in-Err.ensures.refused))
 
 pub returns-then-is_err-clause-takes : goal.returns-then-is_err-clause-takes
-returns-then-is_err-clause-takes g c = comes_not c.args.self.now.store c.args.core NoMemory
+returns-then-is_err-clause-takes g c = comes_not c.args.sized.now.store c.args.core NoMemory
 
 pub returns-then-knows-clause-takes : goal.returns-then-knows-clause-takes
-returns-then-knows-clause-takes g c = comes_not c.args.self.now.store c.args.core UsedNumber
+returns-then-knows-clause-takes g c = comes_not c.args.sized.now.store c.args.core UsedNumber
 
 pub push_reserved-requires : goal.push_reserved-requires
 push_reserved-requires g c =

@@ -1,0 +1,22 @@
+use Rattle.std.proofs.Common.{◌≡◌, ap, subst}
+use Rattle.dq_growing.specs.Sized.{SizedState}
+use Rattle.dq_growing.specs.Sizing.{with_work}
+use Rattle.dq_queue.specs.Shards.{HeldShard}
+use Rattle.dq_queue.proofs.Histories.{keeps_so}
+use Rattle.dq_queue.proofs.shard.Shard.note_work.Goals as goal
+
+pub invariant_of-self : goal.invariant_of-self
+invariant_of-self g c =
+    keeps_so g.J.Rooms.shards g.J.Rooms.history g.J.Rooms.loans g.J.Rooms.rows _ _ c.self.inside.history.view c.self.inside.claims.items _ c.self.inside.loans.view c.self.inside.sized c.note_work.new.self
+    (ap (λ (s : SizedState _ _). s.store) c.note_work.ensures) c.self.invariant
+
+pub returns-clause-size : goal.returns-clause-size
+returns-clause-size g c =
+    let t = c.note_work.new.self in
+    let P : HeldShard _ → Type 0 = λ x. t ≡ record x.sized { sizing = with_work x.sized.sizing } in
+    subst P c.self.view_is c.note_work.ensures
+
+pub returns-clause-none : goal.returns-clause-none
+returns-clause-none g c =
+    let is = c.self.view_is in
+    (ap (λ (s : HeldShard _). s.number) is, ap (λ (s : HeldShard _). s.history) is, ap (λ (s : HeldShard _). s.claims) is)
