@@ -14,7 +14,7 @@ use Rattle.dq_core.specs.declared.outcomes.Removed.{Removed}
 use Rattle.dq_core.specs.declared.outcomes.Piece.{Piece}
 use Rattle.dq_core.specs.Core.{Core}
 use Rattle.dq_core.specs.Folds.{IsFoldable}
-use Rattle.dq_directory.specs.Claims.{Claimed, IsOf}
+use Rattle.dq_words.specs.Claims.{Claimed, IsOf}
 use Rattle.dq_growing.specs.declared.cores.TakeError.{TakeError}
 use Rattle.dq_growing.specs.declared.moving.Moved.{Moved}
 use Rattle.dq_growing.specs.declared.moving.Moved.TheVariants.{To, Out}

@@ -1,7 +1,7 @@
 -- What an entry of a call makes of a shard's history.
 use Rattle.std.proofs.Common.{◌≡◌, ◌<◌, ℕ, List, [], ◌∷◌, Some, refl, sym, ap, ◌∙◌, subst}
 use Rattle.boxcar.specs.Slot.{Named}
-use Rattle.dq_directory.specs.Claims.{Claimed}
+use Rattle.dq_words.specs.Claims.{Claimed}
 use Rattle.dq_journal.specs.declared.views.Entry.{Entry}
 use Rattle.dq_journal.specs.declared.views.View.{View}
 use Rattle.dq_journal.specs.History.{entry, entries_by}

@@ -9,7 +9,7 @@ use Rattle.dq_core.specs.Core.{Core, machine}
 use Rattle.dq_core.specs.Folds.{FoldedCore, IsFoldable, at_tick, folded_machine}
 use Rattle.dq_core.specs.Machine.{Machine, table_at}
 use Rattle.boxcar.specs.Slot.{Named}
-use Rattle.dq_directory.specs.Claims.{Claimed, IsOf}
+use Rattle.dq_words.specs.Claims.{Claimed, IsOf}
 use Rattle.dq_journal.specs.declared.views.Entry.{Entry}
 use Rattle.dq_journal.specs.declared.views.View.{View}
 use Rattle.dq_journal.specs.History.{entry, entries_by}

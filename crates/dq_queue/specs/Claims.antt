@@ -2,7 +2,7 @@
 use Rattle.std.specs.Prelude.{◌≡◌, ◌⊎◌, ℕ, ◌<◌, List, length, slice_index_or}
 use Rattle.boxcar.specs.Slot.{Named}
 use Rattle.dq_core.specs.Core.{Core}
-use Rattle.dq_directory.specs.Claims.{Claimed, IsOf}
+use Rattle.dq_words.specs.Claims.{Claimed, IsOf}
 use Rattle.dq_growing.specs.Cores.{IsCoreAt, EachOf}
 use Rattle.dq_growing.specs.declared.cores.TakeError.{TakeError}
 use Rattle.dq_growing.specs.declared.cores.TakeError.TheVariants.{NoMemory, UsedNumber}

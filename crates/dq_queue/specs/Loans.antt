@@ -8,7 +8,7 @@ use Rattle.dq_ticks.specs.declared.keys.EntryId.{EntryId}
 use Rattle.dq_core.specs.Core.{Core, machine}
 use Rattle.dq_core.specs.Folds.{FoldedCore, folded_machine}
 use Rattle.dq_core.specs.Machine.{Machine, table_at}
-use Rattle.dq_directory.specs.Claims.{Claimed}
+use Rattle.dq_words.specs.Claims.{Claimed}
 use Rattle.dq_growing.specs.declared.cores.TakeError.{TakeError}
 use Rattle.dq_growing.specs.Cores.{HasNo}
 use Rattle.dq_growing.specs.Notes.{ArePastBy, numbers_of}

@@ -1,7 +1,7 @@
 -- A shard, callers of it, and its one history.
 use Rattle.std.specs.Prelude.{◌≡◌, ℕ, List, [], ◌∷◌, ◌++◌, Some}
 use Rattle.atomic_table.specs.Seated.{TableId}
-use Rattle.dq_directory.specs.Claims.{Claimed}
+use Rattle.dq_words.specs.Claims.{Claimed}
 use Rattle.dq_journal.specs.declared.views.Entry.{Entry}
 use Rattle.dq_journal.specs.declared.views.View.{View}
 use Rattle.dq_journal.specs.History.{entry, entries_by}

@@ -5,7 +5,7 @@ use Rattle.dq_ticks.specs.declared.TheConstants.{LAST_TICK}
 use Rattle.dq_ticks.specs.Keys.{KeyName}
 use Rattle.dq_core.specs.declared.words.CallError.{CallError}
 use Rattle.dq_core.specs.declared.words.CallError.TheVariants.{TooFar, Unknown}
-use Rattle.dq_directory.specs.Claims.{Claimed, IsOf}
+use Rattle.dq_words.specs.Claims.{Claimed, IsOf}
 use Rattle.dq_words.specs.OpenCalls.{Open, OpenExtendRefused, OpenLookRefused, OpenRefused}
 use Rattle.dq_words.specs.Seats.{Sat}
 

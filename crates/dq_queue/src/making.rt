@@ -2,10 +2,10 @@
 ghost use Rattle.std.specs.Prelude.{◌≡◌, IfErr, IfOk, length};
 ghost use Rattle.dq_core.specs.Core.{machine};
 ghost use Rattle.dq_core.specs.Machine.{NoneLinked};
-ghost use Rattle.dq_directory.specs.Claims.{IsOf};
+ghost use Rattle.dq_words.specs.Claims.{IsOf};
 
 use dq_core::{CoreConfig, DelayCore};
-use dq_directory::{AddError, Claim, Clerk};
+use dq_words::directory::{AddError, Claim, Clerk};
 use dq_words::{Keeper, OpenWords};
 use std::alloc::Allocator;
 use thiserror::Error;

@@ -1,6 +1,6 @@
 //! The words of each core by the core's number, on which any thread steps by `&self` and without a lock.
 ghost use Rattle.std.specs.Prelude.{◌≡◌, ◌≢◌, ◌≤◌, ℕ, true, false, IfErr, IfOk};
-ghost use Rattle.dq_directory.specs.Claims.{Claimed, IsOf};
+ghost use Rattle.dq_words.specs.Claims.{Claimed, IsOf};
 ghost use Rattle.dq_ticks.specs.declared.TheConstants.{LAST_TICK};
 ghost use Rattle.dq_words.specs.OpenCalls.{Open, ShowsCancel, ShowsExtend, ShowsLook};
 ghost use Rattle.dq_words.specs.Together.{CancelsCover};
@@ -9,8 +9,8 @@ ghost use Rattle.dq_queue.specs.Words.{IsPromise, QueueExtendRefused, QueueCance
 
 use crate::shard::Rooms;
 use dq_core::{CallError, Look};
-use dq_directory::{Claim, Directory};
 use dq_ticks::{Key, LAST_TICK};
+use dq_words::directory::{Claim, Directory};
 use dq_words::{OpenWords, Receipt};
 use std::alloc::{AllocError, Allocator, Global};
 use std::marker::{Model, PhantomData};

@@ -1,10 +1,10 @@
 //! The directory: what one thread adds, others find under its number, and nothing else.
 ghost use Rattle.std.specs.Prelude.{◌≡◌, IfSome};
-ghost use Rattle.dq_directory.specs.Claims.{IsOf};
+ghost use Rattle.dq_words.specs.Claims.{IsOf};
 
 use super::same;
-use dq_directory::{AddError, Claim, Clerk, Directory, MOST};
 use dq_testing::RefusingHeap;
+use dq_words::directory::{AddError, Claim, Clerk, Directory, MOST};
 use linked_list_allocator::LocalHeap;
 use std::alloc::{Allocator, Global};
 use std::process::Abort;

@@ -5,6 +5,7 @@ pub mod Births
 pub mod Bridge
 pub mod Callings
 pub mod Cancels
+pub mod DirectoryPlaces
 pub mod Ends
 pub mod Extends
 pub mod Gathers

@@ -1,9 +1,11 @@
 pub mod AtTheCall
 pub mod CallerCalls
+pub mod Claims
 pub mod Counts
-pub mod KeeperCalls
+pub mod DirectoryRows
 pub mod Endings
 pub mod Files
+pub mod KeeperCalls
 pub mod Keeping
 pub mod Many
 pub mod OpenCalls

@@ -4,10 +4,13 @@
 //! The [`Keeper`] belongs to the queue's owner and begins and ends entries. Up to 1,024 [`Caller`]s, each in a thread
 //! of its own, extend and cancel entries by one atomic step on that word, whatever the owner does meanwhile. So does
 //! any thread that has a `&` to its [`OpenWords`], with no caller.
+//!
+//! The module `directory` has things by numbers, which any thread finds without a lock too.
 #![tactic(auto)]
 
 mod beside;
 mod caller;
+pub mod directory;
 pub mod endings;
 mod front;
 mod keeper;

@@ -65,8 +65,8 @@ impl<T> Debug for PlainTurn<T> {
 mod with_std {
     use crate::core::Words;
     use crate::delay_queue::{DelayQueue, Drain, InsertError, Iter, Timeout, TryIter};
-    use crate::directory::{Clerk, Directory};
     use crate::growing::{Cores, Folds, Store};
+    use crate::words::directory::{Clerk, Directory};
 
     shows! {
         [T] DelayQueue<T> { .len() .is_closed() }

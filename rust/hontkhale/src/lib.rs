@@ -100,8 +100,6 @@ mod apps;
 mod bell;
 mod core;
 #[cfg(feature = "std")]
-mod directory;
-#[cfg(feature = "std")]
 mod growing;
 #[cfg(all(feature = "std", feature = "all-parts"))]
 mod replay;

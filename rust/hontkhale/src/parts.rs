@@ -106,7 +106,7 @@ pub mod replay {
 #[cfg(feature = "std")]
 #[doc(hidden)]
 pub mod directory {
-    pub use crate::directory::{AddError, Clerk, Directory, MOST};
+    pub use crate::words::directory::{AddError, Clerk, Directory, MOST};
 }
 
 #[cfg(feature = "std")]

@@ -4,8 +4,12 @@
 //! The [`Keeper`] belongs to the queue's owner and begins and ends entries. Up to 1,024 [`Caller`]s, each in a thread
 //! of its own, extend and cancel entries by one atomic step on that word, whatever the owner does meanwhile. So does
 //! any thread that has a `&` to its [`OpenWords`], with no caller.
+//!
+//! The module `directory` has things by numbers, which any thread finds without a lock too.
 
 mod caller;
+#[cfg(feature = "std")]
+pub mod directory;
 mod front;
 mod keeper;
 #[cfg(all(feature = "std", feature = "all-parts"))]

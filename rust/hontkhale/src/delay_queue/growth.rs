@@ -6,10 +6,10 @@ use crate::delay_queue::errors::InsertErrorKind;
 use crate::delay_queue::receive::ROUND;
 use crate::delay_queue::shard::{least, Core, Seen, Shard};
 use crate::delay_queue::shared::Shared;
-use crate::directory::Clerk;
 use crate::growing::CORES;
 use crate::memory::AllocError;
 use crate::ticks::CAPACITY_LIMIT;
+use crate::words::directory::Clerk;
 use crate::words::{Keeper, OpenWords};
 
 /// How many parts of a shard's slots are looked at for cancelled entries before it grows.

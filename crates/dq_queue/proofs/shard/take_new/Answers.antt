@@ -1,5 +1,5 @@
 use Rattle.std.proofs.Common.{◌∙◌, List, refl, sym, subst, inl, inr, arith}
-use Rattle.dq_directory.specs.Claims.{Claimed}
+use Rattle.dq_words.specs.Claims.{Claimed}
 use Rattle.dq_growing.specs.declared.cores.TakeError.TheVariants.{NoMemory, UsedNumber}
 use Rattle.dq_words.specs.OpenCalls.{Open}
 use Rattle.dq_queue.specs.Claims.{HasClaim}

@@ -1,5 +1,5 @@
 use Rattle.std.proofs.Common.{◌≡◌, ◌≢◌, ℕ, ◌<◌, true, false}
-use Rattle.dq_directory.specs.Claims.{Claimed}
+use Rattle.dq_words.specs.Claims.{Claimed}
 use Rattle.dq_words.specs.OpenCalls.{Open}
 use Rattle.dq_queue.specs.Claims.{IsClaimAt, HasClaim}
 use Rattle.dq_queue.proofs.words.QueueWords.knows.Given as goal

@@ -1,7 +1,7 @@
 use Rattle.std.proofs.Common.{rules, ◌≡◌, sym, ap, ◌∙◌}
-use Rattle.dq_directory.specs.Rows.{name_at}
-use Rattle.dq_directory.proofs.Places.{one_place, name_is}
-use Rattle.dq_directory.proofs.directory.Directory.get.Goals as goal
+use Rattle.dq_words.specs.DirectoryRows.{name_at}
+use Rattle.dq_words.proofs.DirectoryPlaces.{one_place, name_is}
+use Rattle.dq_words.proofs.directory.Directory.get.Goals as goal
 
 pub invariant_of-result : goal.invariant_of-result
 invariant_of-result g c =

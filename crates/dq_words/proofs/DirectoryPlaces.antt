@@ -1,7 +1,7 @@
 -- A number stands in one row, at one place.
 use Rattle.std.proofs.Common.{◌≡◌, ℕ, zero, suc, List, [], ◌∷◌, length, get_or, ◌*◌, ◌^◌, ◌<◌, ◌≤◌, ap, sym, arith, pow_mono, pow-suc, lt_of_not-le}
 use Rattle.boxcar.specs.Slot.{Named}
-use Rattle.dq_directory.specs.Rows.{StandsAt, name_at}
+use Rattle.dq_words.specs.DirectoryRows.{StandsAt, name_at}
 
 pub row_below : (above row : ℕ) → 2 ^ row ≤ above → above < 4294967296 → row < 32
 row_below above row low high = lt_of_not-le (λ (le : 32 ≤ row). let p : 4294967296 ≤ 2 ^ row = pow_mono le in omega arith)

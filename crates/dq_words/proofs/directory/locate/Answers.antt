@@ -1,6 +1,6 @@
 use Rattle.std.proofs.Common.{arith, ◌+◌}
-use Rattle.dq_directory.proofs.Places.{row_below}
-use Rattle.dq_directory.proofs.directory.locate.Goals as goal
+use Rattle.dq_words.proofs.DirectoryPlaces.{row_below}
+use Rattle.dq_words.proofs.directory.locate.Goals as goal
 
 pub len_of-requires : goal.len_of-requires
 len_of-requires c = let r = c.requires in row_below (c.args.number + 1) c.ilog2-row.result c.ilog2-row.ensures.power_le (omega arith)

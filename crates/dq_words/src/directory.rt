@@ -1,10 +1,18 @@
-//! The rows in which things stand, and the claims of them.
+//! A directory of what is made later. A [`Clerk`] adds a thing, and gets a number for it. Whoever has the [`Directory`]
+//! finds the thing by its number, from any thread and without a lock, for as long as the directory lasts: a thing stays
+//! where it was put, and no number is given twice.
+//!
+//! A [`Claim`] is for contracts: it says that a number is of a thing. Two claims of one number are of one thing, whoever
+//! found them, and whenever.
 ghost use Rattle.std.specs.Prelude.{◌≡◌, ◌+◌, ◌^◌, ◌<◌, ◌∷◌, [], IfSome, IfOk, IfErr, vec_len, ⊤};
-ghost use Rattle.dq_directory.specs.Rows.{StandsAt, AreNumbered, first};
-ghost use Rattle.dq_directory.specs.Claims.{IsOf};
+ghost use Rattle.dq_words.specs.DirectoryRows.{StandsAt, AreNumbered, first};
+ghost use Rattle.dq_words.specs.Claims.{IsOf};
+
+mod clerk;
 
 use boxcar::slot::{OnceSlot, SlotRule, Written};
 use boxcar::tag::{Names, Tag};
+pub use clerk::{AddError, Clerk};
 use std::alloc::{AllocError, Allocator, Global};
 use std::marker::Model;
 use std::sync::Arc;
@@ -91,7 +99,7 @@ impl<X, A: Allocator> Model for Directory<X, A> {
     ghost use Rattle.std.specs.Prelude.{List};
     ghost use Rattle.std.specs.Arc.{arc_value};
     ghost use Rattle.boxcar.specs.Slot.{Named};
-    ghost use Rattle.dq_directory.specs.Rows.{AreNumbered};
+    ghost use Rattle.dq_words.specs.DirectoryRows.{AreNumbered};
 
     ghost Value = { List Named };
 
@@ -110,8 +118,8 @@ pub struct Claim<X, A: Allocator = Global> {
 
 impl<X, A: Allocator> Model for Claim<X, A> {
     ghost use Rattle.std.specs.Prelude.{◌≡◌, ℕ, ◌<◌};
-    ghost use Rattle.dq_directory.specs.Rows.{StandsAt, name_at};
-    ghost use Rattle.dq_directory.specs.Claims.{Claimed};
+    ghost use Rattle.dq_words.specs.DirectoryRows.{StandsAt, name_at};
+    ghost use Rattle.dq_words.specs.Claims.{Claimed};
 
     ghost Value = { Claimed X };
 

@@ -1,7 +1,14 @@
-//! The rows in which things stand. Row k has 2^k places, and a row stays where it was made: so whoever reads takes no
-//! lock. A place is written once, by the clerk.
+//! A directory of what is made later. A [`Clerk`] adds a thing, and gets a number for it. Whoever has the [`Directory`]
+//! finds the thing by its number, from any thread and without a lock, for as long as the directory lasts: a thing stays
+//! where it was put, and no number is given twice.
+//!
+//! Row k has 2^k places, and stays where it was made: so whoever reads takes no lock. A place is written once, by the
+//! clerk.
+
+mod clerk;
 
 use crate::memory::{room_for, AllocError};
+pub use clerk::{AddError, Clerk};
 use std::sync::{Arc, OnceLock};
 
 /// How many numbers a directory can give: they are 0 to `MOST` - 1.

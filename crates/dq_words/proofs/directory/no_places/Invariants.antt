@@ -1,7 +1,7 @@
 use Rattle.std.proofs.Common.{◌≤◌, ◌-◌}
 use Rattle.std.specs.Prelude.{vec_capacity}
-use Rattle.dq_directory.specs.Rows.{AreNumbered}
-use Rattle.dq_directory.proofs.directory.no_places.Given as goal
+use Rattle.dq_words.specs.DirectoryRows.{AreNumbered}
+use Rattle.dq_words.proofs.directory.no_places.Given as goal
 
 abbrev pub invariant-loop-row : goal.invariant-loop-row
 invariant-loop-row g l = (l.row ≤ 32) × (32 ≤ vec_capacity l.rows) × AreNumbered l.row l.rows.items

@@ -1,7 +1,7 @@
 //! Who adds things.
 
-use crate::directory::directory::Directory;
 use crate::memory::AllocError;
+use crate::words::directory::Directory;
 use core::fmt;
 
 /// Why a thing isn't added.

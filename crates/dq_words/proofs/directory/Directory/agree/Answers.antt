@@ -1,8 +1,8 @@
 use Rattle.std.proofs.Common.{◌≡◌, ℕ, sym, ap, subst, ◌∙◌}
-use Rattle.dq_directory.specs.Rows.{StandsAt, name_at}
-use Rattle.dq_directory.specs.Claims.{Claimed}
-use Rattle.dq_directory.proofs.Places.{one_row}
-use Rattle.dq_directory.proofs.directory.Directory.agree.Goals as goal
+use Rattle.dq_words.specs.DirectoryRows.{StandsAt, name_at}
+use Rattle.dq_words.specs.Claims.{Claimed}
+use Rattle.dq_words.proofs.DirectoryPlaces.{one_row}
+use Rattle.dq_words.proofs.directory.Directory.agree.Goals as goal
 
 pub agrees-requires : goal.agrees-requires
 agrees-requires g c =

@@ -1,8 +1,8 @@
 use Rattle.std.proofs.Common.{rules, ◌≡◌, ℕ, ap, subst, ◌∙◌}
-use Rattle.dq_directory.specs.Rows.{StandsAt, name_at}
-use Rattle.dq_directory.specs.Claims.{Claimed}
-use Rattle.dq_directory.proofs.Places.{one_row, name_is}
-use Rattle.dq_directory.proofs.directory.Directory.thing.Goals as goal
+use Rattle.dq_words.specs.DirectoryRows.{StandsAt, name_at}
+use Rattle.dq_words.specs.Claims.{Claimed}
+use Rattle.dq_words.proofs.DirectoryPlaces.{one_row, name_is}
+use Rattle.dq_words.proofs.directory.Directory.thing.Goals as goal
 
 pub value-requires : goal.value-requires
 value-requires g c =

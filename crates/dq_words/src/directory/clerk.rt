@@ -1,7 +1,7 @@
 //! Who adds things.
 ghost use Rattle.std.specs.Prelude.{◌≡◌, ◌+◌, ◌<◌, IfOk, IfErr, OnOk};
-ghost use Rattle.dq_directory.specs.Claims.{IsOf};
-ghost use Rattle.dq_directory.specs.Refused.{why_refused};
+ghost use Rattle.dq_words.specs.Claims.{IsOf};
+ghost use Rattle.dq_words.specs.Claims.{why_refused};
 
 use crate::directory::{Claim, Directory};
 use std::alloc::{AllocError, Allocator, Global};
@@ -33,7 +33,7 @@ pub struct Clerk<X, A: Allocator = Global> {
 
 impl<X, A: Allocator> Model for Clerk<X, A> {
     ghost use Rattle.std.specs.Prelude.{◌≤◌};
-    ghost use Rattle.dq_directory.specs.Claims.{Desk};
+    ghost use Rattle.dq_words.specs.Claims.{Desk};
 
     ghost Value = { Desk };
 
