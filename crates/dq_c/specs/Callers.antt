@@ -8,7 +8,7 @@ use Rattle.dq_ticks.specs.declared.TheConstants.{LAST_TICK}
 use Rattle.dq_words.specs.AtTheCall.{cancels_of}
 use Rattle.dq_words.specs.CallerCalls.{CallerExtends, CallerCancels, CallerLooks}
 use Rattle.dq_words.specs.Seats.{Sat}
-use Rattle.dq_handle.specs.declared.caller.Seat.{Seat}
+use Rattle.dq_c.specs.declared.handle.caller.Seat.{Seat}
 use Rattle.dq_c.specs.Answers.{no_numbers, with_number, tells, empty, call_answer, look_answer}
 use Rattle.dq_c.specs.Keys.{named}
 use Rattle.dq_c.specs.declared.answers.DqAnswer.{DqAnswer}

@@ -4,8 +4,8 @@ use Rattle.dq_core.specs.Readers.{with_words}
 use Rattle.dq_words.specs.KeeperCalls.{Issues, Returns, Accounts, EndsFit, counts_by}
 use Rattle.dq_words.specs.Seats.{Sat}
 use Rattle.dq_words.specs.declared.keeper.WordsError.{WordsError}
-use Rattle.dq_handle.specs.declared.caller.Seat.{Seat}
-use Rattle.dq_handle.specs.declared.queue.Queue.{Queue}
+use Rattle.dq_c.specs.declared.handle.caller.Seat.{Seat}
+use Rattle.dq_c.specs.declared.handle.queue.Queue.{Queue}
 use Rattle.dq_c.specs.Answers.{no_numbers, with_number, done, tells, empty, held, words_answer}
 use Rattle.dq_c.specs.Callers.{caller_in, number_in}
 use Rattle.dq_c.specs.Owner.{Owned}

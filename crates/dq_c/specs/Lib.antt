@@ -4,6 +4,9 @@ pub mod Issuing
 pub mod Keys
 pub mod Making
 pub mod Many
+pub mod Owned
 pub mod Owner
+pub mod QueueLoan
 pub mod Readers
 pub mod Renewing
+pub mod SeatLoan

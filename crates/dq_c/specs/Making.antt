@@ -3,7 +3,7 @@ use Rattle.std.specs.Prelude.{◌≡◌, ◌⊎◌, ℕ, Option, Some, None}
 use Rattle.dq_core.specs.Calls.{IsConfig, new_core}
 use Rattle.dq_core.specs.Words.{AreFresh}
 use Rattle.dq_wheel.specs.State.{fresh_filing}
-use Rattle.dq_handle.specs.declared.queue.Queue.{Queue}
+use Rattle.dq_c.specs.declared.handle.queue.Queue.{Queue}
 use Rattle.dq_words.specs.AtTheCall.{KnowsNothing}
 use Rattle.dq_c.specs.Answers.{no_numbers, done, empty, held}
 use Rattle.dq_c.specs.Owner.{Owned}

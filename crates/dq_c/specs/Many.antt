@@ -6,7 +6,7 @@ use Rattle.dq_core.specs.declared.errors.CoreError.{CoreError}
 use Rattle.dq_core.specs.declared.outcomes.Expired.{Expired}
 use Rattle.dq_core.specs.declared.outcomes.Turn.{Turn}
 use Rattle.dq_core.specs.declared.outcomes.Turn.TheVariants.{Out, Waiting, Idle}
-use Rattle.dq_handle.specs.declared.queue.Queue.{Queue}
+use Rattle.dq_c.specs.declared.handle.queue.Queue.{Queue}
 use Rattle.dq_c.specs.Answers.{with_number, two_numbers, tells, empty, no_place, core_answer}
 use Rattle.dq_c.specs.Keys.{IsOutOf}
 use Rattle.dq_c.specs.Owner.{Owned, SameQueue}

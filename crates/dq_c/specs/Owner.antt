@@ -15,7 +15,7 @@ use Rattle.dq_core.specs.declared.outcomes.Removed.{Removed}
 use Rattle.dq_core.specs.declared.outcomes.Turn.{Turn}
 use Rattle.dq_core.specs.declared.outcomes.Turn.TheVariants.{Out, Waiting, Idle}
 use Rattle.dq_words.specs.Seats.{Sat}
-use Rattle.dq_handle.specs.declared.queue.Queue.{Queue}
+use Rattle.dq_c.specs.declared.handle.queue.Queue.{Queue}
 use Rattle.dq_c.specs.Answers.{no_numbers, with_number, two_numbers, done, tells, empty}
 use Rattle.dq_c.specs.Answers.{core_answer, reap_answer}
 use Rattle.dq_c.specs.Keys.{named, IsOutOf, IsRemovedOf}

@@ -5,7 +5,7 @@ use Rattle.dq_core.specs.Calls.{TellsDeadline, TellsWake, WakesAhead}
 use Rattle.dq_core.specs.Readers.{IsTally, TellsLeast}
 use Rattle.dq_core.specs.declared.errors.CoreError.{CoreError}
 use Rattle.dq_core.specs.declared.outcomes.Tally.{Tally}
-use Rattle.dq_handle.specs.declared.queue.Queue.{Queue}
+use Rattle.dq_c.specs.declared.handle.queue.Queue.{Queue}
 use Rattle.dq_ticks.specs.Keys.{KeyName}
 use Rattle.dq_c.specs.Answers.{no_numbers, with_number, done, tells, empty, core_answer}
 use Rattle.dq_c.specs.Keys.{named, IsTallyOf}

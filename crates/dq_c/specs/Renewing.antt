@@ -3,7 +3,7 @@ use Rattle.std.specs.Prelude.{◌≡◌, ◌⊎◌, ◌<◌, ◌≤◌, ℕ, Opt
 use Rattle.dq_core.specs.AtTheCall.{linked_in}
 use Rattle.dq_core.specs.Renewals.{renewed_core, OldAreMissing}
 use Rattle.dq_core.specs.Words.{AreFresh}
-use Rattle.dq_handle.specs.declared.queue.Queue.{Queue}
+use Rattle.dq_c.specs.declared.handle.queue.Queue.{Queue}
 use Rattle.dq_words.specs.AtTheCall.{KnowsNothing}
 use Rattle.dq_c.specs.Answers.{no_numbers, with_number, done, empty}
 use Rattle.dq_c.specs.Owner.{Owned}

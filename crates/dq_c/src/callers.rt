@@ -7,8 +7,8 @@ ghost use Rattle.dq_c.specs.Callers.{ExtendSays, CancelSays, LookSays, GiveBackS
 use crate::answers::{
     DQ_EMPTY, DQ_OK, DQ_TOO_FAR, DQ_UNKNOWN, DqAnswer, of_call, of_look, only, told, with_one,
 };
+use crate::handle::{CallerHandle, Seat};
 use crate::keys::DqKey;
-use dq_handle::{CallerHandle, Seat};
 use dq_ticks::LAST_TICK;
 use std::alloc::Global;
 use std::mem;

@@ -5,7 +5,7 @@ use crate::answers::{
     DQ_CALLERS_OUT, DQ_EMPTY, DQ_HELD, DQ_NO_MEMORY, DQ_OK, DqAnswer, of_words, only, told,
     with_one,
 };
-use dq_handle::{CallerHandle, QueueHandle, Seat};
+use crate::handle::{CallerHandle, QueueHandle, Seat};
 use std::alloc::Global;
 
 /// Issues a caller into an empty handle, which takes keys of the queue's number alone. It may go to another thread,

@@ -6,6 +6,7 @@
 
 pub mod answers;
 pub mod callers;
+pub mod handle;
 pub mod issuing;
 pub mod keys;
 pub mod making;

@@ -7,8 +7,8 @@ ghost use Rattle.dq_c.specs.Making.{NewSays, FreeSays};
 use crate::answers::{
     DQ_BAD_CONFIG, DQ_EMPTY, DQ_FORM, DQ_HELD, DQ_NO_MEMORY, DQ_OK, DqAnswer, only,
 };
+use crate::handle::{Queue, QueueHandle};
 use dq_core::{CoreConfig, DelayCore};
-use dq_handle::{Queue, QueueHandle};
 use dq_ticks::{CAPACITY_LIMIT, LAST_STAMP};
 use dq_words::Keeper;
 use std::alloc::Global;

@@ -5,9 +5,9 @@ ghost use Rattle.dq_c.specs.Many.{FillSays, PollManySays};
 use crate::answers::{
     DQ_EMPTY, DQ_IDLE, DQ_NO_PLACE, DQ_WAITING, DqAnswer, of_core, only, told, with_one, with_two,
 };
+use crate::handle::QueueHandle;
 use crate::keys::DqExpired;
 use dq_core::{DelayCore, Turn};
-use dq_handle::QueueHandle;
 use dq_words::Keeper;
 
 // Fills the row from its front by one poll after another, until it is full or a poll takes nothing out.

@@ -7,9 +7,9 @@ use crate::answers::{
     DQ_EMPTY, DQ_IDLE, DQ_OK, DQ_WAITING, DQ_WORKING, DqAnswer, of_core, of_reap, only, told,
     with_one, with_two,
 };
+use crate::handle::QueueHandle;
 use crate::keys::{DqExpired, DqKey, DqRemoved};
 use dq_core::{Piece, Turn};
-use dq_handle::QueueHandle;
 
 /// Puts an entry in that is live until `when`, a tick of one millisecond, or until the wheel's tick where `when` lies
 /// before it, and writes its key. Constant time.

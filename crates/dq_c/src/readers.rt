@@ -4,8 +4,8 @@ ghost use Rattle.dq_c.specs.Readers.{DeadlineSays, WakeSays, PeekSays, LenSays, 
 use crate::answers::{
     DQ_EMPTY, DQ_IDLE, DQ_OK, DQ_WAITING, DqAnswer, of_core, only, told, with_one,
 };
+use crate::handle::QueueHandle;
 use crate::keys::{DqKey, DqTally};
-use dq_handle::QueueHandle;
 
 /// Tells the deadline in force of a live entry, a tick of one millisecond.
 ///

@@ -4,8 +4,8 @@ ghost use Rattle.dq_c.specs.Renewing.{CoreRenews, RenewSays};
 use crate::answers::{
     DQ_EMPTY, DQ_NO_MEMORY, DQ_OK, DQ_STILL_LINKED, DQ_USED_NUMBER, DqAnswer, only, with_one,
 };
+use crate::handle::QueueHandle;
 use dq_core::DelayCore;
-use dq_handle::QueueHandle;
 use dq_words::Keeper;
 use std::alloc::Global;
 

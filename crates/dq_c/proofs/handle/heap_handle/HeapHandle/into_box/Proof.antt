@@ -1,0 +1,90 @@
+-- `into_box` hands what the handle owns to `from_raw`.
+use mathlib.Core.Path.{◌≡◌, refl, sym, subst, ap}
+use mathlib.Core.List.{List, [], ◌∷◌, ◌++◌}
+use lib.Dec.{T}
+use mir.Syntax.{Body, place, copy, assign, rv_opd, seq, return}
+use mir.MapTy.{inst_fn}
+use mir.Val.{Val, vptr, has_ty, WT}
+use base.Logic.{ent, id⊢}
+use base.Fml.{ftrue, fsep, flft}
+use contract.BorrowLft.{◌⊑◌}
+use contract.Monad.{fact}
+use contract.Running.{tables}
+use prog.Wp.{WpFn}
+use types.Kit.{Item, at_ret, ‵, raw, ◌⊛◌, some, later, ◌$◌, ◌∵◌, !, qed, by, move, drop, use1, join, split, split3, pick, rewrite, fsplit, fjoin, feq_i, suffices, await, done}
+use types.Part.{whole, sub}
+use types.Run.{stop, fld, no_more, and_then, of_opd, returns, enter, first, blocks, exec}
+use types.ByLocal.{alloc_all, pass_all, free_all, look_at, get, get_in, sets, lands_last, env}
+use denote.Exit.{no}
+use denote.RattleType.{RattleType}
+use denote.RawPtr.{block_ptr}
+use denote.Signature.{plain}
+use denote.Steps.{heard, nothing, only}
+use denote.Triple.Call.{calls_at_last}
+use denote.Triple.Spec.{triple_of}
+use denote.Triple.Statement.{Contract}
+use denote.Triple.Table.{framed}
+use denote.Triple.Walked.{says, Stays, stay_dropped, walk_of, ends_at}
+use Rattle.std.proofs.alloc.Calls.{token, Goes-blank}
+use Rattle.std.proofs.raw_atomic.Walks.{proved_at}
+use Rattle.std_alloc.specs.Box.Ownership.{box_owns}
+use Rattle.std_alloc.proofs.BoxSteps.Form.{Bx, D, R, P, B, args, box_ty, word, box_typed}
+use Rattle.std_alloc.proofs.BoxSteps.Steps.{box_out, box_in}
+use Rattle.std_alloc.specs.contracts.boxed.Box.from_raw as callee
+use Rattle.std_alloc.proofs.boxed.Box.from_raw.Met.{met}
+use Rattle.dq_c.specs.contracts.handle.heap_handle.HeapHandle as handle
+use Rattle.dq_c.specs.contracts.handle.heap_handle.HeapHandle.into_box as F
+use Rattle.dq_c.proofs.handle.heap_handle.HeapHandle.into_box.Statement.{statement}
+use Rattle.dq_c.proofs.handle.heap_handle.HeapHandle.into_box.Code as code
+
+abbrev rest : Body
+rest = seq (assign (place 0 []) (rv_opd (copy (place 4 [])))) return
+
+pub into_box_spec : {M : Type 1} → statement M
+into_box_spec 𝓤 𝓛 𝓜 𝓡 wired X Z LX LZ g d dd allocator md =
+    let H = 𝓛.H in
+    let 𝓣 = tables 𝓤 H 𝓜 𝓡 𝓡.env in
+    let E : Bx = record { row = X; laws = LX; al = record { row = Z; laws = LZ; g = g; d = d; drops = dd } } in
+    let fn = inst_fn (args E) code.function in
+    let En = F.ended X Z g d dd in
+    let c = F.clauses X Z g d dd 𝓛 𝓜.mem 𝓡.returns in
+    let From : RattleType = handle.the_row (R E) (P E) g in
+    let hs : Stays En.signature.params En.kept = (stay_dropped (plain (λ _. From)) no, tt) in
+    let Shuts : Contract 𝓤 = triple_of 𝓛 (callee.signature X Z g d dd) (callee.spec X Z g d dd 𝓛 𝓜.mem 𝓡.returns) in
+    let shuts = met 𝓤 𝓛 𝓜 𝓡 (code.calls-std_alloc::boxed::Box::from_raw 𝓡.env wired) X Z LX LZ g d dd allocator md in
+    proved_at 𝓛 En hs c 𝓜 𝓡 (Goes-blank 𝓛 2 (plain (λ _. From)) no (λ κs x f. tt), tt)
+    (F.Key.name (args E)) fn (code.unfolded 𝓤 H 𝓜 𝓡 wired (X, (Z, tt)) d dd) (λ z are.
+    let κs = z.0.0 in
+    let qs = z.0.1 in
+    let a = z.0.3.0.alloc in
+    let x = z.0.3.0.value in
+    let Post = (walk_of 𝓛 En hs c).post z in
+    let boxed : D E = record { ptr = z.0.3.0.ptr; alloc = a; value = x } in
+    let toks : Item 𝓤 = ‵ (flft κs.0 qs.0) ⊛ ‵ (flft κs.1.0 qs.1.0) ⊛ ‵ ftrue in
+    let alive : Item 𝓤 = raw (fact 𝓤 (κs.0 ⊑ X.lives)) ⊛ raw (fact 𝓤 (κs.1.0 ⊑ Z.lives)) ⊛ ‵ ftrue in
+    qed 𝓛 ((toks ⊛ ‵ (fsep ((B E).own_val boxed z.0.4.0) ftrue)) ∷ alive ∷ []) ∵ split ! $ move ! (1 ∷ []) $ fsplit ! $
+    -- a handle is one machine value, as the box of its fields is
+    box_out E ! boxed z.0.4.0 (λ b o hv e ws fits. fjoin ! $
+    let y : Shuts.Ghost = ((κs, qs, tt, (a, (block_ptr b o, tt)), (hv ∷ [], (vptr b o ∷ [], tt))), x) in
+    let Γ : List (Item 𝓤) = ‵ (box_owns (token E.al a) (R E) (block_ptr b o) x) ∷ ‵ ((P E).own_val a (hv ∷ [])) ∷ ‵ ftrue ∷ toks ∷ alive ∷ [] in
+    let Runs = λ (us : List Val). ent 𝓤 (types.Kit.⋆ 𝓛 Γ) (WpFn 𝓤 H 𝓣.C 𝓣.Λ fn (us ++ []) Post) in
+    by ! (subst Runs (sym ws) (qed 𝓛 Γ ∵ enter ! 𝓣.C 𝓣.Λ fn (word E hv b o ∷ []) _ $
+    alloc_all ! (λ ls. pass_all ! refl (box_typed E hv b o fits, tt) $
+    sets ! (of_opd ! (get_in ! (fld ! refl (stop !)) (sub ! 0 refl (whole !)))) refl (tt, tt) $
+    sets ! (of_opd ! (get_in ! (fld ! refl (stop !)) (sub ! 1 refl (whole !)))) refl fits $
+    first ! $ blocks ! $ sets ! (of_opd ! (get ! refl)) refl fits $
+    -- what `from_raw` asks for: the block, the handle of the heap and the pointer, and the tokens
+    move ! (4 ∷ []) $ split3 ! $ move ! (2 ∷ []) $ drop ! $ move ! (1 ∷ 2 ∷ []) $ join ! $ move ! (1 ∷ 0 ∷ []) $ join ! $
+    move ! (2 ∷ []) $ feq_i ! (List Val) (vptr b o ∷ []) (vptr b o ∷ []) refl $ fjoin ! $ move ! (2 ∷ 0 ∷ []) $ fjoin ! $
+    move ! (2 ∷ 0 ∷ []) $ join ! $ join ! $ use1 𝓛 (raw (Shuts.pre y)) (id⊢ 𝓤 _) $
+    calls_at_last ! (framed 𝓤 H 𝓜 𝓣) Shuts shuts y (and_then ! (get ! refl) (and_then ! (get ! refl) (no_more !))) (λ u.
+    let told = λ (r : D E). ‵ (fsep ftrue (fsep ftrue ftrue)) ⊛ (raw (fact 𝓤 (r.value ≡ x)) ⊛ raw (fact 𝓤 (r.alloc ≡ a))) in
+    use1 𝓛 (later (some (λ (r : D E). (toks ⊛ ‵ ((B E).own_val r (u ∷ []))) ⊛ some (λ (_ : Unit {0} × (Unit {0} × Unit {0})). told r)))) (id⊢ 𝓤 _) $
+    await ! tt $ pick ! (λ r. split ! $ move ! (1 ∷ []) $ pick ! (λ _. split3 ! $ drop ! $ heard ! (r.value ≡ x) (λ same. drop ! $ split ! $ move ! (1 ∷ []) $
+    box_out E ! r (u ∷ []) (λ b' o' hw e' wu fw. box_in E ! r b' o' r.value e' refl $
+    rewrite ! 0 (λ (us : List Val). ‵ ((B E).own_val r us)) (sym wu) refl $
+    let good : T (has_ty (box_ty E) u) × WT u = subst (λ (s : Val). T (has_ty (box_ty E) s) × WT s) (sym (ap only wu)) (box_typed E hw b' o' fw) in
+    lands_last ! refl good $ exec ! 𝓣.C 𝓣.Λ (env fn.locals ls) rest (at_ret (env fn.locals ls) Post) $
+    sets ! (of_opd ! (get ! refl)) refl good $ returns ! (look_at ! 0 refl) $ free_all ! refl $
+    suffices ! _ (ends_at 𝓛 En hs c z u r ((tt, (tt, tt)), tt) (tt, tt)) $ says ! same $
+    nothing ! $ nothing ! $ fjoin ! $ join ! $ move ! (1 ∷ 0 ∷ []) $ join ! $ done !))))))))))

@@ -1,9 +1,0 @@
--- `of` moves two fields, and what they own goes with them.
-use Rattle.dq_handle.proofs.Parts.Moves.{of_meets}
-use Rattle.dq_handle.proofs.SeatAsPart.{K}
-use Rattle.dq_handle.specs.contracts.caller.CallerPart.of.Key.{name}
-use Rattle.dq_handle.proofs.caller.CallerPart.of.Statement.{statement}
-use Rattle.dq_handle.proofs.caller.CallerPart.of.Code.{unfolded}
-
-pub of_spec : {M : Type 1} → statement M
-of_spec 𝓤 𝓛 𝓜 𝓡 wired = of_meets K 𝓛 𝓜 𝓡 name (unfolded 𝓤 𝓛.H 𝓜 𝓡 wired)
