@@ -2,10 +2,10 @@
 use Rattle.std.proofs.Common.{◌≡◌, ◌<◌, ℕ, List, [], ◌∷◌, Some, refl, sym, ap, ◌∙◌, subst}
 use Rattle.boxcar.specs.Slot.{Named}
 use Rattle.dq_words.specs.Claims.{Claimed}
-use Rattle.dq_journal.specs.declared.views.Entry.{Entry}
-use Rattle.dq_journal.specs.declared.views.View.{View}
-use Rattle.dq_journal.specs.History.{entry, entries_by}
-use Rattle.dq_journal.specs.Once.{EntersOnce, IsTold, IsUnderLock}
+use Rattle.dq_queue.specs.declared.journal.views.Entry.{Entry}
+use Rattle.dq_queue.specs.declared.journal.views.View.{View}
+use Rattle.dq_queue.specs.History.{entry, entries_by}
+use Rattle.dq_queue.specs.Once.{EntersOnce, IsTold, IsUnderLock}
 use Rattle.dq_core.specs.Core.{Core}
 use Rattle.dq_growing.specs.Sized.{SizedState}
 use Rattle.dq_growing.specs.Store.{StoreState, IsStore}

@@ -53,7 +53,7 @@ use Rattle.dq_growing.proofs.Pairing.{one_or_two}
 use Rattle.dq_growing.proofs.Rows.{keeps_law, one_at}
 use Rattle.dq_growing.proofs.Standing.{comes_there, same_id, set_other, some_is}
 use Rattle.dq_growing.proofs.Stored.{forgets_user, law_resets, place_is, stored}
-use Rattle.dq_journal.specs.declared.views.Entry.{Entry as Call}
+use Rattle.dq_queue.specs.declared.journal.views.Entry.{Entry as Call}
 use Rattle.dq_words.proofs.Ends.{stamps}
 use Rattle.dq_words.specs.declared.views.View.{View}
 use Rattle.dq_words.specs.Files.{Among, file, IsIn}

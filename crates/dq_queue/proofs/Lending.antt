@@ -10,11 +10,11 @@ use Rattle.dq_core.specs.Folds.{FoldedCore, IsFoldable, at_tick, folded_machine}
 use Rattle.dq_core.specs.Machine.{Machine, table_at}
 use Rattle.boxcar.specs.Slot.{Named}
 use Rattle.dq_words.specs.Claims.{Claimed, IsOf}
-use Rattle.dq_journal.specs.declared.views.Entry.{Entry}
-use Rattle.dq_journal.specs.declared.views.View.{View}
-use Rattle.dq_journal.specs.History.{entry, entries_by}
-use Rattle.dq_journal.specs.Once.{EntersOnce, IsWithNumber}
-use Rattle.dq_journal.specs.Views.{first_witness}
+use Rattle.dq_queue.specs.declared.journal.views.Entry.{Entry}
+use Rattle.dq_queue.specs.declared.journal.views.View.{View}
+use Rattle.dq_queue.specs.History.{entry, entries_by}
+use Rattle.dq_queue.specs.Once.{EntersOnce, IsWithNumber}
+use Rattle.dq_queue.specs.Views.{first_witness}
 use Rattle.dq_growing.specs.declared.cores.TakeError.{TakeError}
 use Rattle.dq_growing.specs.Cores.{HasNo, IsCoreAt}
 use Rattle.dq_growing.specs.Notes.{ArePastBy, numbers_of}

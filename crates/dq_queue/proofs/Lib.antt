@@ -1,5 +1,6 @@
 pub mod Claims
 pub mod Histories
+pub mod JournalSteps
 pub mod Leaving
 pub mod Lending
 pub mod Outs

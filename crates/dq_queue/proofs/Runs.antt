@@ -6,7 +6,7 @@ use Rattle.dq_core.specs.declared.errors.CoreError.{CoreError}
 use Rattle.dq_core.specs.declared.outcomes.Removed.{Removed}
 use Rattle.dq_core.specs.Core.{Core}
 use Rattle.dq_core.specs.Machine.{Entry as Stood}
-use Rattle.dq_journal.specs.declared.views.Entry.{Entry}
+use Rattle.dq_queue.specs.declared.journal.views.Entry.{Entry}
 use Rattle.dq_growing.specs.declared.cores.TakeError.{TakeError}
 use Rattle.dq_growing.specs.declared.moving.Moved.{Moved}
 use Rattle.dq_growing.specs.declared.moving.Moved.TheVariants.{To, Out}

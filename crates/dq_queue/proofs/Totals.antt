@@ -5,7 +5,7 @@ use Rattle.dq_growing.specs.Runs.{IsUsedId}
 use Rattle.dq_growing.specs.Sized.{SizedState}
 use Rattle.dq_growing.specs.Store.{StoreState, HasFor, NoneStandsFor}
 use Rattle.dq_growing.proofs.Standing.{some_is}
-use Rattle.dq_journal.specs.declared.views.Entry.{Entry}
+use Rattle.dq_queue.specs.declared.journal.views.Entry.{Entry}
 use Rattle.dq_words.specs.Seats.{Sat}
 use Rattle.dq_queue.specs.Calls.{HasGiven, HasOnly}
 use Rattle.dq_queue.specs.Leaving.{GivesOut, WasCancelledIn}

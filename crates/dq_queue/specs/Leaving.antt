@@ -17,7 +17,7 @@ use Rattle.dq_growing.specs.Sized.{SizedState}
 use Rattle.dq_growing.specs.Store.{StoreState, HasFor, NoneStandsFor}
 use Rattle.dq_growing.specs.declared.moving.Moved.TheVariants.{Out}
 use Rattle.dq_growing.specs.declared.moving.NextDeadline.{NextDeadline}
-use Rattle.dq_journal.specs.declared.views.Entry.{Entry as Call}
+use Rattle.dq_queue.specs.declared.journal.views.Entry.{Entry as Call}
 use Rattle.dq_words.specs.declared.views.View.{View}
 use Rattle.dq_words.specs.Seats.{Sat}
 use Rattle.dq_queue.specs.Calls.{IsStoreCall, StoreRemoves, StoreRelocates, StorePolls}

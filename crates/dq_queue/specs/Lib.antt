@@ -1,9 +1,15 @@
 pub mod Calls
 pub mod Claims
 pub mod Endings
+pub mod History
+pub mod Known
 pub mod Leaving
 pub mod Loans
+pub mod Once
+pub mod Plays
+pub mod Rule
 pub mod Runs
 pub mod Shards
 pub mod Totals
+pub mod Views
 pub mod Words

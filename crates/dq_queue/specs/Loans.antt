@@ -14,10 +14,10 @@ use Rattle.dq_growing.specs.Cores.{HasNo}
 use Rattle.dq_growing.specs.Notes.{ArePastBy, numbers_of}
 use Rattle.dq_growing.specs.Sized.{SizedState}
 use Rattle.dq_growing.specs.Store.{StoreState}
-use Rattle.dq_journal.specs.declared.views.Entry.{Entry}
-use Rattle.dq_journal.specs.declared.views.View.{View}
-use Rattle.dq_journal.specs.History.{entry, entries_by}
-use Rattle.dq_journal.specs.Once.{IsWithNumber}
+use Rattle.dq_queue.specs.declared.journal.views.Entry.{Entry}
+use Rattle.dq_queue.specs.declared.journal.views.View.{View}
+use Rattle.dq_queue.specs.History.{entry, entries_by}
+use Rattle.dq_queue.specs.Once.{IsWithNumber}
 use Rattle.dq_words.specs.OpenCalls.{Open}
 use Rattle.dq_words.specs.Seats.{Sat}
 use Rattle.dq_queue.specs.Calls.{StoreGives, StoreRefuses, StoreTakesIn}

@@ -6,7 +6,7 @@ use Rattle.dq_core.specs.declared.outcomes.Expired.{Expired}
 use Rattle.dq_core.specs.declared.outcomes.Removed.{Removed}
 use Rattle.dq_core.specs.declared.outcomes.Turn.TheVariants.{Out as CameOut}
 use Rattle.dq_core.specs.declared.outcomes.Piece.TheVariants.{Answer}
-use Rattle.dq_journal.specs.declared.views.Entry.{Entry}
+use Rattle.dq_queue.specs.declared.journal.views.Entry.{Entry}
 use Rattle.dq_growing.specs.Runs.{KeepsId, GivesId, KeepsItsDeadline, NotDueBefore}
 use Rattle.dq_growing.specs.Sized.{SizedState}
 use Rattle.dq_growing.specs.Store.{StoreState, NoneStandsFor, GoesOut}

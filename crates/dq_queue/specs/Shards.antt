@@ -2,9 +2,9 @@
 use Rattle.std.specs.Prelude.{◌≡◌, ℕ, List, [], ◌∷◌, ◌++◌, Some}
 use Rattle.atomic_table.specs.Seated.{TableId}
 use Rattle.dq_words.specs.Claims.{Claimed}
-use Rattle.dq_journal.specs.declared.views.Entry.{Entry}
-use Rattle.dq_journal.specs.declared.views.View.{View}
-use Rattle.dq_journal.specs.History.{entry, entries_by}
+use Rattle.dq_queue.specs.declared.journal.views.Entry.{Entry}
+use Rattle.dq_queue.specs.declared.journal.views.View.{View}
+use Rattle.dq_queue.specs.History.{entry, entries_by}
 use Rattle.dq_growing.specs.Sized.{SizedState}
 use Rattle.dq_growing.specs.Store.{StoreState, IsStore}
 use Rattle.dq_words.specs.OpenCalls.{Open}

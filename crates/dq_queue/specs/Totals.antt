@@ -3,7 +3,7 @@
 use Rattle.std.specs.Prelude.{◌≡◌, ◌≢◌, ◌⊎◌, ℕ, ◌+◌, List, [], ◌∷◌, length, Option, Ok}
 use Rattle.dq_ticks.specs.declared.keys.EntryId.{EntryId}
 use Rattle.dq_ticks.specs.declared.keys.Key.{Key}
-use Rattle.dq_journal.specs.declared.views.Entry.{Entry}
+use Rattle.dq_queue.specs.declared.journal.views.Entry.{Entry}
 use Rattle.dq_growing.specs.Sized.{SizedState}
 use Rattle.dq_growing.specs.Store.{StoreState, NoneStandsFor}
 use Rattle.dq_words.specs.Seats.{Sat}

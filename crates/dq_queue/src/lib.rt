@@ -5,6 +5,7 @@
 #![tactic(auto)]
 
 pub mod endings;
+pub mod journal;
 mod loans;
 mod making;
 mod queue;

@@ -7,9 +7,9 @@ ghost use Rattle.dq_core.specs.Folds.{IsFoldable, at_tick, folded_machine};
 ghost use Rattle.dq_core.specs.declared.errors.CoreError.TheVariants.{TickTooLarge};
 ghost use Rattle.dq_ticks.specs.declared.TheConstants.{LAST_TICK};
 
+use crate::journal::Witness;
 use crate::shard::Rooms;
 use dq_core::{CoreError, DelayCore, Folded};
-use dq_journal::Witness;
 use dq_words::Keeper;
 use std::alloc::{Allocator, Global};
 use std::marker::{Model, PhantomData};

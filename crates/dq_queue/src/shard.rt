@@ -2,8 +2,8 @@
 //! history.
 ghost use Rattle.std.specs.Prelude.{◌≡◌, ◌<◌, ◌+◌, ◌++◌, ◌∷◌, max, true, [], Some, None, IfOk, IfErr, IfSome, IfNone, OnOk, OnErr};
 ghost use Rattle.std.specs.Fn.{FnOnceReturnsAtMut};
-ghost use Rattle.dq_journal.specs.Once.{IsTold, IsWithNumber};
-ghost use Rattle.dq_journal.specs.Views.{first_witness, new_witness};
+ghost use Rattle.dq_queue.specs.Once.{IsTold, IsWithNumber};
+ghost use Rattle.dq_queue.specs.Views.{first_witness, new_witness};
 ghost use Rattle.dq_growing.specs.Notes.{HasNoteRoom};
 ghost use Rattle.dq_growing.specs.Polls.{IfPieceOut, NoneLiveIn};
 ghost use Rattle.dq_growing.specs.Sized.{NotesNext};
@@ -23,11 +23,11 @@ ghost use Rattle.dq_queue.specs.Totals.{TotalsAgreeIn};
 ghost use Rattle.dq_queue.specs.Shards.{EntersNone, MadeOnce, OneMore, IsStoreHistory, unnamed};
 
 use crate::endings;
+use crate::journal::Witness;
 use crate::loans::Drained;
 use crate::words::{Promise, QueueWords};
 use dq_core::{CoreError, DelayCore, Piece, ReapError, Removed};
 use dq_growing::{Moved, NextDeadline, SizedStore, TakeError};
-use dq_journal::Witness;
 use dq_ticks::{EntryId, Key};
 use dq_words::directory::Claim;
 use dq_words::{Keeper, OpenWords};
@@ -74,7 +74,7 @@ pub struct Shard<T, J: Rooms, A: Allocator = Global> {
 
 impl<T, J: Rooms, A: Allocator> Model for Shard<T, J, A> {
     ghost use Rattle.std.specs.Prelude.{◌≡◌, ◌<◌};
-    ghost use Rattle.dq_journal.specs.Once.{IsUnderLock};
+    ghost use Rattle.dq_queue.specs.Once.{IsUnderLock};
     ghost use Rattle.dq_queue.specs.Claims.{AreClaimed, AreClaimsOf};
     ghost use Rattle.dq_queue.specs.Loans.{LoansAreKept};
     ghost use Rattle.dq_queue.specs.Shards.{HeldShard, IsAsLeft, IsStoreHistory};
@@ -107,7 +107,7 @@ pub struct Caller<T, J: Rooms, A: Allocator = Global> {
 
 impl<T, J: Rooms, A: Allocator> Model for Caller<T, J, A> {
     ghost use Rattle.std.specs.Prelude.{◌≡◌, ◌<◌};
-    ghost use Rattle.dq_journal.specs.Once.{IsWithNumber};
+    ghost use Rattle.dq_queue.specs.Once.{IsWithNumber};
     ghost use Rattle.dq_queue.specs.Shards.{CallerView};
 
     ghost Value = { CallerView T };

@@ -1,6 +1,6 @@
 use Rattle.std.proofs.Common.{◌≡◌, Option, Some, refl, sym, ap, ◌∙◌, subst, inl, inr}
 use Rattle.dq_core.specs.Core.{Core}
-use Rattle.dq_journal.specs.History.{entry}
+use Rattle.dq_queue.specs.History.{entry}
 use Rattle.dq_growing.specs.Sized.{SizedState}
 use Rattle.dq_growing.specs.Store.{StoreState}
 use Rattle.dq_words.specs.Seats.{Sat}

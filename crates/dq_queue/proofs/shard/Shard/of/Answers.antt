@@ -1,7 +1,7 @@
 use Rattle.std.proofs.Common.{refl, sym, subst}
 use Rattle.dq_core.specs.Core.{Core}
-use Rattle.dq_journal.specs.declared.views.View.{View}
-use Rattle.dq_journal.specs.Once.{IsUnderLock}
+use Rattle.dq_queue.specs.declared.journal.views.View.{View}
+use Rattle.dq_queue.specs.Once.{IsUnderLock}
 use Rattle.dq_growing.specs.Sized.{SizedState}
 use Rattle.dq_words.specs.Seats.{Sat}
 use Rattle.dq_queue.specs.Shards.{IsAsLeft, IsStoreHistory}

@@ -1,7 +1,7 @@
 use Rattle.std.proofs.Common.{◌≡◌, Some, Result, refl, sym, ap, ◌∙◌, subst, inl, inr}
 use Rattle.dq_core.specs.Core.{Core}
-use Rattle.dq_journal.specs.History.{entry}
-use Rattle.dq_journal.specs.Once.{EntersOnce}
+use Rattle.dq_queue.specs.History.{entry}
+use Rattle.dq_queue.specs.Once.{EntersOnce}
 use Rattle.dq_growing.specs.declared.cores.TakeError.{TakeError}
 use Rattle.dq_growing.specs.Sized.{SizedState}
 use Rattle.dq_growing.specs.Store.{StoreState}

@@ -1,5 +1,5 @@
 use Rattle.std.proofs.Common.{IfErr, OnOk, Some, refl, sym, ap, ◌∙◌, subst, inl, inr}
-use Rattle.dq_journal.specs.History.{entry}
+use Rattle.dq_queue.specs.History.{entry}
 use Rattle.dq_growing.specs.Store.{StoreState}
 use Rattle.dq_words.specs.Seats.{Sat}
 use Rattle.dq_queue.specs.Calls.{StoreTakesIn, IsStoreCall}

@@ -1,9 +1,9 @@
 //! The rule that holds between any two steps of the witnesses, and what each step tells.
-ghost use Rattle.dq_journal.specs.Views.{first_witness, new_witness, with_one_more, lent, left, taken, nobody};
-ghost use Rattle.dq_journal.specs.Rule.{HasOneHistory};
-ghost use Rattle.dq_journal.specs.Plays.{entered, learned};
+ghost use Rattle.dq_queue.specs.Views.{first_witness, new_witness, with_one_more, lent, left, taken, nobody};
+ghost use Rattle.dq_queue.specs.Rule.{HasOneHistory};
+ghost use Rattle.dq_queue.specs.Plays.{entered, learned};
 
-use crate::views::View;
+use crate::journal::views::View;
 use atomic_table::{Join, Play, Seat, Split, Table, TableRule};
 use std::marker::{Brand, PhantomData};
 

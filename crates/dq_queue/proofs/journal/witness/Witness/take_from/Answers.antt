@@ -1,9 +1,9 @@
 use Rattle.std.proofs.Common.{◌≡◌, ap, ◌∙◌, sym, arith}
-use Rattle.dq_journal.specs.declared.views.View.{View}
-use Rattle.dq_journal.specs.Known.{Known}
-use Rattle.dq_journal.specs.Views.{lent}
-use Rattle.dq_journal.proofs.Steps.{lends, takes}
-use Rattle.dq_journal.proofs.witness.Witness.take_from.Goals as goal
+use Rattle.dq_queue.specs.declared.journal.views.View.{View}
+use Rattle.dq_queue.specs.Known.{Known}
+use Rattle.dq_queue.specs.Views.{lent}
+use Rattle.dq_queue.proofs.JournalSteps.{lends, takes}
+use Rattle.dq_queue.proofs.journal.witness.Witness.take_from.Goals as goal
 
 pub split_seat-token-requires : goal.split_seat-token-requires
 split_seat-token-requires g c =

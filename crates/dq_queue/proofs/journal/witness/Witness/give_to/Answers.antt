@@ -1,7 +1,7 @@
 use Rattle.std.proofs.Common.{ap, ◌∙◌, sym, arith}
-use Rattle.dq_journal.specs.Known.{Known}
-use Rattle.dq_journal.proofs.Steps.{lends}
-use Rattle.dq_journal.proofs.witness.Witness.give_to.Goals as goal
+use Rattle.dq_queue.specs.Known.{Known}
+use Rattle.dq_queue.proofs.JournalSteps.{lends}
+use Rattle.dq_queue.proofs.journal.witness.Witness.give_to.Goals as goal
 
 pub split_seat-requires : goal.split_seat-requires
 split_seat-requires g c =

@@ -1,6 +1,6 @@
 -- A history, the newest entry first.
 use Rattle.std.specs.Prelude.{◌≡◌, ℕ, ◌==◌, if◌then◌else◌, List, [], ◌∷◌, ◌++◌, Option}
-use Rattle.dq_journal.specs.declared.views.Entry.{Entry}
+use Rattle.dq_queue.specs.declared.journal.views.Entry.{Entry}
 
 module _ {E : Type 0} where
   -- what the call of that number left

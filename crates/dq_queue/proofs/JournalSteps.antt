@@ -5,12 +5,12 @@ use lib.ListN.{get_elem?}
 use Rattle.std.proofs.lemmas.Bool.Decides.{nat_tests}
 use Rattle.atomic_table.specs.Table.{State, step, keeps, opening, Allows, Splits, Joins}
 use Rattle.atomic_table.proofs.Lists.{at_set, set_again}
-use Rattle.dq_journal.specs.declared.views.Entry.{Entry}
-use Rattle.dq_journal.specs.declared.views.View.{View}
-use Rattle.dq_journal.specs.Views.{nobody, first_witness, with_one_more, new_witness, left, lent, taken}
-use Rattle.dq_journal.specs.History.{entry, entries_by, Continues}
-use Rattle.dq_journal.specs.Rule.{Fits, AreApart, HasOne, HasOneHistory}
-use Rattle.dq_journal.specs.Plays.{entering, IsFair, entered, learned}
+use Rattle.dq_queue.specs.declared.journal.views.Entry.{Entry}
+use Rattle.dq_queue.specs.declared.journal.views.View.{View}
+use Rattle.dq_queue.specs.Views.{nobody, first_witness, with_one_more, new_witness, left, lent, taken}
+use Rattle.dq_queue.specs.History.{entry, entries_by, Continues}
+use Rattle.dq_queue.specs.Rule.{Fits, AreApart, HasOne, HasOneHistory}
+use Rattle.dq_queue.specs.Plays.{entering, IsFair, entered, learned}
 
 off : false ≡ true → ⊥
 off e = true≢false (sym e)

@@ -1,6 +1,6 @@
 -- What witnesses know.
 use Rattle.std.specs.Prelude.{◌+◌, [], true, false}
-use Rattle.dq_journal.specs.declared.views.View.{View}
+use Rattle.dq_queue.specs.declared.journal.views.View.{View}
 
 module _ {E : Type 0} where
   -- a witness that knows nothing

@@ -1,7 +1,7 @@
 use Rattle.std.proofs.Common.{ap, ◌∙◌, sym, arith}
-use Rattle.dq_journal.specs.Known.{Known}
-use Rattle.dq_journal.proofs.Steps.{opens}
-use Rattle.dq_journal.proofs.witness.Witness.open.Goals as goal
+use Rattle.dq_queue.specs.Known.{Known}
+use Rattle.dq_queue.proofs.JournalSteps.{opens}
+use Rattle.dq_queue.proofs.journal.witness.Witness.open.Goals as goal
 
 pub split_seat-seat-requires : goal.split_seat-seat-requires
 split_seat-seat-requires g c =

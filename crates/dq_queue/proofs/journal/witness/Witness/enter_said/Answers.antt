@@ -1,7 +1,7 @@
 use Rattle.std.proofs.Common.{ap, ◌∙◌, sym, arith}
-use Rattle.dq_journal.specs.Known.{Known}
-use Rattle.dq_journal.proofs.Steps.{writes}
-use Rattle.dq_journal.proofs.witness.Witness.enter_said.Goals as goal
+use Rattle.dq_queue.specs.Known.{Known}
+use Rattle.dq_queue.proofs.JournalSteps.{writes}
+use Rattle.dq_queue.proofs.journal.witness.Witness.enter_said.Goals as goal
 
 pub load-requires : goal.load-requires
 load-requires g c =

@@ -1,5 +1,5 @@
 use Rattle.std.specs.Prelude.{Some}
-use Rattle.dq_journal.proofs.witness.Witness.enter.Given as goal
+use Rattle.dq_queue.proofs.journal.witness.Witness.enter.Given as goal
 
 -- what was passed is said
 abbrev pub ghosts-enter_said : goal.ghosts-enter_said

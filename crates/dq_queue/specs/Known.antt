@@ -1,7 +1,7 @@
 -- A witness as contracts see it.
 use Rattle.std.specs.Prelude.{◌≡◌}
 use Rattle.atomic_table.specs.Seated.{TableId}
-use Rattle.dq_journal.specs.declared.views.View.{View}
+use Rattle.dq_queue.specs.declared.journal.views.View.{View}
 
 -- the history that it is a witness of, and what it knows
 pub record Known (E : Type 0) : Type 0 where

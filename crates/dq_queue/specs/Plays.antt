@@ -1,8 +1,8 @@
 -- What each step tells.
 use Rattle.std.specs.Prelude.{◌≡◌, ℕ, ◌∷◌, Option}
 use Rattle.atomic_table.specs.Table.{Me, Step}
-use Rattle.dq_journal.specs.declared.views.View.{View}
-use Rattle.dq_journal.specs.History.{entry, entries_by, Continues}
+use Rattle.dq_queue.specs.declared.journal.views.View.{View}
+use Rattle.dq_queue.specs.History.{entry, entries_by, Continues}
 
 module _ {E : Type 0} where
   -- the view after the number that is with the witness entered what its call left

@@ -1,8 +1,8 @@
 -- What a call enters, once.
 use Rattle.std.specs.Prelude.{◌≡◌, List, ◌∷◌, ◌++◌, Option, true, false}
-use Rattle.dq_journal.specs.declared.views.Entry.{Entry}
-use Rattle.dq_journal.specs.declared.views.View.{View}
-use Rattle.dq_journal.specs.History.{entry, entries_by, Continues}
+use Rattle.dq_queue.specs.declared.journal.views.Entry.{Entry}
+use Rattle.dq_queue.specs.declared.journal.views.View.{View}
+use Rattle.dq_queue.specs.History.{entry, entries_by, Continues}
 
 module _ {E : Type 0} where
   -- the witness under the lock, with no caller's number

@@ -1,10 +1,10 @@
 //! A witness of a history.
 ghost use Rattle.std.specs.Prelude.{◌≡◌, true, false, Some, IfOk, IfErr};
-ghost use Rattle.dq_journal.specs.Views.{first_witness, new_witness, with_one_more, lent, left, taken};
-ghost use Rattle.dq_journal.specs.Plays.{entering, IsFair};
-ghost use Rattle.dq_journal.specs.Once.{IsUnderLock, IsWithNumber, EntersOnce, IsTold};
+ghost use Rattle.dq_queue.specs.Views.{first_witness, new_witness, with_one_more, lent, left, taken};
+ghost use Rattle.dq_queue.specs.Plays.{entering, IsFair};
+ghost use Rattle.dq_queue.specs.Once.{IsUnderLock, IsWithNumber, EntersOnce, IsTold};
 
-use crate::rule::{Enter, JournalSeat, JournalTable, Learn, Open, Pass, Says};
+use crate::journal::rule::{Enter, JournalSeat, JournalTable, Learn, Open, Pass, Says};
 use atomic_table::Table;
 use std::alloc::{AllocError, Allocator, Global};
 use std::marker::{Brand, Model};
@@ -19,7 +19,7 @@ pub struct Witness<E, A: Allocator = Global> {
 
 impl<E, A: Allocator> Model for Witness<E, A> {
     ghost use Rattle.std.specs.Arc.{arc_value};
-    ghost use Rattle.dq_journal.specs.Known.{Known, Sits};
+    ghost use Rattle.dq_queue.specs.Known.{Known, Sits};
 
     ghost Value = { Known E };
 
