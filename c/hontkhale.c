@@ -261,10 +261,10 @@ static void rattle_dealloc(char *held) {
 }
 
 struct of_8_64 { uint8_t f0; uint64_t f1; };
-static void in_dq_handle_queue_QueueHandle_drop(char *a0, uint8_t a1);
+static void in_dq_c_handle_queue_QueueHandle_drop(char *a0, uint8_t a1);
+static void in_dq_words_keeper_Keeper_drop(char *a0);
 static void in_dq_words_keeper_Keeper_new(char *a0, uint64_t a1);
 static bool in_std_alloc_vec_Vec_grow_amortized(char *a0);
-static void in_dq_words_keeper_Keeper_drop(char *a0);
 static bool in_dq_core_queue_DelayCore_reap_at(char *a0, uint64_t a1);
 static void in_dq_core_slots_Slots_defer(char *a0, uint64_t a1);
 static struct of_8_64 in_dq_core_slots_take_any(char *a0, char *a1, char *a2, char *a3);
@@ -300,225 +300,237 @@ static char *in_dq_poll_many(char *a0, char *a1, uint64_t a2, char *a3, uint64_t
 static char *in_dq_poll(char *a0, char *a1, uint64_t a2, char *a3);
 static char *in_dq_poll_some(char *a0, char *a1, uint64_t a2, uint32_t a3, char *a4);
 
-/* dq_handle::queue::QueueHandle::drop */
-static void in_dq_handle_queue_QueueHandle_drop(char *a0, uint8_t a1) {
-    bool v0;
-    char *v1;
+/* dq_c::handle::queue::QueueHandle::drop */
+static void in_dq_c_handle_queue_QueueHandle_drop(char *a0, uint8_t a1) {
+    _Alignas(8) char r0[176];
+    bool v1;
     char *v2;
     char *v3;
-    uint64_t v4;
-    char *v5;
+    char *v4;
+    uint64_t v5;
     char *v6;
     char *v7;
-    uint64_t v8;
-    char *v9;
+    char *v8;
+    uint64_t v9;
     char *v10;
     char *v11;
-    uint64_t v12;
-    char *v13;
+    char *v12;
+    uint64_t v13;
     char *v14;
     char *v15;
-    uint64_t v16;
-    char *v17;
+    char *v16;
+    uint64_t v17;
     char *v18;
     char *v19;
-    uint64_t v20;
-    char *v21;
+    char *v20;
+    uint64_t v21;
     char *v22;
     char *v23;
-    uint64_t v24;
-    char *v25;
+    char *v24;
+    uint64_t v25;
     char *v26;
-    char *v27;
-    uint64_t v28;
+    bool v27;
+    bool v28;
     bool v29;
     bool v30;
     bool v31;
     bool v32;
-    bool v33;
-    bool v34;
-    bool v35;
-    char *v36;
-    uint64_t v37;
-    uint64_t v37_in;
-    char *v39;
-    uint64_t v40;
-    char *v41;
-    uint64_t v42;
-    uint64_t v43;
-    bool v44;
-    bool v45;
-    bool v46;
-    char *v47;
-    char *v48;
-    uint64_t v49;
-    uint64_t v50;
-    uint64_t v51;
-    uint64_t v52;
-    uint64_t v52_in;
-    uint64_t v54;
-    bool v55;
-    uint64_t v56;
-    uint64_t v57;
-    char *v58;
-    char *v59;
-    struct of_64_1 v60;
-    uint64_t v61;
-    bool v62;
-    uint64_t v63;
-    bool v64;
-    uint64_t v65;
-    bool v66;
-    char *v67;
-    char *v68;
-    char *v69;
-    char *v70;
-    v0 = (bool)((a1) & 1);
-    if (v0) { goto b1; }
-    goto b22;
+    char *v33;
+    v1 = (bool)((a1) & 1);
+    if (v1) { goto b1; }
+    goto b14;
 b1:;
-    v1 = a0 + 32ull;
-    v2 = load_ptr(v1);
-    v3 = a0 + 48ull;
-    v4 = load_64(v3);
-    v5 = a0 + 160ull;
-    v6 = load_ptr(v5);
-    v7 = a0 + 176ull;
-    v8 = load_64(v7);
-    v9 = a0 + 184ull;
-    v10 = load_ptr(v9);
-    v11 = a0 + 200ull;
-    v12 = load_64(v11);
-    v13 = a0 + 208ull;
-    v14 = load_ptr(v13);
-    v15 = a0 + 224ull;
-    v16 = load_64(v15);
-    v17 = a0 + 368ull;
-    v18 = load_ptr(v17);
-    v19 = a0 + 384ull;
-    v20 = load_64(v19);
-    v21 = a0 + 536ull;
-    v22 = load_ptr(v21);
-    v23 = a0 + 552ull;
-    v24 = load_64(v23);
-    v25 = a0 + 712ull;
-    v26 = load_ptr(v25);
-    v27 = a0 + 720ull;
-    v28 = load_64(v27);
+    v2 = a0 + 32ull;
+    v3 = load_ptr(v2);
+    v4 = a0 + 48ull;
+    v5 = load_64(v4);
+    v6 = a0 + 160ull;
+    v7 = load_ptr(v6);
+    v8 = a0 + 176ull;
+    v9 = load_64(v8);
+    v10 = a0 + 184ull;
+    v11 = load_ptr(v10);
+    v12 = a0 + 200ull;
+    v13 = load_64(v12);
+    v14 = a0 + 208ull;
+    v15 = load_ptr(v14);
+    v16 = a0 + 224ull;
+    v17 = load_64(v16);
+    v18 = a0 + 368ull;
+    v19 = load_ptr(v18);
+    v20 = a0 + 384ull;
+    v21 = load_64(v20);
+    v22 = a0 + 536ull;
+    v23 = load_ptr(v22);
+    v24 = a0 + 552ull;
+    v25 = load_64(v24);
+    v26 = a0 + 560ull;
+    memcpy((char *)r0, v26, 176ull);
     rattle_dealloc(a0);
-    v29 = v4 == 0ull;
-    if (v29) { goto b3; }
+    v27 = v5 == 0ull;
+    if (v27) { goto b3; }
     goto b2;
 b2:;
-    rattle_dealloc(v2);
+    rattle_dealloc(v3);
     goto b3;
 b3:;
-    v30 = v8 == 0ull;
-    if (v30) { goto b5; }
+    v28 = v9 == 0ull;
+    if (v28) { goto b5; }
     goto b4;
 b4:;
-    rattle_dealloc(v6);
+    rattle_dealloc(v7);
     goto b5;
 b5:;
-    v31 = v12 == 0ull;
-    if (v31) { goto b7; }
+    v29 = v13 == 0ull;
+    if (v29) { goto b7; }
     goto b6;
 b6:;
-    rattle_dealloc(v10);
+    rattle_dealloc(v11);
     goto b7;
 b7:;
-    v32 = v16 == 0ull;
-    if (v32) { goto b9; }
+    v30 = v17 == 0ull;
+    if (v30) { goto b9; }
     goto b8;
 b8:;
-    rattle_dealloc(v14);
+    rattle_dealloc(v15);
     goto b9;
 b9:;
-    v33 = v20 == 0ull;
-    if (v33) { goto b11; }
+    v31 = v21 == 0ull;
+    if (v31) { goto b11; }
     goto b10;
 b10:;
-    rattle_dealloc(v18);
+    rattle_dealloc(v19);
     goto b11;
 b11:;
-    v34 = v24 == 0ull;
-    if (v34) { goto b13; }
+    v32 = v25 == 0ull;
+    if (v32) { goto b13; }
     goto b12;
 b12:;
-    rattle_dealloc(v22);
+    rattle_dealloc(v23);
     goto b13;
 b13:;
-    v35 = v28 == 0ull;
-    if (v35) { goto b20; }
+    v33 = (char *)r0 + 152ull;
+    in_dq_words_keeper_Keeper_drop(v33);
     goto b14;
 b14:;
-    v36 = (char *)((uintptr_t)v26 + 8ull);
-    v37_in = 0ull; goto b15;
-b15:;
-    v37 = v37_in;
-    v39 = load_ptr(v36);
-    v40 = (uint64_t)(v37 << 3ull);
-    v41 = (char *)((uintptr_t)v39 + v40);
+    return;
+}
+
+/* dq_words::keeper::Keeper::drop */
+static void in_dq_words_keeper_Keeper_drop(char *a0) {
+    char *v0;
+    char *v1;
+    uint64_t v2;
+    bool v3;
+    char *v4;
+    uint64_t v5;
+    uint64_t v5_in;
+    char *v7;
+    uint64_t v8;
+    char *v9;
+    uint64_t v10;
+    uint64_t v11;
+    bool v12;
+    bool v13;
+    bool v14;
+    char *v15;
+    char *v16;
+    uint64_t v17;
+    uint64_t v18;
+    uint64_t v19;
+    uint64_t v20;
+    uint64_t v20_in;
+    uint64_t v22;
+    bool v23;
+    uint64_t v24;
+    uint64_t v25;
+    char *v26;
+    char *v27;
+    struct of_64_1 v28;
+    uint64_t v29;
+    bool v30;
+    uint64_t v31;
+    bool v32;
+    uint64_t v33;
+    bool v34;
+    char *v35;
+    char *v36;
+    char *v37;
+    char *v38;
+    v0 = load_ptr(a0);
+    v1 = a0 + 8ull;
+    v2 = load_64(v1);
+    v3 = v2 == 0ull;
+    if (v3) { goto b7; }
+    goto b1;
+b1:;
+    v4 = (char *)((uintptr_t)v0 + 8ull);
+    v5_in = 0ull; goto b2;
+b2:;
+    v5 = v5_in;
+    v7 = load_ptr(v4);
+    v8 = (uint64_t)(v5 << 3ull);
+    v9 = (char *)((uintptr_t)v7 + v8);
     __atomic_signal_fence(__ATOMIC_SEQ_CST);
-    v42 = __atomic_load_n((uint64_t *)v41, __ATOMIC_SEQ_CST);
+    v10 = __atomic_load_n((uint64_t *)v9, __ATOMIC_SEQ_CST);
     __atomic_signal_fence(__ATOMIC_SEQ_CST);
-    v43 = (uint64_t)(v42 & 13194139533312ull);
-    v44 = v43 != 0ull;
-    v45 = v42 < 17592186044416ull;
-    v46 = (bool)(((uint32_t)v45 | (uint32_t)v44) & 1);
-    if (v46) { goto b19; }
-    goto b16;
-b16:;
-    v47 = load_ptr(v36);
-    v48 = (char *)((uintptr_t)v47 + v40);
+    v11 = (uint64_t)(v10 & 13194139533312ull);
+    v12 = v11 != 0ull;
+    v13 = v10 < 17592186044416ull;
+    v14 = (bool)(((uint32_t)v13 | (uint32_t)v12) & 1);
+    if (v14) { goto b6; }
+    goto b3;
+b3:;
+    v15 = load_ptr(v4);
+    v16 = (char *)((uintptr_t)v15 + v8);
     __atomic_signal_fence(__ATOMIC_SEQ_CST);
-    v49 = __atomic_load_n((uint64_t *)v48, __ATOMIC_SEQ_CST);
+    v17 = __atomic_load_n((uint64_t *)v16, __ATOMIC_SEQ_CST);
     __atomic_signal_fence(__ATOMIC_SEQ_CST);
-    v50 = (uint64_t)(v42 & 18446726481523507200ull);
-    v51 = (uint64_t)(v50 | 13194139533312ull);
-    v52_in = v49; goto b17;
-b17:;
-    v52 = v52_in;
-    v54 = (uint64_t)(v52 & 13194139533312ull);
-    v55 = v54 == 0ull;
-    if (v55) { goto b18; }
-    goto b19;
-b18:;
-    v56 = (uint64_t)(v52 & 4398046511103ull);
-    v57 = (uint64_t)(v56 | v51);
-    v58 = load_ptr(v36);
-    v59 = (char *)((uintptr_t)v58 + v40);
+    v18 = (uint64_t)(v10 & 18446726481523507200ull);
+    v19 = (uint64_t)(v18 | 13194139533312ull);
+    v20_in = v17; goto b4;
+b4:;
+    v20 = v20_in;
+    v22 = (uint64_t)(v20 & 13194139533312ull);
+    v23 = v22 == 0ull;
+    if (v23) { goto b5; }
+    goto b6;
+b5:;
+    v24 = (uint64_t)(v20 & 4398046511103ull);
+    v25 = (uint64_t)(v24 | v19);
+    v26 = load_ptr(v4);
+    v27 = (char *)((uintptr_t)v26 + v8);
     __atomic_signal_fence(__ATOMIC_SEQ_CST);
-    { uint64_t seen = v52;
-    v60.f1 = __atomic_compare_exchange_n((uint64_t *)v59, &seen, v57, false, __ATOMIC_SEQ_CST, __ATOMIC_SEQ_CST);
-    v60.f0 = seen; }
-    v61 = v60.f0;
+    { uint64_t seen = v20;
+    v28.f1 = __atomic_compare_exchange_n((uint64_t *)v27, &seen, v25, false, __ATOMIC_SEQ_CST, __ATOMIC_SEQ_CST);
+    v28.f0 = seen; }
+    v29 = v28.f0;
     __atomic_signal_fence(__ATOMIC_SEQ_CST);
-    v62 = v60.f1;
-    if (v62) { goto b19; }
-    v52_in = v61; goto b17;
-b19:;
-    v63 = (uint64_t)(v37 + 1ull);
-    v64 = v63 == v28;
-    if (v64) { goto b20; }
-    v37_in = v63; goto b15;
-b20:;
+    v30 = v28.f1;
+    if (v30) { goto b6; }
+    v20_in = v29; goto b4;
+b6:;
+    v31 = (uint64_t)(v5 + 1ull);
+    v32 = v31 == v2;
+    if (v32) { goto b7; }
+    v5_in = v31; goto b2;
+b7:;
     __atomic_signal_fence(__ATOMIC_SEQ_CST);
-    v65 = __atomic_fetch_sub((uint64_t *)v26, 1ull, __ATOMIC_SEQ_CST);
+    v33 = __atomic_fetch_sub((uint64_t *)v0, 1ull, __ATOMIC_SEQ_CST);
     __atomic_signal_fence(__ATOMIC_SEQ_CST);
-    v66 = v65 == 1ull;
-    if (v66) { goto b21; }
-    goto b22;
-b21:;
-    v67 = (char *)((uintptr_t)v26 + 40ull);
-    v68 = load_ptr(v67);
-    v69 = (char *)((uintptr_t)v26 + 56ull);
-    v70 = load_ptr(v69);
-    rattle_dealloc(v26);
-    rattle_dealloc(v68);
-    rattle_dealloc(v70);
-    goto b22;
-b22:;
+    v34 = v33 == 1ull;
+    if (v34) { goto b8; }
+    goto b9;
+b8:;
+    v35 = (char *)((uintptr_t)v0 + 40ull);
+    v36 = load_ptr(v35);
+    v37 = (char *)((uintptr_t)v0 + 56ull);
+    v38 = load_ptr(v37);
+    rattle_dealloc(v0);
+    rattle_dealloc(v36);
+    rattle_dealloc(v38);
+    goto b9;
+b9:;
     return;
 }
 
@@ -764,124 +776,6 @@ b6:;
     store_ptr(a0, v29);
     store_64(v5, v12);
     v3_in = true; goto b1;
-}
-
-/* dq_words::keeper::Keeper::drop */
-static void in_dq_words_keeper_Keeper_drop(char *a0) {
-    char *v0;
-    char *v1;
-    uint64_t v2;
-    bool v3;
-    char *v4;
-    uint64_t v5;
-    uint64_t v5_in;
-    char *v7;
-    uint64_t v8;
-    char *v9;
-    uint64_t v10;
-    uint64_t v11;
-    bool v12;
-    bool v13;
-    bool v14;
-    char *v15;
-    char *v16;
-    uint64_t v17;
-    uint64_t v18;
-    uint64_t v19;
-    uint64_t v20;
-    uint64_t v20_in;
-    uint64_t v22;
-    bool v23;
-    uint64_t v24;
-    uint64_t v25;
-    char *v26;
-    char *v27;
-    struct of_64_1 v28;
-    uint64_t v29;
-    bool v30;
-    uint64_t v31;
-    bool v32;
-    uint64_t v33;
-    bool v34;
-    char *v35;
-    char *v36;
-    char *v37;
-    char *v38;
-    v0 = load_ptr(a0);
-    v1 = a0 + 8ull;
-    v2 = load_64(v1);
-    v3 = v2 == 0ull;
-    if (v3) { goto b7; }
-    goto b1;
-b1:;
-    v4 = (char *)((uintptr_t)v0 + 8ull);
-    v5_in = 0ull; goto b2;
-b2:;
-    v5 = v5_in;
-    v7 = load_ptr(v4);
-    v8 = (uint64_t)(v5 << 3ull);
-    v9 = (char *)((uintptr_t)v7 + v8);
-    __atomic_signal_fence(__ATOMIC_SEQ_CST);
-    v10 = __atomic_load_n((uint64_t *)v9, __ATOMIC_SEQ_CST);
-    __atomic_signal_fence(__ATOMIC_SEQ_CST);
-    v11 = (uint64_t)(v10 & 13194139533312ull);
-    v12 = v11 != 0ull;
-    v13 = v10 < 17592186044416ull;
-    v14 = (bool)(((uint32_t)v13 | (uint32_t)v12) & 1);
-    if (v14) { goto b6; }
-    goto b3;
-b3:;
-    v15 = load_ptr(v4);
-    v16 = (char *)((uintptr_t)v15 + v8);
-    __atomic_signal_fence(__ATOMIC_SEQ_CST);
-    v17 = __atomic_load_n((uint64_t *)v16, __ATOMIC_SEQ_CST);
-    __atomic_signal_fence(__ATOMIC_SEQ_CST);
-    v18 = (uint64_t)(v10 & 18446726481523507200ull);
-    v19 = (uint64_t)(v18 | 13194139533312ull);
-    v20_in = v17; goto b4;
-b4:;
-    v20 = v20_in;
-    v22 = (uint64_t)(v20 & 13194139533312ull);
-    v23 = v22 == 0ull;
-    if (v23) { goto b5; }
-    goto b6;
-b5:;
-    v24 = (uint64_t)(v20 & 4398046511103ull);
-    v25 = (uint64_t)(v24 | v19);
-    v26 = load_ptr(v4);
-    v27 = (char *)((uintptr_t)v26 + v8);
-    __atomic_signal_fence(__ATOMIC_SEQ_CST);
-    { uint64_t seen = v20;
-    v28.f1 = __atomic_compare_exchange_n((uint64_t *)v27, &seen, v25, false, __ATOMIC_SEQ_CST, __ATOMIC_SEQ_CST);
-    v28.f0 = seen; }
-    v29 = v28.f0;
-    __atomic_signal_fence(__ATOMIC_SEQ_CST);
-    v30 = v28.f1;
-    if (v30) { goto b6; }
-    v20_in = v29; goto b4;
-b6:;
-    v31 = (uint64_t)(v5 + 1ull);
-    v32 = v31 == v2;
-    if (v32) { goto b7; }
-    v5_in = v31; goto b2;
-b7:;
-    __atomic_signal_fence(__ATOMIC_SEQ_CST);
-    v33 = __atomic_fetch_sub((uint64_t *)v0, 1ull, __ATOMIC_SEQ_CST);
-    __atomic_signal_fence(__ATOMIC_SEQ_CST);
-    v34 = v33 == 1ull;
-    if (v34) { goto b8; }
-    goto b9;
-b8:;
-    v35 = (char *)((uintptr_t)v0 + 40ull);
-    v36 = load_ptr(v35);
-    v37 = (char *)((uintptr_t)v0 + 56ull);
-    v38 = load_ptr(v37);
-    rattle_dealloc(v0);
-    rattle_dealloc(v36);
-    rattle_dealloc(v38);
-    goto b9;
-b9:;
-    return;
 }
 
 /* dq_core::queue::DelayCore::reap_at */
@@ -2734,7 +2628,7 @@ static char *in_dq_free(char *a0, char *a1) {
 b1:;
     v3 = load_ptr(a1);
     memset(a1, 0u, 16ull);
-    in_dq_handle_queue_QueueHandle_drop(v3, 1u);
+    in_dq_c_handle_queue_QueueHandle_drop(v3, 1u);
     v4_in = 0u; goto b2;
 b2:;
     v4 = v4_in;
@@ -3437,7 +3331,7 @@ b44:;
     store_ptr(a1, v221);
     store_8(v19, 1u);
     memcpy(v258, (char *)r16, 7ull);
-    in_dq_handle_queue_QueueHandle_drop(v256, v257);
+    in_dq_c_handle_queue_QueueHandle_drop(v256, v257);
     memset(a0, 0u, 24ull);
     goto b54;
 b45:;
