@@ -71,7 +71,8 @@
     clippy::manual_map,
     clippy::match_like_matches_macro,
     clippy::module_inception,
-    clippy::question_mark
+    clippy::question_mark,
+    clippy::redundant_pattern_matching
 )]
 
 extern crate alloc;
