@@ -59,8 +59,8 @@ impl<T> Shared<T> {
             }
             // What was put in before a close, or was due in time, comes out by one look more.
             over = self.over(until);
-            if over.is_none() {
-                while self.maintain_all() {}
+            // While more is to be done it looks again: something may have come due meanwhile.
+            if over.is_none() && !self.maintain_all() {
                 if let Some(taken) = self.wait_in_line(until, &mut take) {
                     return Ok(taken);
                 }
