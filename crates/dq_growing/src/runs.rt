@@ -1,10 +1,10 @@
 //! Laws over any list of a store's calls.
 //!
-//! Each call of a [`crate::Store`] keeps the ids that entries have had: its clause `keeps` says so. `with_value` keeps each but
-//! that of the entry whose value it changes. A core that comes in keeps those which it doesn't give anew: of cores of unused
-//! numbers and of drained ones `no_core_gives_anew` says that they give none anew, folded and unfolded or not. An insert
-//! says, by `gives`, that its key is of an id that no entry has had. What a removal, a move or a poll gives out, its clauses
-//! `leaves`, `came_out` and `goes_out` tell.
+//! Each call of a [`crate::Store`] keeps the ids that entries have had: its clause `keeps` says so. `with_value` keeps
+//! each but that of the entry whose value it changes. A core that comes in keeps those which it doesn't give anew: of
+//! cores of unused numbers and of drained ones `no_core_gives_anew` says that they give none anew, folded and unfolded
+//! or not. An insert says, by `gives`, that its key is of an id that no entry has had. What a removal, a move or a poll
+//! gives out, its clauses `leaves`, `came_out` and `goes_out` tell.
 //!
 //! Each function is empty: its contract is the law, and a call of it hands the law to the prover.
 ghost use Rattle.dq_growing.specs.Runs.{CoresGiveNoneAnew, StoreEndedStaysEnded, StoreEntriesLeaveOnce};
