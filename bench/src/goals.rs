@@ -25,12 +25,15 @@ const TIMEOUTS: &[&str] = &["delay-queue-locked", "adapter-handle"];
 /// How often the wakes are taken, of which each is a median of many.
 const WAKES: usize = 3;
 
+/// Prints what the rounds of a goal's side took.
+pub fn print_line(goal: &str, side: &str, entries: usize, threads: usize, mut taken: Vec<f64>) {
+    taken.sort_by(f64::total_cmp);
+    let (median, least) = (taken[taken.len() / 2], taken[0]);
+    println!("{goal}\t{side}\t{entries}\t{threads}\t{median:.2}\t{least:.2}");
+}
+
 pub fn print(entries: usize, threads: usize, rounds: usize) {
-    let line = |goal: &str, side: &str, mut taken: Vec<f64>| {
-        taken.sort_by(f64::total_cmp);
-        let (median, least) = (taken[taken.len() / 2], taken[0]);
-        println!("{goal}\t{side}\t{entries}\t{threads}\t{median:.2}\t{least:.2}");
-    };
+    let line = |goal: &str, side: &str, taken| print_line(goal, side, entries, threads, taken);
     for (goal, row, sides) in CALLS {
         let row_name = format!("{row}/{threads}");
         for (side, taken) in in_turns(row_name, entries / threads, threads, rounds, sides) {

@@ -64,25 +64,85 @@ def named_speed(which):
     return grid(["", *heads], rows)
 
 
-def product_goals():
-    """What the crate's `DelayQueue` is to reach, and the ratios that the stored run has, by the number of threads: of two sizes each."""
-    taken = {(goal, side, entries, threads): float(median) for goal, side, entries, threads, median, _ in rows_of("goals")}
-    sizes, many = SIZES[1:], ("1", "2", "4")
+@functools.cache
+def goals():
+    """The median of each side of a goal, by its entries and threads."""
+    return {(goal, side, entries, threads): float(median) for goal, side, entries, threads, median, _ in rows_of("goals")}
 
-    def ratios(goal, ours, beside, threads):
-        cells = [(taken.get((goal, ours, it, threads)), taken.get((goal, beside, it, threads))) for it in sizes]
-        return " / ".join(f"{mine / other:.2f}" for mine, other in cells if mine and other)
+
+def product_goals():
+    """What the crate's `DelayQueue` is to reach, and the ratios that the stored run has, by the number of threads: of two sizes each. What
+    is missed is in bold."""
+    taken, sizes, many = goals(), SIZES[1:], ("1", "2", "4")
+
+    def ratios(it, ours, beside, threads):
+        cells = [(taken.get((it["goal"], ours, size, threads)), taken.get((it["goal"], beside, size, threads))) for size in sizes]
+        return " / ".join(missed(mine / other, it["most"], f"{mine / other:.2f}") for mine, other in cells if mine and other)
 
     def told(it, ours, beside):
         side = PLAN["goal_sides"][ours]
         return f"{it['words']}{f', {side}' if side and ours != 'unpark' else ''}, beside {PLAN['goal_sides'][beside]}"
 
-    pairs = [(it, *pair, [ratios(it["goal"], *pair, threads) for threads in many]) for it in PLAN["goals"] for pair in it["pairs"]]
+    pairs = [(it, *pair, [ratios(it, *pair, threads) for threads in many]) for it in PLAN["goals"] for pair in it["pairs"]]
     rows = [[told(it, ours, beside), f"{it['most']} times", *cells] for it, ours, beside, cells in pairs if any(cells)]
     memory = {side: value for (goal, side, *_), value in taken.items() if goal == "memory"}
     rows.append(["a million live entries, beside the value", "64 bytes", f"{memory['entry']:.0f} bytes", "", ""])
     rows.append(["the same once they came out", "10%", f"{memory['stays']:.1f}%", "", ""])
     return grid(["", "at most", *(f"{it} thread{'s' if it != '1' else ''}" for it in many)], rows)
+
+
+def missed(value, most, text):
+    """A number's text, in bold where it is more than it is to be."""
+    return f"**{text}**" if value > most else text
+
+
+def life_beside_heap(entries):
+    """An insert and its receive beside that of the best heap, behind std's lock, and with pauses before a thread sleeps."""
+    return [goals()["life", "queue-at", entries, "1"] / goals()["life", it, entries, "1"] for it in ("heap-best-locked", "heap-best-paused")]
+
+
+def rows_of_best_heap(ours, which):
+    """In how many rows the best heap in a `Mutex` is ahead."""
+    return [sum(run()[it] < run()[ours, *it[1:]] for it in rows_beside("heap-best-locked", ours, which))]
+
+
+def beside_one_receiver():
+    one, *several = [ns("poll-burst/4", "queue-at", threads=it) for it in ("1", "2", "4")]
+    return [it / one for it in several]
+
+
+def pieces_beside_whole():
+    found = {tuple(it[:3]): float(it[-1]) for it in rows_of("fair")}
+    return [found["pieces", "fair-name-absent", size] / found["whole", "fair-name-absent", size] for size in SIZES[1:]]
+
+
+def longest_calls():
+    """The longest calls of `DelayQueue`, whatever they are, in microseconds."""
+    spreads = [cases()[f"longest-{it}", int(SIZES[-1]), 1].spreads for it in TOUCHES]
+    return [max(its[-1] for (peer, _), its in spread.items() if peer == "queue") / 1000 for spread in spreads]
+
+
+def misses_of_life():
+    return [float(number) for row, what, number in rows_of("instructions") if (row, what) == ("life", "misses queue-at")]
+
+
+def instructions_of_life():
+    found = {(peer, entries): float(count) for peer, entries, count in rows_of("calls")[1:]}
+    return [found["life/1", entries] for entries in ("1000", "100000")]
+
+
+def reach():
+    """What `DelayQueue` is to reach besides: what is missed is in bold, and why it is. A row has no numbers until a run has them."""
+    def cells(it):
+        name, *arguments = it["told"].split()
+        try:
+            values = globals()[name](*arguments)
+        except KeyError:
+            values = []
+        text = " / ".join(missed(value, it["most"], ns_text(value) if it["most"] >= 10 else f"{value:.2f}") for value in values)
+        return [it["words"], it["why"] if "**" in text else "", f"{it['most']:,}", text]
+
+    return grid(["", "Why it is missed", "at most", "here"], map(cells, PLAN["reach"]), 2)
 
 
 def shape(name, entries, threads):
@@ -155,13 +215,23 @@ def standing():
     return grid(["Peer", "Ahead of one owner's", "Ahead of shared words", "Its best row", "Its worst row"], rows)
 
 
+def kind_of(cell):
+    """The kind of a row of shards."""
+    return cell[1].removeprefix("own-").partition("/")[0]
+
+
+def rows_beside(peer, ours, which):
+    """A peer's cells of rows of shards, of calls or of whole lives, that ours has too."""
+    kinds = {"calls": stored.SHARD_ROWS, "lives": LIVES}[which]
+    return [it for it in run() if it[0] == peer and (ours, *it[1:]) in run() and kind_of(it) in kinds]
+
+
 def ahead(ours, which):
     """In how many rows of shards each peer in a `Mutex` is ahead, of calls or of whole lives: of all, and of each kind."""
     kinds = {"calls": stored.SHARD_ROWS, "lives": LIVES}[which]
-    kind_of = lambda cell: cell[1].removeprefix("own-").partition("/")[0]
     counted = lambda cells: [len(cells), *([*map(kind_of, cells)].count(kind) for kind in kinds)]
-    its = {peer: [it for it in run() if it[0] == peer and (ours, *it[1:]) in run() and kind_of(it) in kinds] for peer in PLAN["locked"]}
-    its = {PLAN["locked"][peer]: cells for peer, cells in its.items() if cells}
+    its = {words: rows_beside(peer, ours, which) for peer, words in PLAN["locked"].items()}
+    its = {words: cells for words, cells in its.items() if cells}
     counts = {tuple(counted(cells)) for cells in its.values()}
     if len(counts) != 1:
         raise LookupError("the peers have not as many rows as one another")
