@@ -87,7 +87,7 @@ def product_goals():
     rows = [[told(it, ours, beside), f"{it['most']} times", *cells] for it, ours, beside, cells in pairs if any(cells)]
     memory = {side: value for (goal, side, *_), value in taken.items() if goal == "memory"}
     rows.append(["a million live entries, beside the value", "64 bytes", f"{memory['entry']:.0f} bytes", "", ""])
-    rows.append(["the same once they came out", "10%", f"{memory['stays']:.1f}%", "", ""])
+    rows.append(["the same as the last one came out", "10%", missed(memory["stays"], 10, f"{memory['stays']:.1f}%"), "", ""])
     return grid(["", "at most", *(f"{it} thread{'s' if it != '1' else ''}" for it in many)], rows)
 
 

@@ -19,8 +19,6 @@ mod roll;
 mod rule;
 mod rung;
 mod sleepers;
-#[cfg(test)]
-mod tests;
 
 pub use closer::Closer;
 pub use hint::Hint;

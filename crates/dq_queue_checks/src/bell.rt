@@ -2,10 +2,7 @@
 ghost use Rattle.dq_bell.specs.Lines.{IsFreshLine};
 ghost use Rattle.dq_bell.specs.Seats.{IsFreshLeader};
 
-use crate::closer::Closer;
-use crate::leader::Leader;
-use crate::line::Line;
-use crate::sleepers::Call;
+use dq_bell::{Call, Closer, Leader, Line};
 use dq_testing::RefusingHeap;
 use std::alloc::{AllocError, Allocator};
 use std::process::Abort;
