@@ -1,5 +1,5 @@
 //! `peers life ENTRIES SHARDS`: lives in one `DelayQueue`, each an insert by a moment and its receive, while so many entries stand.
-//! `peers lives ENTRIES ROUNDS`: the same beside the best heap behind a lock, by a line for each as the goals have it.
+//! `peers life-beside ENTRIES ROUNDS`: the same beside the best heap behind a lock, by a line for each as the goals have it.
 
 use std::hint::black_box;
 use std::sync::atomic::{AtomicU64, Ordering::Relaxed};

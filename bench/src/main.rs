@@ -86,7 +86,7 @@ entries: 1 to 1048576, of each shard; threads: 1, and 1 to 64 for callers and ov
        peers goals ENTRIES THREADS ROUNDS, likewise: what the goals of `DelayQueue` compare; peers memory ENTRIES: what an entry takes
        peers growing ENTRIES ROUNDS, likewise: a queue of one owner that grows and shrinks, while so many entries stand
        peers life ENTRIES SHARDS, likewise: lives in one `DelayQueue`, while so many entries stand
-       peers lives ENTRIES ROUNDS, likewise: the same beside the best heap behind a lock";
+       peers life-beside ENTRIES ROUNDS, likewise: the same beside the best heap behind a lock";
 
 /// What is timed: a row of one queue, the calls of a row one by one, or a row of shards, of bare calls or of whole lives, and their number.
 #[derive(Clone, Copy, Debug, PartialEq, Eq)]
@@ -520,7 +520,7 @@ fn main() -> ExitCode {
             ("memory", &[entries]) => goals::print_memory(entries.max(1)),
             ("growing", &[entries @ 1..=10_000_000, rounds]) => growing::print_rounds(entries, rounds.max(1)),
             ("life", &[entries @ 1..=10_000_000, shards @ 1..=64]) => life::print(entries, shards),
-            ("lives", &[entries @ 1..=1_000_000, rounds]) => life::print_beside(entries, rounds.max(1)),
+            ("life-beside", &[entries @ 1..=1_000_000, rounds]) => life::print_beside(entries, rounds.max(1)),
             _ => return time_asked(&args),
         }
         return ExitCode::SUCCESS;

@@ -1,7 +1,7 @@
 //! Tests of the queues that many threads share: of the locked shards and their handles, of the stream of a shard's
-//! expired entries, of the cache and the sessions over them, of the directory, and of the bell by which
-//! receivers are woken. They stand in a crate of their own, since a crate is proved once more with its tests, and in one,
-//! since each crate of tests costs the gate.
+//! expired entries, of the cache and the sessions over them, of the directory, and of the bell by which receivers are
+//! woken. They stand in a crate of their own, since a crate is proved once more with its tests, and in one, since each
+//! crate of tests costs the gate.
 #![tactic(auto)]
 
 #[cfg(test)]

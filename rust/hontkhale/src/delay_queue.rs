@@ -81,8 +81,9 @@ use std::time::{Duration, Instant};
 /// the queue grows.
 ///
 /// # Memory
-/// A queue takes room for twice what waits, and gives it back as that gets less, but for 8 bytes of each *slot*, which is the room
-/// for one entry. A slot serves a million inserts and sooner resets, and its 8 bytes then stay as long as the queue.
+/// A queue takes room for twice what waits. It gives it back as that gets less, a part at most with each receive or removal: what
+/// the last entries leave goes as a receiver looks again. But 8 bytes stay of each *slot*, which is the room for one entry. A slot
+/// serves a million inserts and sooner resets, and its 8 bytes then stay as long as the queue.
 ///
 /// # Odd input
 /// | Input | What it comes to |
