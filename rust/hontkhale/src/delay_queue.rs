@@ -71,7 +71,9 @@ use std::time::{Duration, Instant};
 /// # Deadlines
 /// A deadline is rounded up to whole milliseconds from the queue's making, or from a [moment](Builder::ticks_from) that is
 /// told, and nothing comes out before it. A deadline that is over is due at once. Of several entries that are due the order
-/// is that of their deadlines, as far as they stand in one shard. A deadline may be up to 139 years after the queue's making.
+/// is that of their deadlines, as far as they stand in one shard. A receive takes from the shard that is due first. Where another
+/// thread holds its lock, this receive and at most 15 of its thread after it take from others that are due. A deadline may be up
+/// to 139 years after the queue's making.
 ///
 /// # Cost
 /// [`extend`](DelayQueue::extend), [`cancel`](DelayQueue::cancel), [`deadline`](DelayQueue::deadline) and a

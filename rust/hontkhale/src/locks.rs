@@ -3,9 +3,7 @@
 use std::cell::{Cell, RefCell};
 use std::mem::{size_of, ManuallyDrop};
 pub(crate) use std::sync::MutexGuard;
-use std::sync::PoisonError;
-#[cfg(feature = "all-parts")]
-use std::sync::TryLockError;
+use std::sync::{PoisonError, TryLockError};
 
 /// A lock that this thread holds while a program's closure runs.
 #[derive(Clone, Copy, PartialEq, Eq)]
@@ -116,10 +114,11 @@ impl<T> Mutex<T> {
         self.0.lock().unwrap_or_else(PoisonError::into_inner)
     }
 
-    /// The value, where no other thread has it now.
-    #[cfg(feature = "all-parts")]
+    /// The value, where no thread has it now.
     #[inline]
     pub(crate) fn try_lock(&self) -> Option<MutexGuard<'_, T>> {
+        #[cfg(test)]
+        taken::one_more();
         match self.0.try_lock() {
             Ok(guard) => Some(guard),
             Err(TryLockError::Poisoned(poisoned)) => Some(poisoned.into_inner()),

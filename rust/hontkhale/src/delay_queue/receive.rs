@@ -2,10 +2,11 @@
 
 use crate::delay_queue::errors::{RecvTimeoutError, TryRecvError};
 use crate::delay_queue::key::Key;
-use crate::delay_queue::shard::{Way, STEPS};
-use crate::delay_queue::shared::Shared;
+use crate::delay_queue::shard::{Locked, Way, STEPS};
+use crate::delay_queue::shared::{Shared, ROUTE};
 use crate::delay_queue::waking::{Seat, Wakes};
 use crate::delay_queue::Expired;
+use std::cell::Cell;
 use std::sync::atomic::Ordering::SeqCst;
 use std::thread;
 use std::time::{Duration, Instant};
@@ -22,6 +23,23 @@ pub(crate) const TURNS: usize = 4;
 const ROUNDS: usize = 2;
 /// How many steps such a round has. As many values are dropped before it.
 pub(crate) const ROUND: usize = TURNS * STEPS as usize;
+
+/// How many receives of a thread go their own way once one finds the lock held of the shard that is due first. The one after them
+/// waits for the lock of the shard that is due first then, so no shard is passed over for good.
+const OWN_WAY: u32 = 16;
+
+/// How a thread receives from queues of several shards.
+#[derive(Clone, Copy)]
+struct Turn {
+    /// How many of its next receives go their own way, and one more for the one after them, which waits. 0 where none does.
+    own: u32,
+    /// Where they begin if the thread has no route: where it found a lock free.
+    from: usize,
+}
+
+thread_local! {
+    static TURN: Cell<Turn> = const { Cell::new(Turn { own: 0, from: 0 }) };
+}
 
 /// What some steps came to.
 pub(crate) enum Step<R> {
@@ -124,15 +142,54 @@ impl<T> Shared<T> {
         }
     }
 
+    /// A shard that has something due: the one that is due first, unless receivers would wait there for each other's locks.
+    #[inline(always)]
+    fn lock_due(&self, now: u64) -> Option<Locked<'_, T>> {
+        if self.shards.len() > 1 {
+            return self.lock_one_due(now);
+        }
+        self.common.most_due(now).map(|at| self.lock(at))
+    }
+
+    fn lock_one_due(&self, now: u64) -> Option<Locked<'_, T>> {
+        let turn = TURN.get();
+        match turn.own {
+            0 => {
+                let at = self.common.most_due(now)?;
+                self.try_lock(at)
+                    .or_else(|| self.lock_on_own_way(now, Turn { own: OWN_WAY, ..turn }))
+            }
+            1 => {
+                TURN.set(Turn { own: 0, ..turn });
+                self.common.most_due(now).map(|at| self.lock(at))
+            }
+            own => self.lock_on_own_way(now, Turn { own: own - 1, ..turn }),
+        }
+    }
+
+    /// The first shard that is due and whose lock is free, from the one on by which the thread's inserts are routed.
+    fn lock_on_own_way(&self, now: u64, turn: Turn) -> Option<Locked<'_, T>> {
+        let shards = self.shards.len();
+        let from = ROUTE.get().unwrap_or(turn.from) % shards;
+        let mut due = (from..shards)
+            .chain(0..from)
+            .filter(|at| self.common.hint(*at) <= now)
+            .peekable();
+        let first = *due.peek()?;
+        let free = due.find_map(|at| Some((at, self.try_lock(at)?)));
+        let (from, shard) = free.unwrap_or_else(|| (first, self.lock(first)));
+        TURN.set(Turn { from, ..turn });
+        Some(shard)
+    }
+
     /// Takes an entry out that is due, under one lock, by a poll that is a whole one of cores of at most so many entries.
     #[inline(always)]
     pub fn try_poll(&self, whole: usize) -> Step<Expired<T>> {
         let now = self.common.time.tick();
-        let Some(at) = self.common.most_due(now) else {
+        let Some(mut shard) = self.lock_due(now) else {
             return Step::Rests;
         };
-        let mut shard = self.lock(at);
-        let piece = match shard.is_small(whole, self.common.seen[at].cancels.load(SeqCst)) {
+        let piece = match shard.is_small(whole, self.common.seen[shard.at].cancels.load(SeqCst)) {
             true => shard.entries.poll(now),
             false => shard.entries.poll_some(now, STEPS),
         };
@@ -161,11 +218,16 @@ impl<T> Shared<T> {
         let now = self.common.time.tick();
         let (before, mut turns) = (row.len(), 0);
         while row.len() - before < most && turns < TURNS {
-            let Some(at) = self.common.most_due(now) else {
+            if self.common.most_due(now).is_none() {
+                break;
+            }
+            let left = most - (row.len() - before);
+            // What may fail for want of memory is done without a lock.
+            row.reserve(TAKEN_AT_ONCE.min(left));
+            let Some(shard) = self.lock_due(now) else {
                 break;
             };
-            let left = most - (row.len() - before);
-            turns += usize::from(!self.take_under_lock(at, now, row, left));
+            turns += usize::from(!self.take_under_lock(shard, now, row, left));
         }
         match row.len() - before {
             0 if turns == TURNS => Step::Works,
@@ -174,12 +236,10 @@ impl<T> Shared<T> {
         }
     }
 
-    /// The same of a shard, under one lock. It tells whether it took all that it may, or that are due; else its steps were made.
-    fn take_under_lock(&self, at: usize, now: u64, row: &mut Vec<Expired<T>>, most: usize) -> bool {
+    /// The same of a shard, under one lock, into a row that has room. It tells whether it took all that it may, or that are due; else its steps were made.
+    fn take_under_lock(&self, mut shard: Locked<'_, T>, now: u64, row: &mut Vec<Expired<T>>, most: usize) -> bool {
         let (first, full) = (row.len(), row.len() + TAKEN_AT_ONCE.min(most));
-        row.reserve(full - first);
-        let mut shard = self.lock(at);
-        let is_whole = shard.is_small(POLLED_WHOLE, self.common.seen[at].cancels.load(SeqCst));
+        let is_whole = shard.is_small(POLLED_WHOLE, self.common.seen[shard.at].cancels.load(SeqCst));
         let (mut left, mut steps) = (STEPS, FIRST_STEPS);
         while row.len() < full && left > 0 {
             steps = steps.min(left);
@@ -348,13 +408,16 @@ impl<T> Iterator for Drain<'_, T> {
 
 #[cfg(test)]
 mod tests {
-    use super::{Step, POLLED_WHOLE, ROUND, ROUNDS, STEPS};
+    use super::{Step, OWN_WAY, POLLED_WHOLE, ROUND, ROUNDS, STEPS};
     use crate::delay_queue::shared::Shared;
     use crate::index::looked;
     use crate::locks::taken;
     use crate::{DelayQueue, Expired, ManualClock, RecvTimeoutError, TryRecvError};
+    use std::iter;
     use std::panic::catch_unwind;
+    use std::sync::mpsc::channel;
     use std::sync::Arc;
+    use std::thread;
     use std::time::Duration;
 
     /// More entries than a call has steps for, in cores that are polled in pieces, and in such as are polled as a whole.
@@ -416,7 +479,7 @@ mod tests {
             let shared = &queue.shared;
             while row.is_empty() {
                 let before = linked(shared);
-                shared.take_under_lock(0, 2, &mut row, 64);
+                shared.take_under_lock(shared.lock(0), 2, &mut row, 64);
                 assert!(before - linked(shared) <= STEPS as usize);
             }
             let (queue, _) = cancelled(many);
@@ -546,6 +609,56 @@ mod tests {
         });
         assert_eq!(received.map(|expired| expired.value), Ok("due"));
         assert!(queue.recv().is_none());
+    }
+
+    /// A queue of two shards: an entry is due first in the second one, and later ones are in the first one.
+    fn of_two_shards() -> DelayQueue<String> {
+        let clock = ManualClock::new();
+        let queue = DelayQueue::builder().clock(&clock).shards(2).build();
+        for (at, tick) in iter::once((1, 1)).chain((2..40).map(|tick| (0, tick))) {
+            if tick < 3 {
+                queue.shared.grow(at).expect("room");
+            }
+            let mut shard = queue.shared.lock(at);
+            let inserted = shard.entries.insert(tick.to_string(), tick).0;
+            shard.came_in(inserted);
+        }
+        clock.advance(Duration::from_millis(40));
+        queue
+    }
+
+    /// It would wait for this thread otherwise, which waits for it.
+    #[test]
+    fn a_receiver_goes_past_a_shard_whose_lock_is_held_and_comes_back_to_it() {
+        type Receive = fn(&DelayQueue<String>) -> String;
+        let receives: [Receive; 2] = [
+            |queue| queue.try_recv().expect("more is due").value,
+            |queue| {
+                let mut row = Vec::new();
+                assert_eq!(queue.try_recv_many(&mut row, 1), Ok(1));
+                row.remove(0).value
+            },
+        ];
+        for receive in receives {
+            let queue = of_two_shards();
+            thread::scope(|scope| {
+                let (queue, held) = (&queue, queue.shared.lock(1));
+                let (tells, told) = channel();
+                let (goes, gone) = channel();
+                scope.spawn(move || {
+                    let _ = tells.send(receive(queue));
+                    gone.recv().expect("the lock is let go");
+                    (0..OWN_WAY).for_each(|_| _ = tells.send(receive(queue)));
+                });
+                assert_eq!(told.recv_timeout(Duration::from_secs(20)).as_deref(), Ok("2"));
+                drop(held);
+                goes.send(()).expect("it waits");
+                let came: Vec<String> = told.iter().collect();
+                let others = (3..).map(|tick: u32| tick.to_string());
+                let last = iter::once("1".to_string());
+                assert_eq!(came, others.take(OWN_WAY as usize - 1).chain(last).collect::<Vec<_>>());
+            });
+        }
     }
 
     /// Else a shard in which something is always due would keep the others waiting for ever.

@@ -382,8 +382,20 @@ pub(crate) struct Locked<'s, T> {
 impl<T> Shared<T> {
     #[inline(always)]
     pub fn lock(&self, at: usize) -> Locked<'_, T> {
+        self.locked_at(at, self.shards[at].lock())
+    }
+
+    /// A shard whose lock nobody holds.
+    #[inline(always)]
+    pub fn try_lock(&self, at: usize) -> Option<Locked<'_, T>> {
+        let shard = self.shards[at].try_lock()?;
+        Some(self.locked_at(at, shard))
+    }
+
+    #[inline(always)]
+    fn locked_at<'s>(&'s self, at: usize, shard: MutexGuard<'s, Shard<T>>) -> Locked<'s, T> {
         Locked {
-            shard: Some(self.shards[at].lock()),
+            shard: Some(shard),
             seen: &self.common.seen[at],
             shared: self,
         }

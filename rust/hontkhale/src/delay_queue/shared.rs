@@ -31,7 +31,7 @@ static NEXT_THREAD: AtomicUsize = AtomicUsize::new(0);
 
 thread_local! {
     /// The number of this thread, by which its inserts are routed.
-    static ROUTE: Cell<Option<usize>> = const { Cell::new(None) };
+    pub(crate) static ROUTE: Cell<Option<usize>> = const { Cell::new(None) };
 }
 
 #[cold]
