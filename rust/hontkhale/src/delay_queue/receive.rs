@@ -145,26 +145,24 @@ impl<T> Shared<T> {
     /// A shard that has something due: the one that is due first, unless receivers would wait there for each other's locks.
     #[inline(always)]
     fn lock_due(&self, now: u64) -> Option<Locked<'_, T>> {
-        if self.shards.len() > 1 {
-            return self.lock_one_due(now);
+        if TURN.get().own == 0 {
+            let at = self.common.most_due(now)?;
+            if let Some(shard) = self.try_lock(at) {
+                return Some(shard);
+            }
         }
-        self.common.most_due(now).map(|at| self.lock(at))
+        self.lock_by_turn(now)
     }
 
-    fn lock_one_due(&self, now: u64) -> Option<Locked<'_, T>> {
+    #[cold]
+    fn lock_by_turn(&self, now: u64) -> Option<Locked<'_, T>> {
         let turn = TURN.get();
-        match turn.own {
-            0 => {
-                let at = self.common.most_due(now)?;
-                self.try_lock(at)
-                    .or_else(|| self.lock_on_own_way(now, Turn { own: OWN_WAY, ..turn }))
-            }
-            1 => {
-                TURN.set(Turn { own: 0, ..turn });
-                self.common.most_due(now).map(|at| self.lock(at))
-            }
-            own => self.lock_on_own_way(now, Turn { own: own - 1, ..turn }),
+        if turn.own == 1 {
+            TURN.set(Turn { own: 0, ..turn });
+            return self.common.most_due(now).map(|at| self.lock(at));
         }
+        let own = turn.own.checked_sub(1).unwrap_or(OWN_WAY);
+        self.lock_on_own_way(now, Turn { own, ..turn })
     }
 
     /// The first shard that is due and whose lock is free, from the one on by which the thread's inserts are routed.
