@@ -28,3 +28,15 @@ stamp_count = 1048576
 -- what one of the upper half adds to a number of two halves: 2 ^ 32
 abbrev pub half_unit : ℕ
 half_unit = 4294967296
+
+-- one more than the last index of a core: 2 ^ 16
+abbrev pub index_count : ℕ
+index_count = 65536
+
+-- one more than the last place of a shard in its queue: 2 ^ 8
+abbrev pub shard_count : ℕ
+shard_count = 256
+
+-- the nanoseconds of a tick
+abbrev pub tick_nanos : ℕ
+tick_nanos = 1000000

@@ -5,7 +5,7 @@ use std::fmt;
 use std::fmt::{Debug, Formatter};
 use std::marker::Model;
 
-const HALF_UNIT: u64 = 4294967296;
+pub(crate) const HALF_UNIT: u64 = 4294967296;
 
 /// An entry: its shard, its index there, and the stamp of its birth. Calls of a queue take it from a [`Key`].
 ///

@@ -22,6 +22,8 @@ ghost use Rattle.dq_ticks.specs.Units.{lap, mark_unit, stamp_count, tick_limit};
 
 mod digits;
 mod keys;
+mod lengths;
+pub mod names;
 mod words;
 
 pub use digits::{
@@ -29,6 +31,7 @@ pub use digits::{
     starts_have_digits,
 };
 pub use keys::{EntryId, Key, is_same_entry, is_same_key};
+pub use lengths::{rounded_up, whole};
 pub use words::{
     Mark, Parts, field, greater_words_win, is_live, live_at, pack, stamp, unpack, words_are_ordered,
 };

@@ -1,6 +1,6 @@
 //! Instants and durations as ticks.
 
-use crate::delay_queue::whole;
+use crate::ticks::whole;
 use std::time::{Duration, Instant};
 
 /// Gives ticks for instants: a tick is one millisecond since the clock was started.

@@ -25,7 +25,6 @@ pub use key::Key;
 pub use receive::{Drain, Iter, TryIter};
 pub use receiver::Receiver;
 pub use stats::{Metrics, Stats};
-pub(crate) use time::whole;
 pub use time::ManualClock;
 
 use crate::bell::NEVER;

@@ -18,6 +18,10 @@
 
 mod digits;
 mod keys;
+#[cfg(feature = "std")]
+mod lengths;
+#[cfg(feature = "std")]
+pub mod names;
 mod words;
 
 #[cfg(all(test, feature = "std", feature = "all-parts"))]
@@ -26,6 +30,8 @@ pub use digits::{digit, level_of, slot_start};
 #[cfg(feature = "all-parts")]
 pub use keys::{is_same_entry, is_same_key};
 pub use keys::{EntryId, Key};
+#[cfg(feature = "std")]
+pub use lengths::{rounded_up, whole};
 pub use words::{field, is_live, live_at, pack, stamp, unpack, Mark, Parts};
 
 /// The levels of a wheel, one for each base-64 digit of a lap.

@@ -2,7 +2,7 @@
 
 use crate::delay_queue::dropping::{first_panic, go_on};
 use crate::delay_queue::shared::Common;
-use crate::ticks::LAST_TICK;
+use crate::ticks::{rounded_up, whole, LAST_TICK};
 use std::fmt;
 use std::hash::{Hash, Hasher};
 use std::sync::atomic::{AtomicU64, Ordering::SeqCst};
@@ -278,28 +278,6 @@ impl Time {
 #[inline(never)]
 fn passed_by_std(start: Instant, when: Instant) -> Duration {
     when.saturating_duration_since(start)
-}
-
-/// The whole milliseconds of a length, and [`LAST_TICK`] where they are more.
-#[inline]
-pub(crate) fn whole(length: Duration) -> u64 {
-    // Longer ones come to no end, and their milliseconds to no more than a number holds.
-    let seconds = length.as_secs().min(LAST_TICK / 1_000 + 1);
-    LAST_TICK.min(seconds * 1_000 + u64::from(length.subsec_millis()))
-}
-
-/// The first tick that isn't before the end of a length, or one beyond the last, and how many nanoseconds that end is before it.
-///
-/// Each insert asks. `div_ceil` looks at the remainder too, which takes a few instructions more.
-#[allow(clippy::manual_div_ceil)]
-#[inline(always)]
-fn rounded_up(length: Duration) -> (u64, u32) {
-    if length.as_secs() > LAST_TICK / 1_000 {
-        return (u64::MAX, 0);
-    }
-    let millis = (length.subsec_nanos() + 999_999) / 1_000_000;
-    let early = millis * 1_000_000 - length.subsec_nanos();
-    (length.as_secs() * 1_000 + u64::from(millis), early)
 }
 
 #[cfg(test)]

@@ -3,7 +3,7 @@
 use core::fmt;
 use core::fmt::{Debug, Formatter};
 
-const HALF_UNIT: u64 = 4294967296;
+pub(crate) const HALF_UNIT: u64 = 4294967296;
 
 /// An entry: its shard, its index there, and the stamp of its birth. Calls of a queue take it from a [`Key`].
 ///
