@@ -13,7 +13,7 @@ use Rattle.dq_wheel.specs.Wakes.{IsWithin}
 use Rattle.dq_wheel.proofs.Links.{same_or_not}
 use Rattle.dq_wheel.proofs.Numbers.{number_apart}
 use Rattle.dq_ticks.specs.declared.TheConstants.{CAPACITY_LIMIT}
-use Rattle.dq_wheel.specs.declared.row.TheConstants.{NOT_FILED}
+use Rattle.dq_wheel.specs.declared.lists.TheConstants.{NOT_FILED}
 
 abbrev pub filing_of : ℕ → List (Option ℕ) → List ℕ → ℕ → Filing
 filing_of tick filed moves moved = record { tick = tick; filed = filed; moves = moves; moved = moved }

@@ -1,9 +1,9 @@
 -- Occupancy maps through a link and an unlink.
 
-use Rattle.std.proofs.Common.{◌≡◌, ◌≢◌, ℕ, ◌+◌, ◌*◌, ◌/◌, ◌%◌, ◌<◌, ◌↔◌, List, length, get_or, set, map, refl, sym, arith, ◌∙◌, inl, inr, Some}
+use Rattle.std.proofs.Common.{◌≡◌, ◌≢◌, ℕ, ◌+◌, ◌*◌, ◌/◌, ◌%◌, ◌<◌, ◌↔◌, List, length, get_or, set, map, refl, sym, arith, rules, ◌∙◌, inl, inr, Some, [], ◌∷◌, replicate}
 use Rattle.std.specs.Int.{bit_at}
 use Rattle.std.proofs.Math.ListN.{length-set}
-use Rattle.std.proofs.lemmas.List.{get_or-set_same, get_or-set_other, get_or-map, length-map}
+use Rattle.std.proofs.lemmas.List.{get_or-set_same, get_or-set_other, get_or-map, length-map, length-replicate, get_or-replicate}
 use Rattle.dq_wheel.specs.Lists.{IsListEmpty, IsListFilled}
 use Rattle.dq_wheel.specs.Walks.{bit_of}
 use Rattle.dq_wheel.specs.Maps.{IsOccupiedAt, IsOccupied, IsOccupiedBut, IsEarlier}
@@ -51,6 +51,44 @@ module _ (Where : ℕ → Type 0) (maps homes : List ℕ) (ok : IsOccupiedAt Whe
               | inr d ↦ others q d ∙ ok.shown q q_in w (filled_before homes i (p + 1) q (λ e. d (omega arith)) i_in full)
             ];
       }
+
+-- no bit of six empty maps is 1
+empty_bit : (p : ℕ) → bit_of (0 ∷ 0 ∷ 0 ∷ 0 ∷ 0 ∷ 0 ∷ []) p ≡ 0
+empty_bit p = search rules
+
+-- no list is filled
+pub none_occupied : (n : ℕ) → IsOccupied (0 ∷ 0 ∷ 0 ∷ 0 ∷ 0 ∷ 0 ∷ []) (replicate n 0)
+none_occupied n =
+    record {
+      filled = λ p p_in w bit. absurd (omega (arith, empty_bit p));
+      shown = λ p p_in w full.
+          let there : get_or (replicate n 0) full.0 0 ≡ p + 1 = full.1.1 in
+          absurd (omega (arith, get_or-replicate {A = ℕ} n full.0 0 0 (rw length-replicate at full.1.0)));
+    }
+
+-- an index leaves list p
+pub bit_left : (maps homes : List ℕ) → IsOccupied maps homes → (i p : ℕ) → i < length homes → get_or homes i 0 ≡ p + 1 → IsOccupiedBut p maps (set homes i 0)
+bit_left maps homes ok i p i_in stands =
+    record {
+      filled = λ q q_in d bit. filled_after homes i 0 q (λ e. d (omega arith)) (ok.filled q q_in tt bit);
+      shown = λ q q_in d full. ok.shown q q_in tt (filled_before homes i 0 q (λ e. omega arith) i_in full);
+    }
+
+-- the list that was left out is filled, and its bit is 1
+pub bit_stays : (maps homes : List ℕ) (p : ℕ) → IsOccupiedBut p maps homes → IsListFilled homes p → bit_of maps p ≡ 1 → IsOccupied maps homes
+bit_stays maps homes p ok full one =
+    record {
+      filled = λ q q_in w bit.
+          elim (same_or_not q p) [
+            | inl e ↦ rw e full
+            | inr d ↦ ok.filled q q_in d bit
+          ];
+      shown = λ q q_in w there.
+          elim (same_or_not q p) [
+            | inl e ↦ rw e one
+            | inr d ↦ ok.shown q q_in d there
+          ];
+    }
 
 -- the list that was left out is empty, and its bit is cleared
 pub bit_cleared : (maps homes after : List ℕ) (p : ℕ) → IsOccupiedBut p maps homes → IsListEmpty homes p → bit_of after p ≡ 0 →

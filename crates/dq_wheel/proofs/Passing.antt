@@ -21,7 +21,7 @@ use Rattle.dq_wheel.proofs.Opening.{home_after_there, home_after_elsewhere, move
 use Rattle.dq_wheel.proofs.Lawful.{filing_of}
 use Rattle.dq_wheel.proofs.Wakes.{ahead, some_at, home_stable, still_there, start_here, start_later, opens_after, opens_in_range, later_all, wake_other, lawful_stable, next_wake, due_stands, due_least, least_all, none_filed}
 use Rattle.dq_wheel.specs.declared.TheConstants.{LISTS}
-use Rattle.dq_wheel.specs.declared.row.TheConstants.{NOT_FILED}
+use Rattle.dq_wheel.specs.declared.lists.TheConstants.{NOT_FILED}
 
 -- the counts of a row
 move_counts_size : (e n : ℕ) (filed : List (Option ℕ)) (moves : List ℕ) → length moves ≡ length filed → length (move_counts e n filed moves) ≡ length filed

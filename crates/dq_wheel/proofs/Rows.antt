@@ -7,11 +7,11 @@ use Rattle.std.proofs.Math.Seq.{take-set-lt, map-set_same}
 use Rattle.std.proofs.lemmas.List.{map-set, length-take-le, get_or-take, length-take, length-map, length-replicate, get_or-replicate, ext_get_or}
 use Rattle.dq_wheel.specs.Circle.{IsCircles}
 use Rattle.dq_wheel.specs.Rows.{nexts, prevs, homes, filed_numbers, moves_made, AreAlone}
-use Rattle.dq_wheel.specs.declared.row.Row.{Row}
+use Rattle.dq_wheel.specs.declared.lists.Row.{Row}
 use Rattle.dq_wheel.proofs.Links.{linked, unlinked, first_home, first_back, none_in, last_home, last_in, before_in, after_in}
 use Rattle.dq_ticks.specs.declared.TheConstants.{CAPACITY_LIMIT}
 use Rattle.dq_wheel.specs.declared.TheConstants.{LISTS}
-use Rattle.dq_wheel.specs.declared.row.TheConstants.{NOT_FILED}
+use Rattle.dq_wheel.specs.declared.lists.TheConstants.{NOT_FILED}
 
 -- a row with two numbers written
 pub set_first : (xs : List ℕ) (i j v w : ℕ) → i < length xs → i ≢ j → get_or (set (set xs i v) j w) i 0 ≡ v
@@ -219,3 +219,16 @@ pub set_kept_kept : {A B : Type 0} (f : A → B) (xs : List A) (i j k : ℕ) (a 
     → f x ≡ f (get_or (set (set xs i a) j b) k d) → map f (set (set (set xs i a) j b) k x) ≡ set (map f xs) i (f a)
 set_kept_kept f xs i j k a b x d kept same =
     map-set_same f (set (set xs i a) j b) k x d same ∙ (map-set_same f (set xs i a) j b d kept ∙ map-set f xs i a)
+
+-- one element is replaced between two that are replaced by ones that f can't tell from them
+pub kept_set_kept : {A : Type 0} (f : A → ℕ) (xs : List A) (i j k at : ℕ) (a b x d : A) → f a ≡ f (get_or xs i d)
+    → f x ≡ f (get_or (set (set xs i a) j b) k d) → at ≡ j → map f (set (set (set xs i a) j b) k x) ≡ set (map f xs) at (f b)
+kept_set_kept f xs i j k at a b x d kept same at_is =
+    rw at_is (map-set_same f (set (set xs i a) j b) k x d same
+    ∙ (map-set f (set xs i a) j b ∙ ap (λ ys. set ys j (f b)) (map-set_same f xs i a d kept)))
+
+-- one element is replaced after two by ones that f can't tell from them
+pub kept_kept_set : {A : Type 0} (f : A → ℕ) (xs : List A) (i j k : ℕ) (a b x d : A) → f a ≡ f (get_or xs i d)
+    → f b ≡ f (get_or (set xs i a) j d) → map f (set (set (set xs i a) j b) k x) ≡ set (map f xs) k (f x)
+kept_kept_set f xs i j k a b x d kept same =
+    map-set f (set (set xs i a) j b) k x ∙ ap (λ ys. set ys k (f x)) (map-set_same f (set xs i a) j b d same ∙ map-set_same f xs i a d kept)

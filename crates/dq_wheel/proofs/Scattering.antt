@@ -10,7 +10,7 @@ use Rattle.dq_wheel.specs.Maps.{IsOccupied}
 use Rattle.dq_wheel.specs.Homes.{list_number, CanGo, IsOpened}
 use Rattle.dq_wheel.specs.Walks.{bit_of}
 use Rattle.dq_wheel.proofs.Occupancy.{bit_cleared}
-use Rattle.dq_wheel.specs.declared.row.Row.{Row}
+use Rattle.dq_wheel.specs.declared.lists.Row.{Row}
 use Rattle.dq_wheel.specs.declared.TheConstants.{LISTS}
 use Rattle.dq_wheel.proofs.Opening.{IsOpening, waiting, moves_were, opening_init, opening_falls, opening_due, opening_moved, opening_end, stood}
 use Rattle.dq_wheel.proofs.Taken.{none_left, circles_back, stands_first}

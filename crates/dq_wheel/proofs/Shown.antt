@@ -1,17 +1,17 @@
 -- What callers see of rows, of which a list may be open.
 
-use Rattle.std.proofs.Common.{◌≡◌, ◌≢◌, ℕ, ◌+◌, ◌<◌, ◌≤◌, List, length, get_or, set, take, map, refl, sym, arith, ◌∙◌, ap, Option, None, Some}
+use Rattle.std.proofs.Common.{◌≡◌, ◌≢◌, ℕ, ◌+◌, ◌<◌, ◌≤◌, List, length, get_or, set, take, map, refl, sym, arith, ◌∙◌, ap, Option, None, Some, MatchOption}
 use Rattle.std.proofs.Math.ListN.{length-set}
 use Rattle.std.proofs.lemmas.List.{get_or-set_same, get_or-set_other, get_or-take, length-map}
 use Rattle.std.proofs.Math.Seq.{take-set-lt}
 use Rattle.dq_wheel.specs.Circle.{Node, IsCircles}
-use Rattle.dq_wheel.specs.Lists.{CirclesState, IsListEmpty, IsListFilled, StandsBeside}
+use Rattle.dq_wheel.specs.Lists.{ListsState, IsListEmpty, IsListFilled, StandsBeside, StandsIn}
 use Rattle.dq_wheel.specs.Seen.{home_seen, number_seen, homes_seen, numbers_seen}
 use Rattle.dq_wheel.specs.Rows.{nexts, prevs, homes, filed_numbers, moves_made, shown_homes, shown_numbers, shown_filed, entry_homes, entry_filed, entry_moves, AreCircles, AreSeenCircles, HasNeighbours}
-use Rattle.dq_wheel.specs.declared.row.Row.{Row}
+use Rattle.dq_wheel.specs.declared.lists.Row.{Row}
 use Rattle.dq_wheel.specs.declared.TheConstants.{LISTS}
-use Rattle.dq_wheel.specs.declared.row.TheConstants.{NOT_FILED}
-use Rattle.dq_wheel.proofs.Rows.{circles_link, circles_unlink, circles_detach, first_none, capacity_is, seen_home}
+use Rattle.dq_wheel.specs.declared.lists.TheConstants.{NOT_FILED}
+use Rattle.dq_wheel.proofs.Rows.{circles_link, circles_unlink, circles_detach, first_none, first_stands, capacity_is, seen_home}
 use Rattle.dq_wheel.proofs.Hanging.{hung}
 use Rattle.dq_wheel.proofs.Seen.{homes_length, homes_at, homes_past, homes_set, homes_none, homes_take, homes_same, loose_seen, other_seen, other_number, numbers_set, numbers_none, numbers_length, numbers_at, numbers_take, numbers_same, loose_number, home_there, home_elsewhere}
 
@@ -79,6 +79,14 @@ module _ (cap : ℕ) (o : Option ℕ) (old : List Row) (r : AreSeenCircles cap o
 
   pub last_below : (p : ℕ) → p < LISTS → get_or (prevs old) (cap + p) 0 < length old
   last_below p p_in = rw rows_are (node_at (cap + p) (omega arith) (head_on p p_in)).prev_in
+
+  -- what follows the head of list p, where that is an entry
+  pub first_shown : (p i : ℕ) → p < LISTS → i ≡ get_or (nexts old) (cap + p) 0 → i < cap → StandsIn (shown_homes cap o old) p i
+  first_shown p i p_in i_is i_in =
+      let all = homes_seen cap o (homes old) in
+      let len : length (take cap all) ≡ cap = capacity_is cap all (take cap all) (omega (arith, r.homes_len)) refl in
+      let stands : get_or all i 0 ≡ p + 1 = rw i_is (first_stands cap (nexts old) (prevs old) all r p p_in) in
+      (rw len i_in, get_or-take cap all i 0 i_in ∙ stands)
 
   -- the home of an entry was written
   module _ (i v w : ℕ) (i_in : i < cap) (new : List Row) (home_is : homes new ≡ set (homes old) i v) (v_seen : home_seen o v ≡ w) where
@@ -242,25 +250,33 @@ module _ (cap : ℕ) (next prev homes : List ℕ) (r : IsCircles cap next prev h
             (λ x high. homes_past cap (Some p) homes x high);
       })
 
-abbrev pub circles_of : ℕ → Option ℕ → ℕ → List Row → CirclesState
-circles_of cap o t rows =
+abbrev pub lists_of : ℕ → Option ℕ → ℕ → List Row → List ℕ → ListsState
+lists_of cap o t rows maps =
     record {
       homes = shown_homes cap o rows;
       filed = shown_filed cap o t rows;
       moves = entry_moves cap rows;
       next = nexts rows;
       opened = o;
+      maps = maps;
     }
 
+-- the first index of a list, as callers see it
+pub first_told : (first : Option ℕ) (all now : List ℕ) (p x : ℕ) → all ≡ now → MatchOption first (IsListEmpty all p) (λ i. StandsIn all p i × (i ≡ x)) →
+    MatchOption first (IsListEmpty now p) (λ i. StandsIn now p i)
+first_told None all now p x is told = rw is at told
+first_told (Some i) all now p x is told = rw is at told.0
+
 -- the same as callers see it
-module _ (cap : ℕ) (o : Option ℕ) (t : ℕ) (old : List Row) (r : AreSeenCircles cap o old) (now : CirclesState) (now_is : circles_of cap o t old ≡ now) where
-  homes_now : shown_homes cap o old ≡ now.homes
+module _ (cap : ℕ) (o : Option ℕ) (t : ℕ) (old : List Row) (r : AreSeenCircles cap o old) (maps : List ℕ) (now : ListsState)
+    (now_is : lists_of cap o t old maps ≡ now) where
+  pub homes_now : shown_homes cap o old ≡ now.homes
   homes_now = ap (λ w. w.homes) now_is
 
   filed_now : shown_filed cap o t old ≡ now.filed
   filed_now = ap (λ w. w.filed) now_is
 
-  moves_now : entry_moves cap old ≡ now.moves
+  pub moves_now : entry_moves cap old ≡ now.moves
   moves_now = ap (λ w. w.moves) now_is
 
   opened_now : o ≡ now.opened
@@ -314,6 +330,16 @@ module _ (cap : ℕ) (o : Option ℕ) (t : ℕ) (old : List Row) (r : AreSeenCir
         plain_filed cap None old refl t
         ∙ (sym (numbers_same cap o (homes old) fits none_there t (filed_numbers old) (numbers_are cap o old r)) ∙ filed_now)
 
+    -- no list is open, so rows are seen as they are
+    pub open_circles : AreCircles cap old
+    open_circles = plain_circles cap None old refl closed_circles
+
+    pub open_homes : entry_homes cap old ≡ now.homes
+    open_homes = sym (plain_homes cap None old refl) ∙ closed_homes
+
+    pub open_filed : entry_filed cap old ≡ now.filed
+    open_filed = sym (plain_filed cap None old refl t) ∙ closed_filed
+
   -- the rows after a change
   module _ (mid new filled : List Row) (mid_is : mid ≡ old) (filled_is : filled ≡ new) where
     abbrev IsWritten : ℕ → ℕ → ℕ → ℕ → Type 0
@@ -361,36 +387,34 @@ module _ (cap : ℕ) (o : Option ℕ) (t : ℕ) (old : List Row) (r : AreSeenCir
         (unlink_circles cap o old r i new low (rw (home_now i low) at on) (rw mid_is at next_is) (rw mid_is at prev_is) home_old)
         home_old (rw mid_is at filed_is) (rw mid_is at moves_is)
 
-    pub detach_now : (p i : ℕ) → p < LISTS → i < length now.homes → i ≡ get_or now.next (length now.homes + p) 0 →
+    pub detach_now : (p i : ℕ) → p < LISTS → i < length now.homes → i ≡ get_or (nexts old) (cap + p) 0 →
         nexts new ≡ set (nexts mid) (cap + p) (get_or (nexts mid) i 0) →
         prevs new ≡ set (prevs mid) (get_or (nexts mid) i 0) (cap + p) →
         homes new ≡ set (homes mid) i 0 → filed_numbers new ≡ set (filed_numbers mid) i NOT_FILED → moves_made new ≡ set (moves_made mid) i 0 →
         IsWritten i 0 NOT_FILED 0
-    detach_now p i p_in i_in first_is next_is prev_is home_is filed_is moves_is =
+    detach_now p i p_in i_in i_is next_is prev_is home_is filed_is moves_is =
         let low : i < cap = inside i i_in in
         let home_old : homes new ≡ set (homes old) i 0 = rw mid_is at home_is in
-        let i_is : i ≡ get_or (nexts old) (cap + p) 0 = rw (ap (λ w. w.next) now_is, ← size_now) first_is in
         taken_now i low
         (detach_circles cap o old r p i new p_in i_is low (rw mid_is at next_is) (rw mid_is at prev_is) home_old)
         home_old (rw mid_is at filed_is) (rw mid_is at moves_is)
 
     -- list p hangs on the head of list 0
-    pub hang_now : (p tick onto : ℕ) → onto ≡ cap + 0 → p < LISTS → 0 < p → now.opened ≡ None → IsListEmpty now.homes 0 → IsListFilled now.homes p →
+    pub hang_now : (p tick onto : ℕ) → onto ≡ cap + 0 → p < LISTS → 0 < p → IsListEmpty now.homes 0 → IsListFilled now.homes p →
         nexts new ≡ set (set (set (nexts mid) (get_or (prevs mid) (cap + p) 0) onto) onto (get_or (nexts mid) (cap + p) 0)) (cap + p) (cap + p) →
         prevs new ≡ set (set (set (prevs mid) (get_or (nexts mid) (cap + p) 0) onto) onto (get_or (prevs mid) (cap + p) 0)) (cap + p) (cap + p) →
         homes new ≡ homes mid → filed_numbers new ≡ filed_numbers mid → moves_made new ≡ moves_made mid →
         AreSeenCircles cap (Some p) filled × (shown_homes cap (Some p) filled ≡ map (home_seen (Some p)) now.homes)
         × (shown_filed cap (Some p) tick filled ≡ numbers_seen (Some p) tick now.homes now.filed) × (entry_moves cap filled ≡ now.moves)
-    hang_now p tick onto onto_is p_in above shut free (i, stands) next_is prev_is home_is filed_is moves_is =
-        let none : o ≡ None = opened_now ∙ shut in
-        let plain_r : IsCircles cap (nexts old) (prevs old) (homes old) = plain_circles cap o old none r in
+    hang_now p tick onto onto_is p_in above free (i, stands) next_is prev_is home_is filed_is moves_is =
+        let plain_r : IsCircles cap (nexts old) (prevs old) (homes old) = open_circles free in
+        let now_homes : take cap (homes old) ≡ now.homes = open_homes free in
+        let now_filed : take cap (filed_numbers old) ≡ now.filed = open_filed free in
         let low : i < cap = inside i stands.0 in
         let there : (x : ℕ) → x < cap → get_or now.homes x 0 ≡ get_or (homes old) x 0 =
-        λ x x_in. home_now x x_in ∙ ap (λ hs. get_or hs x 0) (plain cap o old none) in
+        λ x x_in. seen_home cap (homes old) now.homes x now_homes x_in in
         let homes_old : homes new ≡ homes old = rw mid_is at home_is in
         let filed_old : filed_numbers new ≡ filed_numbers old = rw mid_is at filed_is in
-        let now_homes : take cap (homes old) ≡ now.homes = sym (plain_homes cap o old none) ∙ homes_now in
-        let now_filed : take cap (filed_numbers old) ≡ now.filed = sym (plain_filed cap o old none t) ∙ filed_now in
         rw filled_is (
           rw (rw mid_is at next_is, rw mid_is at prev_is)
               (hung_circles cap (nexts old) (prevs old) (homes old) plain_r p onto onto_is p_in above
@@ -399,21 +423,3 @@ module _ (cap : ℕ) (o : Option ℕ) (t : ℕ) (old : List Row) (r : AreSeenCir
           rw (homes_old, filed_old, ← now_homes, ← now_filed) (numbers_take cap (Some p) tick (homes old) (filed_numbers old)),
           rw (rw mid_is at moves_is) moves_now,
         )
-
--- a list that is scattered: no list is open
-module _ (cap : ℕ) (o : Option ℕ) (t : ℕ) (old : List Row) (r : AreSeenCircles cap o old) (now : CirclesState) (now_is : circles_of cap o t old ≡ now)
-    (shut : now.opened ≡ None) where
-  pub none_open : o ≡ None
-  none_open = ap (λ w. w.opened) now_is ∙ shut
-
-  pub open_circles : AreCircles cap old
-  open_circles = plain_circles cap o old none_open r
-
-  pub open_homes : entry_homes cap old ≡ now.homes
-  open_homes = sym (plain_homes cap o old none_open) ∙ ap (λ w. w.homes) now_is
-
-  pub open_filed : entry_filed cap old ≡ now.filed
-  open_filed = sym (plain_filed cap o old none_open t) ∙ ap (λ w. w.filed) now_is
-
-  pub open_moves : entry_moves cap old ≡ now.moves
-  open_moves = ap (λ w. w.moves) now_is

@@ -3,7 +3,7 @@
 -- stands for a loose one.
 
 use Rattle.std.specs.Prelude.{ℕ, List, map, Option, None, Some, if◌then◌else◌, ◌==◌}
-use Rattle.dq_wheel.specs.declared.row.TheConstants.{NOT_FILED}
+use Rattle.dq_wheel.specs.declared.lists.TheConstants.{NOT_FILED}
 
 -- what one number says
 abbrev pub filed_by : ℕ → Option ℕ

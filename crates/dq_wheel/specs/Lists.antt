@@ -7,15 +7,8 @@ use Rattle.dq_wheel.specs.Walks.{IsWalk, occurrences}
 use Rattle.dq_wheel.specs.declared.TheConstants.{LISTS}
 
 -- the home of each index, the number that says where it is filed, and how often it moved; what
--- follows each index, and behind them what follows the head of each list; and the list that is open
-pub record CirclesState : Type 0 where
-  pub homes : List ℕ
-  pub filed : List ℕ
-  pub moves : List ℕ
-  pub next : List ℕ
-  pub opened : Option ℕ
-
--- the same with the occupancy maps of the lists
+-- follows each index, and behind them what follows the head of each list; the list that is open; and
+-- the occupancy maps of the lists
 pub record ListsState : Type 0 where
   pub homes : List ℕ
   pub filed : List ℕ

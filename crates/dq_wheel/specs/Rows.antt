@@ -4,8 +4,8 @@
 use Rattle.std.specs.Prelude.{◌≡◌, ℕ, ◌+◌, ◌-◌, ◌<◌, List, length, map, slice_index, take, Option}
 use Rattle.dq_wheel.specs.Circle.{IsCircles, IsTakenOff}
 use Rattle.dq_wheel.specs.Seen.{homes_seen, numbers_seen}
-use Rattle.dq_wheel.specs.declared.row.Row.{Row}
-use Rattle.dq_wheel.specs.declared.row.TheConstants.{NOT_FILED}
+use Rattle.dq_wheel.specs.declared.lists.Row.{Row}
+use Rattle.dq_wheel.specs.declared.lists.TheConstants.{NOT_FILED}
 
 -- what follows each number
 abbrev pub nexts : List Row → List ℕ

@@ -22,10 +22,7 @@
 #![tactic(auto)]
 
 mod beside;
-mod circles;
-mod homes;
 mod lists;
-mod row;
 mod wheel;
 
 pub use beside::Beside;

@@ -13,9 +13,7 @@ ghost use Rattle.dq_wheel.specs.Lawful.{IsLawfulWheel};
 
 use crate::LISTS;
 use crate::beside::{Beside, Nothing};
-use crate::homes::{due_list, list_of, start_of};
-use crate::lists::Lists;
-use crate::row::NOT_FILED;
+use crate::lists::{Lists, NOT_FILED, due_list, list_of, start_of};
 use dq_ticks::{CAPACITY_LIMIT, LAST_TICK, LEVELS, REACH, SLOTS, digit};
 use std::alloc::{AllocError, Allocator, Global};
 use std::marker::Model;

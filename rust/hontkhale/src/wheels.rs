@@ -21,10 +21,7 @@
 //! reads wait together.
 
 mod beside;
-mod circles;
-pub(crate) mod homes;
-mod lists;
-pub(crate) mod row;
+pub(crate) mod lists;
 mod wheel;
 
 pub use beside::Beside;

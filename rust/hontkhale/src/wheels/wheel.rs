@@ -3,9 +3,7 @@
 use crate::memory::AllocError;
 use crate::ticks::{digit, CAPACITY_LIMIT, LEVELS, SLOTS};
 use crate::wheels::beside::{Beside, Nothing};
-use crate::wheels::homes::{due_list, list_of, start_of};
-use crate::wheels::lists::Lists;
-use crate::wheels::row::NOT_FILED;
+use crate::wheels::lists::{due_list, list_of, start_of, Lists, NOT_FILED};
 use core::fmt;
 
 /// Where an index stands.

@@ -5,8 +5,7 @@
 
 use crate::core::{DelayCore, Slots, Words};
 use crate::ticks::Mark;
-use crate::wheels::homes::list_of;
-use crate::wheels::row::{Row, NOT_FILED};
+use crate::wheels::lists::{list_of, Row, NOT_FILED};
 use crate::wheels::{Wheel, LISTS};
 use alloc::vec;
 use alloc::vec::Vec;
@@ -41,9 +40,9 @@ fn counted(bits: &[u64], summary: &[u64]) -> Result<usize, Broken> {
 
 // Walks a list by its links and returns how many indexes stand in it.
 fn walked(wheel: &Wheel, list: usize) -> Result<usize, Broken> {
-    let circles = &wheel.lists.circles;
-    let rows: &[Row] = &circles.rows;
-    let (capacity, head) = (circles.capacity(), circles.capacity() + list);
+    let lists = &wheel.lists;
+    let rows: &[Row] = &lists.rows;
+    let (capacity, head) = (lists.capacity(), lists.capacity() + list);
     let (mut at, mut count) = (head, 0);
     loop {
         let next = rows[at].next as usize;
@@ -53,10 +52,10 @@ fn walked(wheel: &Wheel, list: usize) -> Result<usize, Broken> {
         }
         holds(next < capacity, "a list leads to the head of another one")?;
         holds(
-            usize::from(circles.home(next)) == list + 1,
+            usize::from(lists.home(next)) == list + 1,
             "an index stands in a list that isn't its home",
         )?;
-        let filed = circles.filed(next);
+        let filed = lists.filed(next);
         holds(wheel.tick() <= filed, "an index is filed before the wheel's tick")?;
         holds(
             list_of(wheel.tick(), filed) == list,
@@ -68,22 +67,22 @@ fn walked(wheel: &Wheel, list: usize) -> Result<usize, Broken> {
 }
 
 fn wheel_holds(wheel: &Wheel) -> Result<(), Broken> {
-    let circles = &wheel.lists.circles;
+    let lists = &wheel.lists;
     let mut linked = 0;
     for list in 0..LISTS {
         let count = walked(wheel, list)?;
-        let is_marked = is_set(&wheel.lists.maps, list);
+        let is_marked = is_set(&lists.maps, list);
         holds(is_marked == (count > 0), "an occupancy bit isn't its list's")?;
         linked += count;
     }
-    let loose = (0..circles.capacity()).filter(|index| circles.home(*index) == 0);
+    let loose = (0..lists.capacity()).filter(|index| lists.home(*index) == 0);
     let mut count = 0;
     for index in loose {
-        holds(circles.rows[index].filed == NOT_FILED, "a loose index is filed")?;
+        holds(lists.rows[index].filed == NOT_FILED, "a loose index is filed")?;
         count += 1;
     }
     holds(
-        linked + count == circles.capacity(),
+        linked + count == lists.capacity(),
         "an index is neither loose nor in its list",
     )?;
     Ok(())
@@ -238,8 +237,8 @@ mod tests {
         queue
     }
 
-    fn row(queue: &mut Queue, at: usize) -> &mut crate::wheels::row::Row {
-        &mut queue.wheel.lists.circles.rows[at]
+    fn row(queue: &mut Queue, at: usize) -> &mut crate::wheels::lists::Row {
+        &mut queue.wheel.lists.rows[at]
     }
 
     /// What was planted, and a fault that a panic amid a call could leave.

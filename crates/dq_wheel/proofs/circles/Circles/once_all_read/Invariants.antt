@@ -1,5 +1,0 @@
-use Rattle.std.specs.Prelude.{◌≡◌}
-use Rattle.dq_wheel.proofs.circles.Circles.once_all_read.Given as goal
-
-abbrev pub invariant-loop-turn : goal.invariant-loop-turn
-invariant-loop-turn g l = l.same ≡ l.fn.number
