@@ -3,8 +3,8 @@
 use Rattle.std.specs.Prelude.{◌≡◌, ℕ, ◌+◌, ◌*◌, ◌<◌, ◌≤◌, Bool, true, false}
 use Rattle.atomic_table.specs.Seated.{TableId}
 use Rattle.dq_bell.specs.declared.TheConstants.{NEVER}
-use Rattle.dq_bell.specs.declared.rung.Rung.{Rung}
-use Rattle.dq_bell.specs.declared.rung.Rung.TheVariants.{Nobody, Leader}
+use Rattle.dq_bell.specs.declared.hint.Rung.{Rung}
+use Rattle.dq_bell.specs.declared.hint.Rung.TheVariants.{Nobody, Leader}
 
 -- a hint: its bell, which has so many places, its place, the tick, how often its writer rang, and
 -- until when it heard that the leader sleeps, as it asked since it wrote the hint

@@ -3,8 +3,7 @@ ghost use Rattle.std.specs.Prelude.{◌≡◌, true, false};
 ghost use Rattle.dq_bell.specs.Seats.{SamePlace, RungOnce};
 ghost use Rattle.dq_bell.specs.declared.TheConstants.{NEVER};
 
-use crate::hint::Hint;
-use crate::rung::Rung;
+use crate::hint::{Hint, Rung};
 use std::alloc::{Allocator, Global};
 use std::marker::Model;
 

@@ -3,8 +3,7 @@ ghost use Rattle.std.specs.Prelude.{◌≡◌, ℕ, ◌+◌, ◌<◌, ◌≤◌,
 ghost use Rattle.dq_bell.specs.Seats.{AtSameBell, DealsHint, IsFreshLeader, SeesOneMore, FindsEarlier};
 ghost use Rattle.dq_bell.specs.declared.TheConstants.{NEVER};
 
-use crate::hint::Hint;
-use crate::hints::Hints;
+use crate::hint::{Hint, Hints};
 use crate::rule::{Arms, BellSeat, BellTable, Deals, Looks};
 use crate::{APART, NEVER};
 use atomic_table::Table;

@@ -11,22 +11,18 @@
 
 mod closer;
 mod hint;
-mod hints;
 mod laws;
 mod leader;
 mod line;
 mod roll;
 mod rule;
-mod rung;
 mod sleepers;
 
 pub use closer::Closer;
-pub use hint::Hint;
-pub use hints::Hints;
+pub use hint::{Hint, Hints, Rung};
 pub use laws::{no_wake_is_lost, nobody_sleeps_once_closed};
 pub use leader::Leader;
 pub use line::Line;
-pub use rung::Rung;
 pub use sleepers::Call;
 
 // The words from one hint to the next. Two of them lie in no cache line, so places don't wait for each other's.

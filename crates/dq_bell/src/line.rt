@@ -10,11 +10,9 @@ ghost use Rattle.dq_bell.specs.Seats.{DealsHint, is_leader_rung};
 ghost use Rattle.dq_bell.specs.Rolls.{StandsInLine, first_in, GrowsIfFull};
 
 use crate::closer::Closer;
-use crate::hint::Hint;
-use crate::hints::Hints;
+use crate::hint::{Hint, Hints, Rung};
 use crate::leader::Leader;
 use crate::roll::Roll;
-use crate::rung::Rung;
 use crate::sleepers::{Call, Sleepers};
 use std::alloc::{AllocError, Allocator, Global};
 use std::marker::Model;

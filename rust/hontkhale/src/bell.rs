@@ -10,17 +10,13 @@
 
 mod closer;
 mod hint;
-mod hints;
 mod leader;
 mod line;
 mod roll;
-mod rung;
 mod sleepers;
 
-pub use hint::Hint;
-pub use hints::Hints;
+pub use hint::{Hint, Hints, Rung};
 pub use line::Line;
-pub use rung::Rung;
 pub use sleepers::Call;
 
 // The words from one hint to the next. Two of them lie in no cache line, so places don't wait for each other's.

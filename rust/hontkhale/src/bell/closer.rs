@@ -1,7 +1,6 @@
 //! Who closes a bell.
 
-use crate::bell::hint::Hint;
-use crate::bell::rung::Rung;
+use crate::bell::hint::{Hint, Rung};
 
 /// Who closes a bell: a place at which nothing is ever due, until something is at once and for good.
 ///

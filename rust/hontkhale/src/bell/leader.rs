@@ -1,7 +1,6 @@
 //! One of those that wait leads: it sleeps until the next deadline.
 
-use crate::bell::hint::Hint;
-use crate::bell::hints::Hints;
+use crate::bell::hint::{Hint, Hints};
 use crate::bell::{APART, NEVER};
 use crate::memory::AllocError;
 use crate::words::table::Table;

@@ -6,11 +6,9 @@
 //! has the `Call` wakes it once the lock is released. No code of `W` runs under the lock.
 
 use crate::bell::closer::Closer;
-use crate::bell::hint::Hint;
-use crate::bell::hints::Hints;
+use crate::bell::hint::{Hint, Hints, Rung};
 use crate::bell::leader::Leader;
 use crate::bell::roll::Roll;
-use crate::bell::rung::Rung;
 use crate::bell::sleepers::{Call, Sleepers};
 use crate::memory::AllocError;
 use alloc::vec::Vec;

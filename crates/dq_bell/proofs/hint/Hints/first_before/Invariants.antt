@@ -1,5 +1,5 @@
 use Rattle.std.proofs.Common.{◌<◌, ◌≤◌, IfSome, ◌≡◌}
-use Rattle.dq_bell.proofs.hints.Hints.first_before.Given as goal
+use Rattle.dq_bell.proofs.hint.Hints.first_before.Given as goal
 
 abbrev pub invariant-loop-place : goal.invariant-loop-place
 invariant-loop-place g l =
