@@ -76,5 +76,6 @@ def requirements(tokens):
     index = {token.place: at for at, token in enumerate(file.tokens)}
     for it in reversed(file.functions):
         if re.search(r"\brequires\b[^{\n]*\{", file.text[it.begin:it.body]) and (it.is_public or not it.is_free):
-            owner, _, name = it.name.rpartition("::")
-            yield owner.rpartition("::")[2], name, tokens[index[it.begin]].line, index[it.body]
+            *_, owner, name = "", *it.name.split("::")
+            # a module that stands in the file is no owner
+            yield owner if owner[:1].isupper() else "", name, tokens[index[it.begin]].line, index[it.body]

@@ -82,6 +82,6 @@ def erased(hand):
     made = {}
     for source, text in texts.items():
         if (source.crate, source.module) not in gone:
-            text = source.told(paths.with_uses, text, source, gone, names)
-            made[source.out] = source.told(paths.with_links, text, MODULES[source.crate], closed.given)
+            text = source.told(paths.within, text, lambda it: paths.with_uses(it, source, gone, names))
+            made[source.out] = source.told(paths.within, text, lambda it: paths.with_links(it, MODULES[source.crate], closed.given))
     return made

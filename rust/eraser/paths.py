@@ -2,6 +2,7 @@
 lead."""
 import itertools
 import re
+import textwrap
 
 from patterns import TABLES, formatted
 from rattle import Refused
@@ -14,6 +15,8 @@ TRAITS = {"Read", "Write", "Deref", "DerefMut", "Hash", "TickSource", "Shard", "
 
 USE = re.compile(r"^((?:pub(?:\(crate\))? )?)use ([^;]*);\n", re.M)
 MODULE = re.compile(r"^(?:(?:///|#\[).*\n)*(?:pub(?:\(crate\))? )?mod (\w+);\n", re.M)
+# A module that stands in a file.
+INNER = re.compile(r"^((?:pub(?:\(crate\))? )?mod \w+ \{\n)(.*?)^\}\n", re.M | re.S)
 DOC = re.compile(r"^ *//[/!].*$", re.M)
 STRING = re.compile(r'"(?:[^"\\]|\\.)*"')
 LINK = re.compile(r"\[`((?:dq_\w+::)?)(\w+)((?:::\w+)?)`\](?![(\[:])")
@@ -71,8 +74,14 @@ def lines_of(found, vis=""):
         yield f"{vis}use {parent}::{names[0]};\n" if len(names) == 1 else f"{vis}use {parent}::{{{', '.join(names)}}};\n"
 
 
+def within(text, rule):
+    """What a rule makes of a file, and of each module that stands in it."""
+    inner = iter([textwrap.indent(within(re.sub("(?m)^    ", "", it[2]), rule).strip("\n"), "    ") for it in INNER.finditer(text)])
+    return INNER.sub(lambda it: f"{it[1]}{next(inner)}\n}}\n", rule(INNER.sub(r"\1}\n", text)))
+
+
 def with_uses(text, source, gone, names):
-    """A file with its uses over the modules of the crate: what is gone or isn't named any more is left out."""
+    """A module with its uses over those of the crate: what is gone or isn't named any more is left out."""
     words, wanted, module = named(text), [], MODULES[source.crate]
 
     def kept(found):
@@ -90,7 +99,7 @@ def with_uses(text, source, gone, names):
 
 
 def with_links(text, module, given):
-    """A file in whose docs each link leads to what the crate gives away, or is plain text."""
+    """A module in whose docs each link leads to what the crate gives away, or is plain text."""
     known = {last(path) for _, found in USE.findall(text) for path in paths_of(found)}
     known |= {it for it in defined(text) if given.get(it, [None])[0] == module}
 
