@@ -41,7 +41,7 @@ class Source:
 
 def sources(hand):
     found = [(crate, path) for crate in MODULES for path in sorted((TOP / "crates" / crate / "src").rglob("*.rt"))]
-    found = [Source(*it, errors.with_errors(hand.applied(it[1]))) for it in found if not hand.leaves_out(it[1])]
+    found = [Source(*it, paths.within(hand.applied(it[1]), errors.with_errors)) for it in found if not hand.leaves_out(it[1])]
     hand.all_used()
     return found
 

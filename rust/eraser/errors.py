@@ -1,6 +1,6 @@
 """`derive(Error)` with its texts, as `Display` and `std::error::Error` written out. An enum of errors may get more
-variants one day, so each is `#[non_exhaustive]`, as is what the table `open` of `rules` has. An error that is said by
-another's text has that one as its source."""
+variants one day, so each is `#[non_exhaustive]` that the table `shut` of `rules` hasn't, as is what the table `open` has.
+An error that is said by another's text has that one as its source."""
 import re
 
 from patterns import TABLES
@@ -9,6 +9,7 @@ from rattle import Refused
 ERROR = re.compile(r"^#\[derive\((.*), Error\)\]\n(?:#\[error\((.*)\)\]\n)?pub (enum|struct) (\w+) \{\n((?:.*\n)*?)\}\n", re.M)
 VARIANT = re.compile(r"^    #\[error\((.*)\)\]\n    (\w+)(\(.*\)| \{\n(?:.*\n)*?    \})?,\n", re.M)
 OPEN = re.compile(rf"^pub (?:enum|struct) (?:{'|'.join(dict(TABLES['open']))})\b", re.M)
+SHUT = dict(TABLES["shut"])
 
 
 def pattern(fields, text):
@@ -37,7 +38,8 @@ def written_out(found):
         raise Refused(f"`{name}` has a variant that has no text of an error")
     display, source, mark = f"let {name} {{ {pattern(fields_of(body), str(text))} }} = self;\nwrite!(f, {text})\n", "", ""
     if kind == "enum":
-        display, mark = "        match self {\n" + "".join(arm(name, *it) for it in variants) + "        }\n", "#[non_exhaustive]\n"
+        display = "        match self {\n" + "".join(arm(name, *it) for it in variants) + "        }\n"
+        mark = "" if name in SHUT else "#[non_exhaustive]\n"
     if inner := [f"{name}::{variant}(it)" for text, variant, _ in variants if text == '"{0}"']:
         rest = "_ => None,\n" if len(inner) < len(variants) else ""
         source = ("\nfn source(&self) -> Option<&(dyn std::error::Error + 'static)> {\nmatch self {\n"

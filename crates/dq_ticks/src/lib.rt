@@ -1,5 +1,5 @@
 //! What every crate of the delay queue speaks of: ticks and their digits, the words that entries are kept in, keys,
-//! and lengths of time in ticks.
+//! lengths of time in ticks, and why a call is refused.
 //!
 //! A tick is one millisecond. The levels are those of a hierarchical timing wheel (Varghese and Lauck, SOSP 1987,
 //! Scheme 7): an entry stands at the highest base-64 digit in which its tick differs from the wheel's, in the slot
@@ -772,5 +772,69 @@ mod lengths {
         let millis = (length.subsec_nanos() + ALMOST_A_TICK) / TICK_NANOS;
         let early = millis * TICK_NANOS - length.subsec_nanos();
         (length.as_secs() * 1_000 + u64::from(millis), early)
+    }
+}
+
+/// Why a call of a `DelayQueue` is refused.
+pub mod refusals {
+    use thiserror::Error;
+
+    /// Why a [`DelayQueue`](crate::DelayQueue) doesn't take a value, or makes no room.
+    #[derive(Clone, Copy, Debug, PartialEq, Eq, Error)]
+    pub enum InsertErrorKind {
+        /// The queue was closed.
+        #[error("the queue is closed")]
+        Closed,
+        /// The deadline is more than 139 years after the queue was made.
+        #[error("the deadline is too far")]
+        TooFar,
+        /// As many entries wait as the queue may have.
+        #[error("the queue has as many entries as it may have")]
+        Full,
+        /// Memory was refused.
+        #[error("out of memory")]
+        NoMemory,
+    }
+
+    /// Why a call by a [`Key`](crate::delay_queue::Key) is refused. Nothing changes then.
+    #[derive(Clone, Copy, Debug, PartialEq, Eq, Error)]
+    pub enum KeyError {
+        /// The key is of another queue.
+        #[error("the key is of another queue")]
+        WrongQueue,
+        /// The queue was dropped: a [`Handle`](crate::delay_queue::Handle) alone outlives it.
+        #[error("the queue was dropped")]
+        Closed,
+        /// The entry came out, or was removed, cancelled, drained or cleared.
+        #[error("the entry has ended")]
+        Ended,
+        /// The deadline is more than 139 years after the queue was made.
+        #[error("the deadline is too far")]
+        TooFar,
+        /// Memory was refused.
+        #[error("out of memory")]
+        NoMemory,
+    }
+
+    /// Why a [`DelayQueue`](crate::DelayQueue) gives no entry to who doesn't wait.
+    #[derive(Clone, Copy, Debug, PartialEq, Eq, Error)]
+    pub enum TryRecvError {
+        /// Nothing that is due by now was found.
+        #[error("nothing is due")]
+        Empty,
+        /// The queue is closed, and nothing is due: nothing comes out any more.
+        #[error("the queue is closed")]
+        Closed,
+    }
+
+    /// Why a [`DelayQueue`](crate::DelayQueue) gives no entry to who waits for a time.
+    #[derive(Clone, Copy, Debug, PartialEq, Eq, Error)]
+    pub enum RecvTimeoutError {
+        /// Nothing that is due was found in time.
+        #[error("nothing came due in time")]
+        Timeout,
+        /// The queue is closed, and nothing is due: nothing comes out any more.
+        #[error("the queue is closed")]
+        Closed,
     }
 }

@@ -1,5 +1,5 @@
 //! What every crate of the delay queue speaks of: ticks and their digits, the words that entries are kept in, keys,
-//! and lengths of time in ticks.
+//! lengths of time in ticks, and why a call is refused.
 //!
 //! A tick is one millisecond. The levels are those of a hierarchical timing wheel (Varghese and Lauck, SOSP 1987,
 //! Scheme 7): an entry stands at the highest base-64 digit in which its tick differs from the wheel's, in the slot
@@ -517,4 +517,111 @@ mod lengths {
         let early = millis * TICK_NANOS - length.subsec_nanos();
         (length.as_secs() * 1_000 + u64::from(millis), early)
     }
+}
+
+/// Why a call of a `DelayQueue` is refused.
+#[cfg(feature = "std")]
+pub mod refusals {
+    use core::fmt;
+
+    /// Why a [`DelayQueue`](crate::DelayQueue) doesn't take a value, or makes no room.
+    #[derive(Clone, Copy, Debug, PartialEq, Eq)]
+    #[non_exhaustive]
+    pub enum InsertErrorKind {
+        /// The queue was closed.
+        Closed,
+        /// The deadline is more than 139 years after the queue was made.
+        TooFar,
+        /// As many entries wait as the queue may have.
+        Full,
+        /// Memory was refused.
+        NoMemory,
+    }
+
+    impl fmt::Display for InsertErrorKind {
+        fn fmt(&self, f: &mut fmt::Formatter<'_>) -> fmt::Result {
+            match self {
+                InsertErrorKind::Closed => f.write_str("the queue is closed"),
+                InsertErrorKind::TooFar => f.write_str("the deadline is too far"),
+                InsertErrorKind::Full => f.write_str("the queue has as many entries as it may have"),
+                InsertErrorKind::NoMemory => f.write_str("out of memory"),
+            }
+        }
+    }
+
+    #[cfg(feature = "std")]
+    impl std::error::Error for InsertErrorKind {}
+
+    /// Why a call by a [`Key`](crate::delay_queue::Key) is refused. Nothing changes then.
+    #[derive(Clone, Copy, Debug, PartialEq, Eq)]
+    #[non_exhaustive]
+    pub enum KeyError {
+        /// The key is of another queue.
+        WrongQueue,
+        /// The queue was dropped: a [`Handle`](crate::delay_queue::Handle) alone outlives it.
+        Closed,
+        /// The entry came out, or was removed, cancelled, drained or cleared.
+        Ended,
+        /// The deadline is more than 139 years after the queue was made.
+        TooFar,
+        /// Memory was refused.
+        NoMemory,
+    }
+
+    impl fmt::Display for KeyError {
+        fn fmt(&self, f: &mut fmt::Formatter<'_>) -> fmt::Result {
+            match self {
+                KeyError::WrongQueue => f.write_str("the key is of another queue"),
+                KeyError::Closed => f.write_str("the queue was dropped"),
+                KeyError::Ended => f.write_str("the entry has ended"),
+                KeyError::TooFar => f.write_str("the deadline is too far"),
+                KeyError::NoMemory => f.write_str("out of memory"),
+            }
+        }
+    }
+
+    #[cfg(feature = "std")]
+    impl std::error::Error for KeyError {}
+
+    /// Why a [`DelayQueue`](crate::DelayQueue) gives no entry to who doesn't wait.
+    #[derive(Clone, Copy, Debug, PartialEq, Eq)]
+    pub enum TryRecvError {
+        /// Nothing that is due by now was found.
+        Empty,
+        /// The queue is closed, and nothing is due: nothing comes out any more.
+        Closed,
+    }
+
+    impl fmt::Display for TryRecvError {
+        fn fmt(&self, f: &mut fmt::Formatter<'_>) -> fmt::Result {
+            match self {
+                TryRecvError::Empty => f.write_str("nothing is due"),
+                TryRecvError::Closed => f.write_str("the queue is closed"),
+            }
+        }
+    }
+
+    #[cfg(feature = "std")]
+    impl std::error::Error for TryRecvError {}
+
+    /// Why a [`DelayQueue`](crate::DelayQueue) gives no entry to who waits for a time.
+    #[derive(Clone, Copy, Debug, PartialEq, Eq)]
+    pub enum RecvTimeoutError {
+        /// Nothing that is due was found in time.
+        Timeout,
+        /// The queue is closed, and nothing is due: nothing comes out any more.
+        Closed,
+    }
+
+    impl fmt::Display for RecvTimeoutError {
+        fn fmt(&self, f: &mut fmt::Formatter<'_>) -> fmt::Result {
+            match self {
+                RecvTimeoutError::Timeout => f.write_str("nothing came due in time"),
+                RecvTimeoutError::Closed => f.write_str("the queue is closed"),
+            }
+        }
+    }
+
+    #[cfg(feature = "std")]
+    impl std::error::Error for RecvTimeoutError {}
 }

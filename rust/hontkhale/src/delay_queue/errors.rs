@@ -3,32 +3,7 @@
 use std::error::Error;
 use std::fmt;
 
-/// Why a [`DelayQueue`](crate::DelayQueue) doesn't take a value, or makes no room.
-#[derive(Clone, Copy, Debug, PartialEq, Eq)]
-#[non_exhaustive]
-pub enum InsertErrorKind {
-    /// The queue was closed.
-    Closed,
-    /// The deadline is more than 139 years after the queue was made.
-    TooFar,
-    /// As many entries wait as the queue may have.
-    Full,
-    /// Memory was refused.
-    NoMemory,
-}
-
-impl fmt::Display for InsertErrorKind {
-    fn fmt(&self, f: &mut fmt::Formatter<'_>) -> fmt::Result {
-        f.write_str(match self {
-            InsertErrorKind::Closed => "the queue is closed",
-            InsertErrorKind::TooFar => "the deadline is too far",
-            InsertErrorKind::Full => "the queue has as many entries as it may have",
-            InsertErrorKind::NoMemory => "out of memory",
-        })
-    }
-}
-
-impl Error for InsertErrorKind {}
+pub use crate::ticks::refusals::{InsertErrorKind, KeyError, RecvTimeoutError, TryRecvError};
 
 /// An insert that was refused, with the value.
 ///
@@ -75,73 +50,3 @@ impl<T> fmt::Display for InsertError<T> {
 }
 
 impl<T> Error for InsertError<T> {}
-
-/// Why a call by a [`Key`](crate::delay_queue::Key) is refused. Nothing changes then.
-#[derive(Clone, Copy, Debug, PartialEq, Eq)]
-#[non_exhaustive]
-pub enum KeyError {
-    /// The key is of another queue.
-    WrongQueue,
-    /// The queue was dropped: a [`Handle`](crate::delay_queue::Handle) alone outlives it.
-    Closed,
-    /// The entry came out, or was removed, cancelled, drained or cleared.
-    Ended,
-    /// The deadline is more than 139 years after the queue was made.
-    TooFar,
-    /// Memory was refused.
-    NoMemory,
-}
-
-impl fmt::Display for KeyError {
-    fn fmt(&self, f: &mut fmt::Formatter<'_>) -> fmt::Result {
-        f.write_str(match self {
-            KeyError::WrongQueue => "the key is of another queue",
-            KeyError::Closed => "the queue was dropped",
-            KeyError::Ended => "the entry has ended",
-            KeyError::TooFar => "the deadline is too far",
-            KeyError::NoMemory => "out of memory",
-        })
-    }
-}
-
-impl Error for KeyError {}
-
-/// Why a [`DelayQueue`](crate::DelayQueue) gives no entry to who doesn't wait.
-#[derive(Clone, Copy, Debug, PartialEq, Eq)]
-pub enum TryRecvError {
-    /// Nothing that is due by now was found.
-    Empty,
-    /// The queue is closed, and nothing is due: nothing comes out any more.
-    Closed,
-}
-
-impl fmt::Display for TryRecvError {
-    fn fmt(&self, f: &mut fmt::Formatter<'_>) -> fmt::Result {
-        f.write_str(match self {
-            TryRecvError::Empty => "nothing is due",
-            TryRecvError::Closed => "the queue is closed",
-        })
-    }
-}
-
-impl Error for TryRecvError {}
-
-/// Why a [`DelayQueue`](crate::DelayQueue) gives no entry to who waits for a time.
-#[derive(Clone, Copy, Debug, PartialEq, Eq)]
-pub enum RecvTimeoutError {
-    /// Nothing that is due was found in time.
-    Timeout,
-    /// The queue is closed, and nothing is due: nothing comes out any more.
-    Closed,
-}
-
-impl fmt::Display for RecvTimeoutError {
-    fn fmt(&self, f: &mut fmt::Formatter<'_>) -> fmt::Result {
-        f.write_str(match self {
-            RecvTimeoutError::Timeout => "nothing came due in time",
-            RecvTimeoutError::Closed => "the queue is closed",
-        })
-    }
-}
-
-impl Error for RecvTimeoutError {}
