@@ -4,4 +4,5 @@ pub mod Plays
 pub mod Seats
 pub mod Rolls
 pub mod Lines
+pub mod Turns
 pub mod Law

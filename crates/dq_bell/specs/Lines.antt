@@ -1,9 +1,9 @@
 -- The line of those that wait.
 
-use Rattle.std.specs.Prelude.{◌≡◌, ◌≢◌, ◌⊎◌, ℕ, ◌+◌, ◌<◌, ◌≤◌, Bool, true, false, List, length}
-use Rattle.std.specs.Prelude.{slice_index_or, Option, None, Some}
+use Rattle.std.specs.Prelude.{◌≡◌, ◌≢◌, ◌⊎◌, ℕ, ◌+◌, ◌<◌, ◌≤◌, Bool, true, false, List, [], ◌∷◌, length}
+use Rattle.std.specs.Prelude.{slice_index_or, slice_set, Option, None, Some}
 use Rattle.dq_bell.specs.Seats.{LeaderSeat, CloserSeat, AtSameBell}
-use Rattle.dq_bell.specs.Rolls.{RollState, StandsInLine, first_in, OthersStayInLine, GrowsIfFull}
+use Rattle.dq_bell.specs.Rolls.{RollState, StandsInLine, first_in, OthersStayInLine, GrowsIfFull, HandsLead}
 
 -- who leads, who closes, who is in line, and who sleeps
 pub record LineState : Type 0 where
@@ -61,6 +61,7 @@ pub record IsFreshLine (places : ℕ) (l : LineState) : Type 0 where
   pub places_is : l.leader.places ≡ places + 1
   pub dealt : l.leader.dealt ≡ 1
   pub nobody : l.roll.count ≡ 0
+  pub empty : length l.roll.places ≡ 0
   pub is_open : l.closer.is_closed ≡ false
 
 -- the same are in line, and the same sleep; nothing else of it changed but until when it sleeps
@@ -129,6 +130,7 @@ pub record LeavesLine (old : LineState) (i : ℕ) (called : Bool) (new : LineSta
   pub is_out : ¬ StandsInLine new.roll i
   pub awake : IsAwakeAt new.sleeps i
   pub stay : OthersStayInLine old.roll i new.roll
+  pub size : length new.roll.places ≡ length old.roll.places
   pub follows : first_in old.roll ≢ Some i → (first_in new.roll ≡ first_in old.roll) × (called ≡ false)
   pub next : first_in old.roll ≡ Some i → (f : ℕ) → first_in new.roll ≡ Some f →
       IsAwakeAt new.sleeps f × (called ≡ slice_index_or old.sleeps f false)
@@ -153,3 +155,19 @@ pub record ClosesLine (old : LineState) (called : Bool) (new : LineState) : Type
   pub one : called ≡ true → CallsOne old.sleeps new.sleeps
   pub nobody : called ≡ false → (i : ℕ) → IsAwakeAt old.sleeps i
   pub all : called ≡ false → (i : ℕ) → IsAwakeAt new.sleeps i
+
+-- One that is awake takes the lead. The one that led is out of the line, and gave what was to wake
+-- it, exactly if it slept. Nobody else leaves, and all others sleep on.
+pub record TakesLead (old : LineState) (i f : ℕ) (gave : Bool) (new : LineState) : Type 0 where
+  pub bell : AtSameBell old.leader new.leader
+  pub told : new.leader.until ≡ 0
+  pub closer : new.closer ≡ old.closer
+  pub roll : HandsLead old.roll i f new.roll
+  pub sleeps : new.sleeps ≡ slice_set old.sleeps f false
+  pub slept : gave ≡ slice_index_or old.sleeps f false
+
+-- how many sleep
+abbrev pub sleeping : List Bool → ℕ
+sleeping [] = 0
+sleeping (true ∷ sleeps) = sleeping sleeps + 1
+sleeping (false ∷ sleeps) = sleeping sleeps

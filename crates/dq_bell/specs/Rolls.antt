@@ -72,3 +72,18 @@ pub record HasExchanged (indexes places : List ℕ) (p q : ℕ) (indexes2 places
   pub place_there : slice_index places2 (slice_index indexes q) ≡ p
   pub else_place : (i : ℕ) → i ≢ slice_index indexes p → i ≢ slice_index indexes q
       → slice_index places2 i ≡ slice_index places i
+
+-- an index in line is the first from now on, and the same are in line
+pub record MakesFirst (old : RollState) (i : ℕ) (new : RollState) : Type 0 where
+  pub first : first_in new ≡ Some i
+  pub stay : (j : ℕ) → StandsInLine old j → StandsInLine new j
+  pub none_more : (j : ℕ) → StandsInLine new j → StandsInLine old j
+  pub led : (f : ℕ) → first_in old ≡ Some f → StandsInLine new f
+  pub size : length new.places ≡ length old.places
+
+-- the first leaves the line, and an index that was in line is the first from then on
+pub record HandsLead (old : RollState) (i f : ℕ) (new : RollState) : Type 0 where
+  pub is_out : ¬ StandsInLine new f
+  pub others : OthersStayInLine old f new
+  pub first : first_in new ≡ Some i
+  pub size : length new.places ≡ length old.places

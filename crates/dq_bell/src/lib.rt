@@ -17,6 +17,7 @@ mod line;
 mod roll;
 mod rule;
 mod sleepers;
+mod turns;
 
 pub use closer::Closer;
 pub use hint::{Hint, Hints, Rung};
@@ -24,6 +25,7 @@ pub use laws::{no_wake_is_lost, nobody_sleeps_once_closed};
 pub use leader::Leader;
 pub use line::Line;
 pub use sleepers::Call;
+pub use turns::{Seat, Turns};
 
 // The words from one hint to the next. Two of them lie in no cache line, so places don't wait for each other's.
 pub(crate) const APART: usize = 16;

@@ -4,8 +4,8 @@
 //! called. When the first leaves, the next one leads and is called in the same step, so nobody sleeps behind one that
 //! has left. Who sleeps leaves a `W` in the line, such as a thread or a task's waker; a call takes it out, and whoever
 //! has the [`Call`] wakes it once the lock is released. No code of `W` runs under the lock.
-ghost use Rattle.std.specs.Prelude.{◌≡◌, ◌≢◌, ℕ, ◌+◌, ◌<◌, false, is_some, slice_index_or, IfOk, IfErr, Some, length};
-ghost use Rattle.dq_bell.specs.Lines.{ClosesBellOf, IsFreshLine, IsLed, IsSameLine, Joins, FallsAsleep, StaysAwake, LeavesLine, IsCalled, HearsRung, ClosesLine, IsAwakeAt};
+ghost use Rattle.std.specs.Prelude.{◌≡◌, ◌≢◌, ℕ, ◌+◌, ◌<◌, ◌≤◌, true, false, is_some, slice_index_or, IfOk, IfErr, Some, length};
+ghost use Rattle.dq_bell.specs.Lines.{ClosesBellOf, IsFreshLine, IsLed, IsSameLine, Joins, FallsAsleep, StaysAwake, LeavesLine, IsCalled, HearsRung, ClosesLine, IsAwakeAt, StaysInLine, TakesLead, sleeping};
 ghost use Rattle.dq_bell.specs.Seats.{DealsHint, is_leader_rung};
 ghost use Rattle.dq_bell.specs.Rolls.{StandsInLine, first_in, GrowsIfFull};
 
@@ -97,6 +97,28 @@ impl<W, A: Allocator> Line<W, A> {
         self.roll.first()
     }
 
+    /// Whether one is the one that leads.
+    pub fn is_first(&self, at: usize) -> bool
+        ensures yes { result ≡ true → first_in self.now.roll ≡ Some at }
+        ensures no { result ≡ false → first_in self.now.roll ≢ Some at }
+    {
+        self.roll.is_first(at)
+    }
+
+    /// Whether one sleeps.
+    pub fn sleeps_at(&self, at: usize) -> bool
+        ensures { result ≡ slice_index_or self.now.sleeps at false }
+    {
+        self.sleepers.sleeps_at(at)
+    }
+
+    /// How many indexes there are.
+    pub fn len(&self) -> usize
+        ensures { result ≡ length self.now.roll.places }
+    {
+        self.roll.len()
+    }
+
     /// Wherever anybody sleeps, somebody leads, who is awake or has looked at all hints. A close closes this bell.
     pub fn law(&self)
         ensures led { IsLed self.now }
@@ -138,6 +160,20 @@ impl<W, A: Allocator> Line<W, A> {
         self.sleepers.call(next)
     }
 
+    /// One that is awake takes the lead, and the one that led leaves the line: it gives what was to wake that one.
+    pub fn overtake(&mut self, at: usize, first: usize) -> Option<W>
+        requires first { first_in self.old.roll ≡ Some first }
+        requires behind { StandsInLine self.old.roll at }
+        requires other { first ≢ at }
+        requires awake { IsAwakeAt self.old.sleeps at }
+        ensures { TakesLead self.old at first (is_some result) self.new }
+    {
+        self.leader.rise();
+        let slept = self.sleepers.take(first);
+        self.roll.hand_lead(at, first);
+        slept
+    }
+
     /// Calls the one that leads, where it was rung.
     pub fn ring(&mut self, rung: Rung) -> Option<Call<W>>
         ensures { HearsRung self.old (is_leader_rung rung) (is_some result) self.new }
@@ -155,6 +191,7 @@ impl<W, A: Allocator> Line<W, A> {
 impl<W: Drop, A: Allocator> Line<W, A> {
     // Room for one more in line.
     fn make_room(&mut self) -> Result<(), AllocError>
+        ensures few { length self.new.roll.places ≤ length self.old.roll.places + 1 }
         ensures room { IfOk result (λ _. self.new.roll.count < length self.new.roll.places) }
         ensures grows { GrowsIfFull self.old.roll self.new.roll }
         ensures same { IsSameLine self.old self.new }
@@ -173,6 +210,7 @@ impl<W: Drop, A: Allocator> Line<W, A> {
     /// `AllocError` where memory is refused.
     pub fn join(&mut self) -> Result<usize, AllocError>
         ensures joined { IfOk result (λ at. Joins self.old at self.new) }
+        ensures few { length self.new.roll.places ≤ length self.old.roll.places + 1 }
         ensures refused { IfErr result (λ _. IsSameLine self.old self.new) }
     {
         self.make_room()?;
@@ -202,6 +240,19 @@ impl<W: Drop, A: Allocator> Line<W, A> {
             return Err(call);
         }
         self.sleepers.put(at, call);
+        Ok(())
+    }
+
+    /// All that sleep rise, and one that leads isn't rung any more.
+    pub fn rise_all(&mut self, risen: &mut Vec<W, A>) -> Result<(), AllocError>
+        ensures stays { StaysInLine self.old self.new }
+        ensures awake { IfOk result (λ _. (i : ℕ) → IsAwakeAt self.new.sleeps i) }
+        ensures each { length risen.new.items + sleeping self.new.sleeps
+            ≡ length risen.old.items + sleeping self.old.sleeps }
+        ensures refused { IfErr result (λ _. (self.new ≡ self.old) × (risen.new.items ≡ risen.old.items)) }
+    {
+        self.sleepers.take_all(risen)?;
+        self.leader.rise();
         Ok(())
     }
 

@@ -4,7 +4,7 @@
 //! leaves changes places with the last in line. So no call searches, none but a join takes memory, and the first stays first
 //! until it leaves.
 ghost use Rattle.std.specs.Prelude.{◌≡◌, ◌≢◌, ℕ, ◌+◌, ◌<◌, ◌≤◌, length, slice_index, IfOk, IfErr, Option, None, Some, true, false};
-ghost use Rattle.dq_bell.specs.Rolls.{IsRoll, StandsInLine, first_in, GrowsByOne, JoinsAs, LeavesRoll, HasExchanged};
+ghost use Rattle.dq_bell.specs.Rolls.{IsRoll, StandsInLine, first_in, GrowsByOne, JoinsAs, LeavesRoll, HasExchanged, MakesFirst, HandsLead};
 
 use std::alloc::{AllocError, Allocator, Global};
 use std::marker::Model;
@@ -133,5 +133,27 @@ impl<A: Allocator> Roll<A> {
         let last = self.count - 1;
         exchange(&mut self.indexes, &mut self.places, place, last);
         self.count = last;
+    }
+
+    // The first and an index behind it exchange their places: that one is the first.
+    fn exchange_first(&mut self, index: usize, first: usize)
+        requires first { first_in self.old ≡ Some first }
+        requires behind { StandsInLine self.old index }
+        requires other { first ≢ index }
+        ensures { MakesFirst self.old index self.new }
+    {
+        let place = self.places[index];
+        exchange(&mut self.indexes, &mut self.places, 0, place);
+    }
+
+    /// The first leaves the line, and an index that stands behind it is the first from then on.
+    pub fn hand_lead(&mut self, index: usize, first: usize)
+        requires first { first_in self.old ≡ Some first }
+        requires behind { StandsInLine self.old index }
+        requires other { first ≢ index }
+        ensures { HandsLead self.old index first self.new }
+    {
+        self.exchange_first(index, first);
+        self.leave(first);
     }
 }

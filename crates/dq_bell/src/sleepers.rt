@@ -1,6 +1,6 @@
 //! Who sleeps, by index, each with the `W` that wakes it.
-ghost use Rattle.std.specs.Prelude.{◌≡◌, ℕ, ◌+◌, ◌<◌, ◌≤◌, true, false, length, is_some, slice_index_or, slice_set, IfOk, IfErr};
-ghost use Rattle.dq_bell.specs.Lines.{SleepsAt, IsAwakeAt, AllSleepOn, CallsOne};
+ghost use Rattle.std.specs.Prelude.{◌≡◌, ℕ, ◌+◌, ◌<◌, ◌≤◌, true, false, length, is_some, slice_index_or, slice_set, vec_len, vec_capacity, IfOk, IfErr};
+ghost use Rattle.dq_bell.specs.Lines.{SleepsAt, IsAwakeAt, AllSleepOn, CallsOne, sleeping};
 
 use std::alloc::{AllocError, Allocator, Global};
 use std::marker::Model;
@@ -63,6 +63,19 @@ impl<W, A: Allocator> Sleepers<W, A> {
     }
 }
 
+// Keeps what was taken out, for which there is room.
+fn keep<W: Drop, A: Allocator>(taken: &mut Vec<W, A>, call: Option<W>)
+    requires { vec_len taken.old < vec_capacity taken.old }
+    ensures one { is_some call ≡ true → length taken.new.items ≡ length taken.old.items + 1 }
+    ensures none { is_some call ≡ false → length taken.new.items ≡ length taken.old.items }
+    ensures len { vec_len taken.new ≤ vec_len taken.old + 1 }
+    ensures capacity { vec_capacity taken.new ≡ vec_capacity taken.old }
+{
+    if let Some(call) = call {
+        taken.push_reserved(call);
+    }
+}
+
 impl<W: Drop, A: Allocator> Sleepers<W, A> {
     /// The one at an index sleeps.
     pub fn put(&mut self, at: usize, call: W)
@@ -81,6 +94,22 @@ impl<W: Drop, A: Allocator> Sleepers<W, A> {
     {
         if at >= self.calls.len() {
             self.calls.push(None)?;
+        }
+        Ok(())
+    }
+
+    /// Takes all that sleep out.
+    pub fn take_all(&mut self, taken: &mut Vec<W, A>) -> Result<(), AllocError>
+        ensures awake { IfOk result (λ _. (i : ℕ) → IsAwakeAt self.new i) }
+        ensures size { length self.new ≡ length self.old }
+        ensures each { length taken.new.items + sleeping self.new
+            ≡ length taken.old.items + sleeping self.old }
+        ensures refused { IfErr result (λ _. (self.new ≡ self.old) × (taken.new.items ≡ taken.old.items)) }
+    {
+        let count = self.calls.len();
+        taken.reserve(count)?;
+        for at in 0..count {
+            keep(taken, self.take(at));
         }
         Ok(())
     }

@@ -1,8 +1,9 @@
 //! A bell is played, and refused each allocation in turn.
 ghost use Rattle.dq_bell.specs.Lines.{IsFreshLine};
 ghost use Rattle.dq_bell.specs.Seats.{IsFreshLeader};
+ghost use Rattle.dq_bell.specs.Turns.{IsFreshTurns};
 
-use dq_bell::{Call, Closer, Leader, Line};
+use dq_bell::{Call, Closer, Leader, Line, NEVER, Turns};
 use dq_testing::RefusingHeap;
 use std::alloc::{AllocError, Allocator};
 use std::process::Abort;
@@ -144,6 +145,152 @@ fn each_allocation_of_a_line_is_refused(rt: HostRuntime) {
         );
         if waited.is_ok() {
             assert!(rt; grants > 6, "each was refused once");
+            return;
+        }
+    }
+    panic!(rt; "it takes memory without end");
+}
+
+// One leads and one follows, each a task or a thread; until when the first sleeps, until when the other one is told to
+// watch it from tick 0 on, and a tick at which that one takes the lead or doesn't.
+#[derive(Clone, Copy)]
+struct Waits {
+    leads_task: bool,
+    follows_task: bool,
+    until: u64,
+    watched: u64,
+    at: u64,
+    takes_lead: bool,
+}
+
+const fn waits(
+    (leads_task, follows_task): (bool, bool),
+    (until, watched): (u64, u64),
+    (at, takes_lead): (u64, bool),
+) -> Waits {
+    Waits {
+        leads_task,
+        follows_task,
+        until,
+        watched,
+        at,
+        takes_lead,
+    }
+}
+
+fn cases() -> [Waits; 8] {
+    [
+        waits((true, false), (100, 150), (149, false)),
+        waits((true, false), (100, 150), (150, true)),
+        waits((true, true), (100, 150), (151, true)),
+        waits((true, true), (5000, 1000), (1000, false)),
+        waits((true, false), (5000, 1000), (5050, true)),
+        waits((true, false), (NEVER - 10, 1000), (NEVER, true)),
+        waits((false, true), (100, 1000), (5000, false)),
+        waits((false, false), (100, NEVER), (5000, false)),
+    ]
+}
+
+fn take_turns<A: Allocator + Clone>(rt: &impl Abort, heap: A) -> Result<(), AllocError> {
+    for case in cases() {
+        let boxes = heap.clone()?;
+        let mut turns = Turns::new(heap.clone()?, 1)?;
+        let taken = two_take_turns(rt, &mut turns, boxes, case);
+        turns.end();
+        taken?;
+    }
+    Ok(())
+}
+
+fn two_take_turns<A: Allocator + Clone>(
+    rt: &impl Abort,
+    turns: &mut Turns<Box<u64, A>, A>,
+    heap: A,
+    case: Waits,
+) -> Result<(), AllocError>
+    requires { IsFreshTurns 1 turns.old }
+{
+    let mut hint = turns.add_place()?;
+    let first = turns.join(case.leads_task)?;
+    let second = turns.join(case.follows_task)?;
+    let one = Box::new(heap.clone()?, 1)?;
+    let two = Box::new(heap.clone()?, 2)?;
+    let again = Box::new(heap.clone()?, 3)?;
+    let mut risen = Vec::new(heap);
+    assert!(rt;
+        turns.sleep(first, case.until, 0, one).ok() == Some(case.until),
+        "it leads"
+    );
+    assert!(rt;
+        turns.sleep(second, 7, 0, two).ok() == Some(case.watched),
+        "it follows"
+    );
+    assert!(rt;
+        number_of(turns.overtake(second, case.at)) == 0,
+        "it sleeps"
+    );
+    assert!(rt; number_of(turns.rise(second)) == 2, "it slept");
+    let gave = number_of(turns.overtake(second, case.at));
+    assert!(rt; (gave == 1) == case.takes_lead, "it leads now");
+    assert!(rt;
+        turns.sits(first) != case.takes_lead,
+        "it has lost its seat"
+    );
+    if case.takes_lead {
+        let (slept, called) = turns.leave(first, case.at);
+        let given = number_of(slept).max(told_by(called));
+        assert!(rt; given == 0 && turns.sits(second), "a lost seat is nobody's");
+        assert!(rt;
+            turns.sleep(first, 7, 0, again).is_err(),
+            "nor does it sleep"
+        );
+        let third = turns.join(false)?;
+        assert!(rt;
+            !turns.sits(first) && turns.sits(third),
+            "no number comes again"
+        );
+    }
+    turns.rise_all(case.at, &mut risen)?;
+    assert!(rt;
+        risen.len() == (if case.takes_lead { 0 } else { 1 }),
+        "the one that leads slept"
+    );
+    assert!(rt;
+        told_by(turns.ring(hint.set(0), case.at)) == 0,
+        "nobody sleeps"
+    );
+    let (slept, called) = turns.leave(second, case.at);
+    let given = number_of(slept).max(told_by(called));
+    assert!(rt; given == 0, "nobody sleeps");
+    assert!(rt; told_by(turns.close()) == 0, "nobody sleeps");
+    Ok(())
+}
+
+fn number_of<A: Allocator>(own: Option<Box<u64, A>>) -> u64 {
+    match own {
+        Some(number) => *number,
+        None => 0,
+    }
+}
+
+// promise: turns.law turns.leave turns.act-by turns.overtake turns.sleep turns.rise-all
+#[test]
+fn turns_are_taken(rt: HostRuntime) -> Result<(), AllocError> {
+    take_turns(&rt, rt.alloc())
+}
+
+// promise: turns.join
+#[test]
+fn each_allocation_of_turns_is_refused(rt: HostRuntime) {
+    for grants in 0..1000u64 {
+        let heap = RefusingHeap::new(rt.alloc(), grants);
+        let taken = take_turns(&rt, &heap);
+        assert!(rt;
+            taken.is_err() == heap.has_refused(),
+            "refused where memory is"
+        );
+        if taken.is_ok() {
+            assert!(rt; grants > 60, "each was refused once");
             return;
         }
     }

@@ -14,10 +14,11 @@ mod leader;
 mod line;
 mod roll;
 mod sleepers;
+mod turns;
 
 pub use hint::{Hint, Hints, Rung};
-pub use line::Line;
 pub use sleepers::Call;
+pub use turns::{Seat, Turns};
 
 // The words from one hint to the next. Two of them lie in no cache line, so places don't wait for each other's.
 pub(crate) const APART: usize = 16;

@@ -67,6 +67,21 @@ impl<W> Line<W> {
         self.roll.first()
     }
 
+    /// Whether one is the one that leads.
+    pub fn is_first(&self, at: usize) -> bool {
+        self.roll.is_first(at)
+    }
+
+    /// Whether one sleeps.
+    pub fn sleeps_at(&self, at: usize) -> bool {
+        self.sleepers.sleeps_at(at)
+    }
+
+    /// How many indexes there are.
+    pub fn len(&self) -> usize {
+        self.roll.len()
+    }
+
     /// It woke by itself: gives its `W`, where it slept. One that leads isn't rung any more.
     pub fn rise(&mut self, at: usize) -> Option<W> {
         if !self.roll.is_first(at) {
@@ -89,6 +104,18 @@ impl<W> Line<W> {
         self.roll.leave(at);
         let next = self.roll.first()?;
         self.sleepers.call(next)
+    }
+
+    /// One that is awake takes the lead, and the one that led leaves the line: it gives what was to wake that one.
+    pub fn overtake(&mut self, at: usize, first: usize) -> Option<W> {
+        // requires first_in self.old.roll ≡ Some first
+        // requires StandsInLine self.old.roll at
+        // requires first ≢ at
+        // requires IsAwakeAt self.old.sleeps at
+        self.leader.rise();
+        let slept = self.sleepers.take(first);
+        self.roll.hand_lead(at, first);
+        slept
     }
 
     /// Calls the one that leads, where it was rung.
@@ -141,6 +168,13 @@ impl<W> Line<W> {
             return Err(call);
         }
         self.sleepers.put(at, call);
+        Ok(())
+    }
+
+    /// All that sleep rise, and one that leads isn't rung any more.
+    pub fn rise_all(&mut self, risen: &mut Vec<W>) -> Result<(), AllocError> {
+        self.sleepers.take_all(risen)?;
+        self.leader.rise();
         Ok(())
     }
 

@@ -97,4 +97,22 @@ impl Roll {
         exchange(&mut self.indexes, &mut self.places, place, last);
         self.count = last;
     }
+
+    // The first and an index behind it exchange their places: that one is the first.
+    fn exchange_first(&mut self, index: usize, _first: usize) {
+        // requires first_in self.old ≡ Some first
+        // requires StandsInLine self.old index
+        // requires first ≢ index
+        let place = *nth(&self.places, index);
+        exchange(&mut self.indexes, &mut self.places, 0, place);
+    }
+
+    /// The first leaves the line, and an index that stands behind it is the first from then on.
+    pub fn hand_lead(&mut self, index: usize, first: usize) {
+        // requires first_in self.old ≡ Some first
+        // requires StandsInLine self.old index
+        // requires first ≢ index
+        self.exchange_first(index, first);
+        self.leave(first);
+    }
 }

@@ -43,6 +43,14 @@ impl<W> Sleepers<W> {
     }
 }
 
+// Keeps what was taken out, for which there is room.
+fn keep<W>(taken: &mut Vec<W>, call: Option<W>) {
+    // requires vec_len taken.old < vec_capacity taken.old
+    if let Some(call) = call {
+        taken.push(call);
+    }
+}
+
 impl<W> Sleepers<W> {
     /// The one at an index sleeps.
     pub fn put(&mut self, at: usize, call: W) {
@@ -54,6 +62,16 @@ impl<W> Sleepers<W> {
     pub fn grow(&mut self, at: usize) -> Result<(), AllocError> {
         if at >= self.calls.len() {
             self.calls.try_push(None)?;
+        }
+        Ok(())
+    }
+
+    /// Takes all that sleep out.
+    pub fn take_all(&mut self, taken: &mut Vec<W>) -> Result<(), AllocError> {
+        let count = self.calls.len();
+        taken.try_reserve(count)?;
+        for at in 0..count {
+            keep(taken, self.take(at));
         }
         Ok(())
     }

@@ -7,7 +7,8 @@
 //! it is to have acted. Who finds then that it hasn't takes the lead from it, and wakes it: it joins again where it is polled.
 //! Each place in line has a number, so that one who has lost a place touches nobody else's.
 
-use crate::bell::{Call, Hint, Hints, Line, Rung, NEVER};
+pub(crate) use crate::bell::Seat;
+use crate::bell::{Call, Hint, Hints, Rung, Turns};
 use crate::delay_queue::dropping::{first_panic, lose};
 use crate::memory::AllocError;
 use std::alloc::{handle_alloc_error, Layout};
@@ -18,11 +19,6 @@ use std::panic::{catch_unwind, AssertUnwindSafe};
 use std::sync::{Mutex, MutexGuard, PoisonError};
 use std::task::Waker;
 use std::thread::{self, Thread};
-
-/// By how many ticks a task that leads may be late.
-const GRACE: u64 = 50;
-/// For how many ticks one that follows sleeps at most, once a task has waited.
-const WATCH: u64 = 1_000;
 
 // They have no destructors, so that those of a thread's other values may wake receivers.
 thread_local! {
@@ -48,36 +44,14 @@ impl Wakes {
     }
 }
 
-/// A place in line: the index there, and the number of this stay.
-#[derive(Clone, Copy)]
-pub(crate) struct Seat {
-    at: usize,
-    number: u64,
-}
-
 /// One that sleeps.
 pub(crate) struct Sleeper {
     seat: Seat,
     wakes: Wakes,
 }
 
-/// Who is in line by an index.
-#[derive(Clone, Copy)]
-struct Sitter {
-    /// The number of the stay, 0 where nobody is.
-    number: u64,
-    is_task: bool,
-    /// The tick by which a task that leads is to have acted, written as it begins to lead. A thread acts.
-    act_by: u64,
-}
-
 struct Waits {
-    line: Line<Sleeper>,
-    sitters: Vec<Sitter>,
-    /// How many stays there have been.
-    stays: u64,
-    /// Whether a task has waited.
-    has_tasks: bool,
+    turns: Turns<Sleeper>,
     /// The threads that wait until the queue is empty, beside the line.
     askers: Vec<Thread>,
 }
@@ -86,114 +60,27 @@ struct Waits {
 pub(crate) struct Waiting(Mutex<Waits>);
 
 impl Waits {
-    fn sits(&self, seat: Seat) -> bool {
-        self.sitters
-            .get(seat.at)
-            .is_some_and(|sitter| sitter.number == seat.number)
-    }
-
-    /// Joins the line, awake.
-    fn join(&mut self, is_task: bool) -> Seat {
-        let Ok(at) = self.line.join() else {
-            handle_alloc_error(Layout::new::<Sleeper>());
-        };
-        self.stays += 1;
-        let sitter = Sitter {
-            number: self.stays,
-            is_task,
-            act_by: NEVER,
-        };
-        match self.sitters.get_mut(at) {
-            Some(place) => *place = sitter,
-            None => self.sitters.push(sitter),
-        }
-        let number = self.stays;
-        Seat { at, number }
-    }
-
-    /// Notes that the one that leads acts from a tick on.
-    fn leads_from(&mut self, tick: u64) {
-        let first = self.line.first();
-        if let Some(sitter) = first.map(|at| &mut self.sitters[at]).filter(|sitter| sitter.is_task) {
-            sitter.act_by = tick.saturating_add(GRACE);
-        }
-    }
-
-    /// Leaves the line. It gives what was to wake it, and the one that leads now, where that is to be woken.
-    fn leave(&mut self, seat: Seat, now: u64) -> (Option<Sleeper>, Option<Sleeper>) {
-        let slept = self.line.rise(seat.at);
-        let led = self.line.first() == Some(seat.at);
-        let called = self.line.leave(seat.at);
-        self.sitters[seat.at].number = 0;
-        if led {
-            self.leads_from(now);
-        }
-        (slept, called.map(|Call(next)| next))
-    }
-
-    /// Takes the lead, for one that is awake, from a task that was to act by now. It gives the place that the one has then, and
-    /// adds those that are to be woken.
-    fn overtake(&mut self, seat: Seat, now: u64, called: &mut Vec<Sleeper>) -> Seat {
-        let Some(first) = self.line.first().filter(|first| *first != seat.at) else {
-            return seat;
-        };
-        let leader = self.sitters[first];
-        if now < leader.act_by {
-            return seat;
-        }
-        // Whoever joined last leads once the leader has left.
-        let is_task = self.sitters[seat.at].is_task;
-        let (_awake, _follows) = self.leave(seat, now);
-        let seat = self.join(is_task);
-        let number = leader.number;
-        let (old, next) = self.leave(Seat { at: first, number }, now);
-        called.extend(old.into_iter().chain(next));
-        seat
-    }
-
-    /// Until when one that is awake sleeps from now on; or what was to wake it, where it may not sleep.
-    fn sleep(&mut self, seat: Seat, wakes: Wakes, until: u64, now: u64) -> Result<u64, Sleeper> {
-        let leads = self.line.first() == Some(seat.at);
-        let slept = self.line.sleep(seat.at, until, Sleeper { seat, wakes });
-        if leads {
-            self.leads_from(if slept.is_ok() { until } else { now });
-            return slept.map(|()| until);
-        }
-        slept.map(|()| if self.has_tasks { self.watch(now) } else { NEVER })
-    }
-
-    /// When one that follows looks again whether the leader acts.
-    fn watch(&self, now: u64) -> u64 {
-        let act_by = self.line.first().map_or(NEVER, |first| self.sitters[first].act_by);
-        act_by.min(now.saturating_add(WATCH))
-    }
-
     /// All that sleep, awake from now on.
     fn rise_all(&mut self, now: u64) -> Vec<Sleeper> {
-        let first = self.line.first();
-        let line = &mut self.line;
-        let all: Vec<_> = (0..self.sitters.len()).filter_map(|at| line.rise(at)).collect();
-        // One that was awake is to act by when it was.
-        if all.iter().any(|sleeper| first == Some(sleeper.seat.at)) {
-            self.leads_from(now);
-        }
-        all
+        let mut risen = Vec::new();
+        granted(self.turns.rise_all(now, &mut risen));
+        risen
     }
+}
+
+/// What was made of memory; the process ends where that is refused.
+fn granted<R>(made: Result<R, AllocError>) -> R {
+    made.unwrap_or_else(|_| handle_alloc_error(Layout::new::<Sleeper>()))
 }
 
 impl Waiting {
     /// A line for the receivers of so many shards, with the hints that these write, and all of them for whoever reads them.
     pub fn new(shards: usize) -> Result<(Waiting, Vec<Hint>, Hints), AllocError> {
-        let mut line = Line::new(shards)?;
-        let written = (0..shards).map(|_| line.add_place()).collect::<Result<_, _>>()?;
-        let hints = line.hints()?;
-        let waits = Waits {
-            line,
-            sitters: Vec::new(),
-            stays: 0,
-            has_tasks: false,
-            askers: Vec::new(),
-        };
+        let mut turns = Turns::new(shards)?;
+        let written = (0..shards).map(|_| turns.add_place()).collect::<Result<_, _>>()?;
+        let hints = turns.hints()?;
+        let askers = Vec::new();
+        let waits = Waits { turns, askers };
         Ok((Waiting(Mutex::new(waits)), written, hints))
     }
 
@@ -208,19 +95,16 @@ impl Waiting {
     pub fn sleep(&self, place: &mut Option<Seat>, wakes: Wakes, until: u64, now: u64) -> Option<u64> {
         let is_task = matches!(wakes, Wakes::Task(_));
         let mut waits = self.waits();
-        let mut called = Vec::new();
-        if is_task && !waits.has_tasks {
-            // Those that follow sleep without an end.
-            waits.has_tasks = true;
-            called = waits.rise_all(now);
-        }
+        // Those that follow sleep without an end, until a task has waited.
+        let is_first_task = is_task && !waits.turns.has_tasks();
         let seat = match *place {
-            Some(seat) if waits.sits(seat) => seat,
-            _ => waits.join(is_task),
+            Some(seat) if waits.turns.sits(seat) => seat,
+            _ => granted(waits.turns.join(is_task)),
         };
-        let before = waits.line.rise(seat.at);
-        let seat = waits.overtake(seat, now, &mut called);
-        let slept = waits.sleep(seat, wakes, until, now);
+        let before = waits.turns.rise(seat);
+        let mut called = if is_first_task { waits.rise_all(now) } else { Vec::new() };
+        called.extend(waits.turns.overtake(seat, now));
+        let slept = waits.turns.sleep(seat, until, now, Sleeper { seat, wakes });
         drop(waits);
         *place = Some(seat);
         // A waker may park this thread, which takes the wake that was meant for it: whoever calls one looks again.
@@ -245,23 +129,14 @@ impl Waiting {
     }
 
     fn left(&self, seat: Seat, now: u64) -> (Option<Sleeper>, Option<Sleeper>) {
-        let mut waits = self.waits();
-        if waits.sits(seat) {
-            waits.leave(seat, now)
-        } else {
-            (None, None)
-        }
+        let (slept, called) = self.waits().turns.leave(seat, now);
+        (slept, called.map(|Call(next)| next))
     }
 
     /// Wakes the leader, which was rung.
     #[cold]
     pub fn ring(&self, rung: Rung, now: u64) -> thread::Result<()> {
-        let mut waits = self.waits();
-        let called = waits.line.ring(rung);
-        if called.is_some() {
-            waits.leads_from(now);
-        }
-        drop(waits);
+        let called = self.waits().turns.ring(rung, now);
         self.wake_each(called.map(|Call(leader)| leader), now)
     }
 
@@ -293,7 +168,7 @@ impl Waiting {
     #[must_use]
     pub fn close(&self) -> Vec<Sleeper> {
         let mut waits = self.waits();
-        iter::from_fn(|| waits.line.close())
+        iter::from_fn(|| waits.turns.close())
             .map(|Call(sleeper)| sleeper)
             .collect()
     }

@@ -1,0 +1,27 @@
+use Rattle.std.proofs.Common.{◌≡◌, ap, sym, subst, ◌∙◌, Some, get_or}
+use Rattle.std.proofs.lemmas.List.{take_at}
+use Rattle.dq_bell.specs.Rolls.{RollState, StandsInLine, first_in, MakesFirst, HasExchanged}
+use Rattle.dq_bell.proofs.Taken.{makes_first, stays_roll, roll_of, any_default}
+use Rattle.dq_bell.proofs.roll.Roll.exchange_first.Goals as goal
+
+pub invariant_of-self : goal.invariant_of-self
+invariant_of-self g c =
+    let i = c.self.inside in
+    let Q : RollState → Type 0 = λ r. StandsInLine r c.args.index in
+    let behind : StandsInLine (roll_of i.indexes.items i.places.items i.count) c.args.index = subst Q (sym c.self.view_is) c.requires.behind in
+    let at : c.index-place.result.now ≡ get_or i.places.items c.args.index 0 = c.index-place.ensures ∙ any_default i.places.items c.args.index _ 0 behind.0 in
+    let x : HasExchanged i.indexes.items i.places.items 0 (get_or i.places.items c.args.index 0) c.exchange.new.indexes c.exchange.new.places = rw (← at, ← c.deref_mut.ensures.value, ← c.deref_mut-2.ensures.value) c.exchange.ensures.exchanged in
+    let first : first_in (roll_of i.indexes.items i.places.items i.count) ≡ Some c.args.first = ap (λ r. first_in r) c.self.view_is ∙ c.requires.first in
+    rw (take_at c.exchange.new.indexes _ i.indexes.len (x.size ∙ sym i.indexes.ok.0), take_at c.exchange.new.places _ i.places.len (x.size2 ∙ sym i.places.ok.0))
+    (stays_roll _ _ _ _ _ c.args.index c.args.first c.self.invariant first behind c.requires.other x c.exchange.ensures.roll)
+
+pub returns : goal.returns
+returns g c =
+    let i = c.self.inside in
+    let Q : RollState → Type 0 = λ r. StandsInLine r c.args.index in
+    let behind : StandsInLine (roll_of i.indexes.items i.places.items i.count) c.args.index = subst Q (sym c.self.view_is) c.requires.behind in
+    let at : c.index-place.result.now ≡ get_or i.places.items c.args.index 0 = c.index-place.ensures ∙ any_default i.places.items c.args.index _ 0 behind.0 in
+    let x : HasExchanged i.indexes.items i.places.items 0 (get_or i.places.items c.args.index 0) c.exchange.new.indexes c.exchange.new.places = rw (← at, ← c.deref_mut.ensures.value, ← c.deref_mut-2.ensures.value) c.exchange.ensures.exchanged in
+    let first : first_in (roll_of i.indexes.items i.places.items i.count) ≡ Some c.args.first = ap (λ r. first_in r) c.self.view_is ∙ c.requires.first in
+    rw (take_at c.exchange.new.indexes _ i.indexes.len (x.size ∙ sym i.indexes.ok.0), take_at c.exchange.new.places _ i.places.len (x.size2 ∙ sym i.places.ok.0), ← c.self.view_is)
+    (makes_first _ _ _ _ _ c.args.index c.args.first c.self.invariant first behind c.requires.other x)
