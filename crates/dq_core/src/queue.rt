@@ -485,6 +485,13 @@ impl<T, W: Words, A: Allocator> DelayCore<T, W, A> {
         self.slots.capacity()
     }
 
+    /// Returns the number of worn slots, which hold no entry and have no stamp left.
+    pub fn worn(&self) -> usize
+        ensures { result ≡ count_by (is_worn self.now.slots.last_stamp) self.now.slots.rows }
+    {
+        self.slots.worn()
+    }
+
     /// Returns how many freed values wait for their drop. Constant time.
     #[inline(always)]
     pub fn deferred(&self) -> usize

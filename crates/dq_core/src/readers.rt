@@ -1,8 +1,6 @@
 //! What a queue tells of itself and of its entries.
 
 ghost use Rattle.std.specs.Prelude.{◌≡◌, ℕ, ◌+◌, true, false};
-ghost use Rattle.std.specs.List.{count_by};
-ghost use Rattle.dq_core.specs.Slots.{is_worn};
 ghost use Rattle.dq_core.specs.Core.{machine};
 ghost use Rattle.dq_core.specs.Machine.{table_at};
 
@@ -15,13 +13,6 @@ use std::alloc::Allocator;
 
 impl<T, W: Words, A: Allocator> DelayCore<T, W, A> {
     ghost use Rattle.dq_core.specs.Readers.{IsTally, WasGiven, TellsFirst, TellsLeast, TellsNext, TellsPlace, TellsFiled};
-
-    /// Returns the number of worn slots, which hold no entry and have no stamp left.
-    pub fn worn(&self) -> usize
-        ensures { result ≡ count_by (is_worn self.now.slots.last_stamp) self.now.slots.rows }
-    {
-        self.slots.worn()
-    }
 
     /// The last stamp of each slot: what was put there under it, and has left, leaves the slot worn.
     pub fn last_stamp(&self) -> u32

@@ -299,6 +299,11 @@ impl<T, W: Words> DelayCore<T, W> {
         self.slots.capacity()
     }
 
+    /// Returns the number of worn slots, which hold no entry and have no stamp left.
+    pub fn worn(&self) -> usize {
+        self.slots.worn()
+    }
+
     /// Returns how many freed values wait for their drop. Constant time.
     #[inline(always)]
     pub fn deferred(&self) -> usize {

@@ -7,11 +7,6 @@ use crate::ticks::{EntryId, Key};
 use crate::wheels::Place;
 
 impl<T, W: Words> DelayCore<T, W> {
-    /// Returns the number of worn slots, which hold no entry and have no stamp left.
-    pub fn worn(&self) -> usize {
-        self.slots.worn()
-    }
-
     /// The last stamp of each slot: what was put there under it, and has left, leaves the slot worn.
     pub fn last_stamp(&self) -> u32 {
         self.slots.last()

@@ -1,8 +1,8 @@
 //! The lists of indexes, linked both ways in a fixed row, with what is kept of each index; and the occupancy maps.
 //!
-//! There is a row for each entry and, behind them, one for the head of each list. Each list is a circle through a head of
-//! its own, so an entry always has a neighbour on either side, and no call asks where a list begins or ends. What is kept
-//! of an entry lies beside its links, so that a call touches one line for it.
+//! There is a row for each entry and, behind them, one for the head of each list. Each list is a circle through a head
+//! of its own, so an entry always has a neighbour on either side, and no call asks where a list begins or ends. What is
+//! kept of an entry lies beside its links, so that a call touches one line for it.
 //!
 //! Of the lists of six levels one is the due list. A map for each level has a bit for each list, by which the next list
 //! is found.
@@ -187,7 +187,7 @@ pub fn detach(rows: &mut [Row], index: usize) {
 
 /// The number, once the row of a linked entry and those of its neighbours were read. A neighbour's link back is the
 /// entry itself, so the difference of the two is 0, which the compiler can't know: it keeps the reads.
-#[inline]
+#[inline(always)]
 pub fn once_near(rows: &[Row], index: usize, number: u32) -> u32 {
     // requires index < length rows.now
     // requires HasNeighbours rows.now index
@@ -512,8 +512,8 @@ impl Lists {
         scatter(&mut self.rows, self.capacity, &mut self.maps, list, tick)
     }
 
-    /// Opens a list as it is: its circle hangs on the head of list 0, where none stands. From now on its indexes are seen
-    /// there, filed at the tick. This writes six links, however many they are.
+    /// Opens a list as it is: its circle hangs on the head of list 0, where none stands. From now on its indexes are
+    /// seen there, filed at the tick. This writes six links, however many they are.
     pub fn hang(&mut self, list: usize, tick: u64) {
         // requires list < LISTS
         // requires 0 < list
