@@ -467,7 +467,7 @@ impl Lists {
     }
 
     /// Takes an index out of its list.
-    #[inline]
+    #[inline(always)]
     pub fn unlink(&mut self, index: usize) {
         // requires index < length self.old.homes
         // requires 0 < slice_index self.old.homes index
