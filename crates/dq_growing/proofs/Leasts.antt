@@ -11,7 +11,7 @@ use Rattle.dq_core.specs.Calls.{TellsWake, Polls}
 use Rattle.dq_core.specs.Readers.{WakesBoundDeadlines}
 use Rattle.dq_wheel.specs.Lawful.{IsLawfulWheel}
 use Rattle.dq_growing.specs.declared.TheConstants.{NEVER}
-use Rattle.dq_growing.specs.declared.least.Least.{Least}
+use Rattle.dq_growing.specs.declared.cores.Least.{Least}
 use Rattle.dq_core.specs.declared.outcomes.Piece.{Piece}
 use Rattle.dq_core.specs.Pieces.{IfAnswer, PollsSome}
 use Rattle.dq_core.specs.AtTheCall.{IfRests}
@@ -23,7 +23,7 @@ use Rattle.dq_core.specs.Deferring.{TakesDeferredValue, waiting_in}
 use Rattle.dq_ticks.specs.declared.keys.Key.{Key}
 use Rattle.dq_growing.specs.Cores.{CoreRow, IsCoreAt, with_core}
 use Rattle.dq_growing.specs.Polls.{joined_with, AreIdleBelow, IsLeastBelow, TellsLeastBelow, WakeBounds, OthersAreQuiet, NoneLiveIn, RestsIn, IfPieceRests, PollsCore, HasTurn, TellsDue, PeeksIn, TakesDeferredAt, TakesDeferredIn, told}
-use Rattle.dq_growing.specs.declared.least.Due.TheVariants.{In}
+use Rattle.dq_growing.specs.declared.cores.Due.TheVariants.{In}
 use Rattle.dq_growing.proofs.Rows.{at_after, one_at, on_place}
 
 pub earlier : {T : Type 0} (m : Machine T) (t u : ℕ) → NoneLiveBefore m t → u ≤ t → NoneLiveBefore m u

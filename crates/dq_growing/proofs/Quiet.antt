@@ -27,7 +27,7 @@ use Rattle.dq_wheel.specs.State.{Filing}
 use Rattle.dq_core.specs.Pieces.{PollsSome}
 use Rattle.dq_growing.specs.Cores.{CoreRow, IsCoreAt, with_core, lowered_to}
 use Rattle.dq_growing.specs.Polls.{OthersAreQuiet, AreBounded, KeepsTurns, TurnState, bound_at, WakeBounds}
-use Rattle.dq_growing.specs.declared.least.TheConstants.{KNOWN}
+use Rattle.dq_growing.specs.declared.cores.TheConstants.{KNOWN}
 use Rattle.dq_wheel.proofs.Links.{nat_le_or_lt}
 use Rattle.dq_growing.proofs.Rows.{at_after, one_at}
 use Rattle.dq_growing.proofs.Leasts.{earlier, none_ever}

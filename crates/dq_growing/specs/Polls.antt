@@ -17,9 +17,9 @@ use Rattle.dq_core.specs.Readers.{TellsLeast}
 use Rattle.dq_core.specs.Deferring.{TakesDeferredValue, waiting_in}
 use Rattle.dq_ticks.specs.declared.keys.Key.{Key}
 use Rattle.dq_growing.specs.declared.TheConstants.{NEVER}
-use Rattle.dq_growing.specs.declared.least.Least.{Least}
-use Rattle.dq_growing.specs.declared.least.Due.{Due}
-use Rattle.dq_growing.specs.declared.least.Due.TheVariants.{In, Rests}
+use Rattle.dq_growing.specs.declared.cores.Least.{Least}
+use Rattle.dq_growing.specs.declared.cores.Due.{Due}
+use Rattle.dq_growing.specs.declared.cores.Due.TheVariants.{In, Rests}
 use Rattle.dq_growing.specs.Cores.{CoreRow, IsCoreAt, OnCoreAt}
 
 -- what is least, once a core with that wake joins those before it

@@ -8,17 +8,14 @@
 mod beside;
 mod cores;
 mod folds;
-mod least;
 mod moving;
 mod notes;
-mod polls;
 mod runs;
 mod sized;
 mod sizing;
 mod store;
 mod sweeping;
 mod sweeps;
-mod upkeep;
 
 /// After each tick: where nothing has a wake.
 pub(crate) const NEVER: u64 = u64::MAX;

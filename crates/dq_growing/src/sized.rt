@@ -19,10 +19,9 @@ ghost use Rattle.dq_growing.specs.Stands.{KeepsWords, OneLeaves, SameStand};
 ghost use Rattle.dq_growing.specs.Store.{ChangesFor, ChangesThere, ComesFor, GoesOnFor, GoesOut, HasBegunFor, HasOneValue, IsStore, KeysAreApart, PollsFor, ReapsFor, RelocatesFor, RemovesFor, RemovesIfDueFor, ResetsFor, ResetsThere, StandsFor, TakeRefusedFor, TellsFor};
 
 use crate::NEVER;
-use crate::cores::{Cores, TakeError};
+use crate::cores::{Cores, TakeError, wake_of};
 use crate::moving::{Moved, NextDeadline};
 use crate::notes::Notes;
-use crate::polls::wake_of;
 use crate::sizing::Sizing;
 use crate::store::Store;
 use dq_core::{CoreError, DelayCore, Piece, ReapError, Removed, Turn, Words};

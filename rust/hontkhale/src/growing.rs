@@ -6,16 +6,13 @@
 
 mod cores;
 mod folds;
-mod least;
 mod moving;
 mod notes;
-mod polls;
 mod sized;
 mod sizing;
 mod store;
 mod sweeping;
 mod sweeps;
-mod upkeep;
 
 /// After each tick: where nothing has a wake.
 pub(crate) const NEVER: u64 = u64::MAX;

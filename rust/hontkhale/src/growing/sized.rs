@@ -5,10 +5,9 @@
 //! poll that finds nothing due sets it anew.
 
 use crate::core::{CoreError, DelayCore, Piece, ReapError, Removed, Turn, Words};
-use crate::growing::cores::{Cores, TakeError};
+use crate::growing::cores::{wake_of, Cores, TakeError};
 use crate::growing::moving::{Moved, NextDeadline};
 use crate::growing::notes::Notes;
-use crate::growing::polls::wake_of;
 use crate::growing::sizing::Sizing;
 use crate::growing::store::Store;
 use crate::growing::NEVER;

@@ -1,6 +1,6 @@
 use Rattle.std.proofs.Common.{IfSome, ◌<◌, ◌^◌, rules}
 use Rattle.dq_growing.proofs.Leasts.{wake_bounds}
-use Rattle.dq_growing.proofs.polls.wake_of.Goals as goal
+use Rattle.dq_growing.proofs.cores.wake_of.Goals as goal
 
 pub returns-clause-bounds : goal.returns-clause-bounds
 returns-clause-bounds g c =

@@ -1,7 +1,7 @@
 use Rattle.std.proofs.Common.{◌≡◌, ◌≢◌, ◌⊎◌, ◌<◌, ◌≤◌, ℕ}
-use Rattle.dq_growing.specs.declared.least.TheConstants.{NOBODY}
+use Rattle.dq_growing.specs.declared.cores.TheConstants.{NOBODY}
 use Rattle.dq_growing.specs.Polls.{bound_at}
-use Rattle.dq_growing.proofs.least.Turns.first.Given as goal
+use Rattle.dq_growing.proofs.cores.Turns.first.Given as goal
 
 abbrev pub invariant-loop-at : goal.invariant-loop-at
 invariant-loop-at l =
