@@ -151,22 +151,19 @@ impl<T> Shared<T> {
                 return Some(shard);
             }
         }
-        self.lock_by_turn(now)
+        // It gives a number, so that no guard has to lie in memory.
+        let at = self.next_by_turn(now)?;
+        Some(self.lock(at))
     }
 
     #[cold]
-    fn lock_by_turn(&self, now: u64) -> Option<Locked<'_, T>> {
+    fn next_by_turn(&self, now: u64) -> Option<usize> {
         let turn = TURN.get();
         if turn.own == 1 {
             TURN.set(Turn { own: 0, ..turn });
-            return self.common.most_due(now).map(|at| self.lock(at));
+            return self.common.most_due(now);
         }
-        let own = turn.own.checked_sub(1).unwrap_or(OWN_WAY);
-        self.lock_on_own_way(now, Turn { own, ..turn })
-    }
-
-    /// The first shard that is due and whose lock is free, from the one on by which the thread's inserts are routed.
-    fn lock_on_own_way(&self, now: u64, turn: Turn) -> Option<Locked<'_, T>> {
+        // The first that is due and whose lock is free, from the one on by which the thread's inserts are routed.
         let shards = self.shards.len();
         let from = ROUTE.get().unwrap_or(turn.from) % shards;
         let mut due = (from..shards)
@@ -174,10 +171,10 @@ impl<T> Shared<T> {
             .filter(|at| self.common.hint(*at) <= now)
             .peekable();
         let first = *due.peek()?;
-        let free = due.find_map(|at| Some((at, self.try_lock(at)?)));
-        let (from, shard) = free.unwrap_or_else(|| (first, self.lock(first)));
-        TURN.set(Turn { from, ..turn });
-        Some(shard)
+        let from = due.find(|at| self.shards[*at].try_lock().is_some()).unwrap_or(first);
+        let own = turn.own.checked_sub(1).unwrap_or(OWN_WAY);
+        TURN.set(Turn { own, from });
+        Some(from)
     }
 
     /// Takes an entry out that is due, under one lock, by a poll that is a whole one of cores of at most so many entries.
