@@ -176,7 +176,12 @@ impl<T> Shard<T> {
     /// Whether no core has more than so many entries, and few of them are cancelled, once so many cancels were accepted.
     #[inline(always)]
     pub fn is_small(&self, most: usize, cancels: u64) -> bool {
-        cancels <= STEPS.into() && self.counts.left <= most as u64 || self.has_small_cores(most, cancels)
+        if cancels <= STEPS.into() && self.counts.left <= most as u64 {
+            return true;
+        }
+        // Where more wait than so many a core, some core has more.
+        let few = most * self.entries.store().cores().count();
+        self.counts.left.saturating_sub(cancels) <= few as u64 && self.has_small_cores(most, cancels)
     }
 
     /// The same by the cores themselves. Inlined, it would cost each receive from a shard of many entries some more.
