@@ -163,7 +163,7 @@ struct Waits {
     takes_lead: bool,
 }
 
-const fn waits(
+const fn watching(
     (leads_task, follows_task): (bool, bool),
     (until, watched): (u64, u64),
     (at, takes_lead): (u64, bool),
@@ -180,14 +180,14 @@ const fn waits(
 
 fn cases() -> [Waits; 8] {
     [
-        waits((true, false), (100, 150), (149, false)),
-        waits((true, false), (100, 150), (150, true)),
-        waits((true, true), (100, 150), (151, true)),
-        waits((true, true), (5000, 1000), (1000, false)),
-        waits((true, false), (5000, 1000), (5050, true)),
-        waits((true, false), (NEVER - 10, 1000), (NEVER, true)),
-        waits((false, true), (100, 1000), (5000, false)),
-        waits((false, false), (100, NEVER), (5000, false)),
+        watching((true, false), (100, 150), (149, false)),
+        watching((true, false), (100, 150), (150, true)),
+        watching((true, true), (100, 150), (151, true)),
+        watching((true, true), (5000, 1000), (1000, false)),
+        watching((true, false), (5000, 1000), (5050, true)),
+        watching((true, false), (NEVER - 10, 1000), (NEVER, true)),
+        watching((false, true), (100, 1000), (5000, false)),
+        watching((false, false), (100, NEVER), (5000, false)),
     ]
 }
 
