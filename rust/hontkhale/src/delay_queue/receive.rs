@@ -231,7 +231,8 @@ impl<T> Shared<T> {
         }
     }
 
-    /// The same of a shard, under one lock, into a row that has room. It tells whether it took all that it may, or that are due; else its steps were made.
+    /// The same of a shard, under one lock, into a row that has room. It tells whether it took all that it may, or that are due;
+    /// else its steps were made.
     fn take_under_lock(&self, mut shard: Locked<'_, T>, now: u64, row: &mut Vec<Expired<T>>, most: usize) -> bool {
         let (first, full) = (row.len(), row.len() + TAKEN_AT_ONCE.min(most));
         let is_whole = shard.is_small(POLLED_WHOLE, self.common.seen[shard.at].cancels.load(SeqCst));
