@@ -1,6 +1,8 @@
 //! `peers growing ENTRIES ROUNDS`: the calls of a queue of one owner that grows and shrinks, by hand over a row of cores, while
 //! so many entries stand, and what they take of memory. The queue stands with the tests of the crate, which drive it too.
 
+// Its tests ask for more.
+#[allow(dead_code)]
 #[rustfmt::skip]
 #[path = "../../rust/hontkhale/tests/growing/queue.rs"]
 mod queue;

@@ -1,8 +1,8 @@
 //! Who is in line, by index: O(1) to join, to leave and to hand the lead over.
 //!
-//! Each index stands at one place, and those at the first places are in line (the sparse set of Briggs and Torczon, 1993). Who
-//! leaves changes places with the last in line. So no call searches, none but a join takes memory, and the first stays first
-//! until it leaves.
+//! Each index stands at one place, and those at the first places are in line (the sparse set of Briggs and Torczon,
+//! 1993). Who leaves changes places with the last in line. So no call searches, none but a join takes memory, and the
+//! first stays first until it leaves.
 ghost use Rattle.std.specs.Prelude.{◌≡◌, ◌≢◌, ℕ, ◌+◌, ◌<◌, ◌≤◌, length, slice_index, IfOk, IfErr, Option, None, Some, true, false};
 ghost use Rattle.dq_bell.specs.Rolls.{IsRoll, StandsInLine, first_in, GrowsByOne, JoinsAs, LeavesRoll, HasExchanged, MakesFirst, HandsLead};
 

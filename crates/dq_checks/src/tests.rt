@@ -1,5 +1,6 @@
-//! The worked cases of the queue over plain words and over shared ones; whole scripts; laws that are called; refused memory,
-//! and calls where no memory is left. The other tests of these parts are in plain Rust, in `rust/hontkhale/src/tests`.
+//! The worked cases of the queue over plain words and over shared ones; whole scripts; laws that are called; refused
+//! memory, and calls where no memory is left. The other tests of these parts are in plain Rust, in
+//! `rust/hontkhale/src/tests`.
 
 mod calls_memory;
 mod cases;

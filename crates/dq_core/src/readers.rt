@@ -100,8 +100,8 @@ impl<T, W: Words, A: Allocator> DelayCore<T, W, A> {
         self.slots.stamp(index)
     }
 
-    /// Whether an entry of that name was here, or its stamp has been given: no insert gives that name. The number of the
-    /// queue isn't asked.
+    /// Whether an entry of that name was here, or its stamp has been given: no insert gives that name. The number of
+    /// the queue isn't asked.
     pub fn is_past(&self, entry: &EntryId) -> bool
         ensures yes { result ≡ true → WasGiven self.now entry.now }
         ensures no { result ≡ false → ¬ WasGiven self.now entry.now }

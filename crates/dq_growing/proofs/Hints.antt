@@ -1,6 +1,6 @@
 -- A tick before which no live entry of a store has a deadline stays such a one, but by an insert or a reset to an earlier
 -- deadline; and a poll that finds nothing due tells such a tick.
-use Rattle.std.specs.Prelude.{unwrap_or, OnOk, IfOk, IfErr, ◌+◌, ◌<◌}
+use Rattle.std.specs.Prelude.{unwrap_or, OnOk, IfOk, IfErr, IfSome, IfNone, ◌+◌}
 use Rattle.std.proofs.lemmas.Bool.{both_ways, lt-ltb, le-ltb}
 use Rattle.dq_wheel.proofs.Links.{nat_le_or_lt}
 use Rattle.std.proofs.Common.{◌≡◌, ◌≢◌, ◌⊎◌, ℕ, ◌≤◌, Bool, true, false, List, length, min, is_ok, Option, Some, None, Result, Ok, Err, refl, sym, ap, ◌∙◌, subst, inl, inr, ⊎_elim, arith}
@@ -26,14 +26,16 @@ use Rattle.dq_growing.specs.declared.moving.Moved.{Moved}
 use Rattle.dq_growing.specs.declared.moving.Moved.TheVariants.{To, Out}
 use Rattle.dq_growing.specs.declared.moving.NextDeadline.{NextDeadline}
 use Rattle.dq_growing.specs.declared.moving.NextDeadline.TheVariants.{Same, At, SameIfAfter}
+use Rattle.dq_growing.specs.declared.store.SizedStore.TheInside.{Inside}
 use Rattle.dq_growing.specs.declared.sweeping.Sweep.{Sweep}
-use Rattle.dq_growing.specs.Cores.{CoreRow, IsClosed, closed_error, AreCores, IsCoreAt, OnCoreAt, OnCore, OnCoreOr, HasNo, InsertsBeside, InsertsIn, SweepsFrom, with_core, missing_error}
+use Rattle.dq_growing.specs.Cores.{CoreRow, IsClosed, closed_error, AreCores, IsCoreAt, OnCoreAt, OnCore, OnCoreOr, HasNo, GivesDrained, NoneDrained, InsertsBeside, InsertsIn, SweepsFrom, with_core, missing_error}
 use Rattle.dq_growing.specs.Moving.{IfTo, PutsIn, Relocates, GoesTo, IsTakenOut, next_of}
 use Rattle.dq_growing.specs.Polls.{NoneLiveIn, PollsRow, PollsCore, RestsIn, DoesPoll, DoesPiece, TakesDeferredAt, TakesDeferredIn, IfPieceRests, WakeBounds, noting_in}
 use Rattle.dq_growing.specs.Sized.{hint_after, hint_asked}
 use Rattle.dq_growing.specs.Sizing.{AllWere, GoesOnBehind, ComesInto, OnlyOpens, SweepsNext}
 use Rattle.dq_growing.specs.Notes.{Book, user_at, meant_place}
 use Rattle.dq_growing.specs.Store.{StoreState, IsStore, StandsFor, AtPlace, RemovesAt, RemovesFor, RemovesIfDueFor, TellsFor, ChangesFor, RelocatesAt, RelocatesFor, HasNoMemory, AfterReset, ResetsFor, ResetsThere, PollsFor, ReapsFor, NotesReaped, reset_as, answer_as, key_told, piece_as}
+use Rattle.dq_growing.proofs.Sizes.{gives_were}
 use Rattle.dq_growing.proofs.Rows.{at_after, at_snoc, one_at}
 use Rattle.dq_growing.proofs.Leasts.{earlier, some_not_none}
 use Rattle.dq_growing.proofs.Pairing.{one_or_two}
@@ -114,11 +116,15 @@ module _ {T W : Type 0} where
   pub sooner : (s : CoreRow T W) (t u : ℕ) → u ≤ t → NoneLiveIn s t → NoneLiveIn s u
   sooner s t u le late i c at = earlier (machine c) t u (late i c at) le
 
+  -- so of a sized store by its parts
+  pub held_late : {A : Type 0} (s k : Inside T W A) → s ≡ k → NoneLiveIn k.store.cores k.hint → NoneLiveIn s.store.cores s.hint
+  held_late {A} s k same late = let P : Inside T W A → Type 0 = λ x. NoneLiveIn x.store.cores x.hint in subst P (sym same) late
+
   -- the cores stay
   pub same_late : (s k : CoreRow T W) (t : ℕ) → k ≡ s → NoneLiveIn s t → NoneLiveIn k t
   same_late s k t same late = let P : CoreRow T W → Type 0 = λ r. NoneLiveIn r t in subst P (sym same) late
 
-  cores_late : (s k : CoreRow T W) (t : ℕ) → k.cores ≡ s.cores → NoneLiveIn s t → NoneLiveIn k t
+  pub cores_late : (s k : CoreRow T W) (t : ℕ) → k.cores ≡ s.cores → NoneLiveIn s t → NoneLiveIn k t
   cores_late s k t same late = let P : List (Core T W) → Type 0 = λ l. (i : ℕ) (c : Core T W) → IsCoreAt l i c → NoneLiveBefore (machine c) t in subst P (sym same) late
 
   -- one core changes, and gets no earlier deadline
@@ -218,6 +224,12 @@ module _ {T W : Type 0} where
       at_late (InsertsBeside v when r) s k s.opened t (λ b c puts before. inserts_late true b c t before v when r.0 le puts.0) y late)
       (λ (y : IsClosed s × (r ≡ (Err (closed_error when, v), None)) × (k ≡ s)). same_late s k t y.2 late)
       did
+
+  -- so with the hint lowered by one that was accepted
+  pub inserts_hint : (s k : CoreRow T W) (h n : ℕ) (v : T) (when : ℕ) (r : Result Key (CoreError × T) × Option T) → (is_ok r.0 ≡ true → n ≡ min h when) → (is_ok r.0 ≡ false → n ≡ h)
+      → InsertsIn s v when r k → NoneLiveIn s h → NoneLiveIn k n
+  inserts_hint s k h n v when (Ok key, beside) low stays did late = let is : n ≡ min h when = low refl in inserts_in s k n v when (Ok key, beside) (omega arith) did (sooner s h n (omega arith) late)
+  inserts_hint s k h n v when (Err e, beside) low stays did late = let is : n ≡ h = stays refl in inserts_in s k n v when (Err e, beside) (tt {0}) did (sooner s h n (omega arith) late)
 
   -- a reset, where the entry is
   pub resets_there : (shared : Bool) (s k : StoreState T W) (t : ℕ) (u : EntryId) (when : ℕ) (r : Result Key CoreError) → OnOk r (t ≤ when) → ResetsThere shared s u when r k
@@ -393,6 +405,11 @@ module _ {T W : Type 0} where
 
   pub were_late : (s k : CoreRow T W) (t : ℕ) → AllWere s k → NoneLiveIn s t → NoneLiveIn k t
   were_late s k t were late i c at = let was = were i c at in late was.0 c was.1
+
+  -- a core that has drained is taken out, or none is
+  pub given_late : (s k : CoreRow T W) (t : ℕ) (r : Option (Core T W)) → IfSome r (λ c. GivesDrained s c k) → IfNone r (NoneDrained s × (k ≡ s)) → NoneLiveIn s t → NoneLiveIn k t
+  given_late s k t (Some c) gives none late = were_late s k t (gives_were s k c gives) late
+  given_late s k t None gives none late = same_late s k t none.1 late
 
   -- there is one core, and it wakes then
   pub one_late : (s : CoreRow T W) (c : Core T W) (r : Option ℕ) → length s.cores ≡ 1 → IsCoreAt s.cores 0 c → WakeBounds c r → NoneLiveIn s (unwrap_or r NEVER)

@@ -5,8 +5,7 @@ ghost use Rattle.dq_core.specs.Core.{IsLawfulCore};
 ghost use Rattle.dq_growing.specs.Cores.{EachOf};
 
 use crate::cores::Cores;
-use crate::sized::SizedStore;
-use crate::store::Store;
+use crate::store::SizedStore;
 use dq_core::{BesideWords, Words};
 use std::alloc::Allocator;
 
@@ -29,24 +28,8 @@ impl<T, W: Words, A: Allocator> Cores<T, W, A> {
     }
 }
 
-impl<T, W: Words, A: Allocator + Clone> Store<T, W, A> {
-    /// Tells what is known of the words of the core of that number and of one of theirs together, and what that core
-    /// keeps. It tells nothing where no core has the number. Nothing changes.
-    pub fn beside<C>(&mut self, number: u32, other: &mut C)
-    where
-        W: BesideWords<C>,
-        requires { EachOf self.old.cores number (λ c. W.sits c.words other.old) }
-        ensures together { EachOf self.old.cores number (λ c. W.together c.words other.old) }
-        ensures lawful { EachOf self.old.cores number
-            (λ c. IsLawfulCore c × (c.known ≡ W.known c.words) × W.keeps c.words) }
-        ensures same { (self.new ≡ self.old) × (other.new ≡ other.old) }
-    {
-        self.cores.beside(number, other);
-    }
-}
-
 impl<T, W: Words, A: Allocator + Clone> SizedStore<T, W, A> {
-    /// Tells the same of its store's cores. Nothing changes.
+    /// Tells the same of its cores. Nothing changes.
     pub fn beside<C>(&mut self, number: u32, other: &mut C)
     where
         W: BesideWords<C>,
@@ -57,6 +40,6 @@ impl<T, W: Words, A: Allocator + Clone> SizedStore<T, W, A> {
             (λ c. IsLawfulCore c × (c.known ≡ W.known c.words) × W.keeps c.words) }
         ensures same { (self.new ≡ self.old) × (other.new ≡ other.old) }
     {
-        self.store.beside(number, other);
+        self.store.cores.beside(number, other);
     }
 }

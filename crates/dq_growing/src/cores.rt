@@ -82,7 +82,8 @@ pub(crate) fn joined(least: Option<Least>, place: usize, wake: Option<u64>) -> O
     })
 }
 
-/// Which core's turn it is to be polled, and what is known of the others, so that who is next is found without a look at each.
+/// Which core's turn it is to be polled, and what is known of the others, so that who is next is found without a look
+/// at each.
 #[derive(Drop)]
 pub(crate) struct Turns {
     // The core that has the turn. No other one has a live entry with a deadline before `others`.
@@ -181,7 +182,8 @@ impl Turns {
         }
     }
 
-    /// The one of the first cores that has the least tick, and the least tick of the others; none where all is known to be idle.
+    /// The one of the first cores that has the least tick, and the least tick of the others; none where all is known to
+    /// be idle.
     #[inline(always)]
     pub fn first(&self, cores: usize) -> Option<(usize, u64)>
         requires { cores ≤ KNOWN }
@@ -441,9 +443,9 @@ impl<T, W: Words, A: Allocator> Cores<T, W, A> {
         answer
     }
 
-    /// Takes a live entry out if its current deadline isn't after `tick`, both of one millisecond, and returns its value
-    /// with its key and that deadline. It returns none if the deadline is later: the entry stays as it is. Constant time,
-    /// and no memory is taken.
+    /// Takes a live entry out if its current deadline isn't after `tick`, both of one millisecond, and returns its
+    /// value with its key and that deadline. It returns none if the deadline is later: the entry stays as it is.
+    /// Constant time, and no memory is taken.
     ///
     /// # Errors
     /// In this order:
@@ -526,8 +528,8 @@ impl<T, W: Words, A: Allocator> Cores<T, W, A> {
         answer
     }
 
-    /// Returns the key that an insert may give next: that of a free slot of the open core in which no value waits for its
-    /// drop. It returns none if no core is open, or no such slot is left. Constant time.
+    /// Returns the key that an insert may give next: that of a free slot of the open core in which no value waits for
+    /// its drop. It returns none if no core is open, or no such slot is left. Constant time.
     pub fn next_key(&self) -> Option<Key>
         ensures { TellsNextIn self.now result }
     {
@@ -563,9 +565,9 @@ impl<T, W: Words, A: Allocator> Cores<T, W, A> {
         answer
     }
 
-    /// Puts `value` into the open core, to come out at the tick `when` of one millisecond, and returns its key. No value
-    /// is dropped: one that waits for its drop in the slot that the entry takes comes out beside the key. Constant time,
-    /// and no memory is taken.
+    /// Puts `value` into the open core, to come out at the tick `when` of one millisecond, and returns its key. No
+    /// value is dropped: one that waits for its drop in the slot that the entry takes comes out beside the key.
+    /// Constant time, and no memory is taken.
     ///
     /// # Errors
     /// `value` comes back. In this order:
@@ -845,10 +847,10 @@ impl<T, W: Words, A: Allocator> Cores<T, W, A> {
         })
     }
 
-    /// Notes a tick, of one millisecond, and polls one core: it takes out one entry whose deadline in force is reached by
-    /// the greatest tick noted, or tells when to come again, or that another core may have more. No value is dropped:
-    /// that of each cancelled entry which it reaps waits until it is taken out. It may name a tick though what was to come
-    /// then has left: whoever polls at that tick is told anew.
+    /// Notes a tick, of one millisecond, and polls one core: it takes out one entry whose deadline in force is reached
+    /// by the greatest tick noted, or tells when to come again, or that another core may have more. No value is
+    /// dropped: that of each cancelled entry which it reaps waits until it is taken out. It may name a tick though what
+    /// was to come then has left: whoever polls at that tick is told anew.
     ///
     /// # Errors
     /// `TickTooLarge` beyond the last tick, which is not noted then.
@@ -886,8 +888,8 @@ impl<T, W: Words, A: Allocator> Cores<T, W, A> {
         }
     }
 
-    /// The same by at most `most` steps, each in constant time. So it also tells where it made them all, and more may be
-    /// left.
+    /// The same by at most `most` steps, each in constant time. So it also tells where it made them all, and more may
+    /// be left.
     ///
     /// # Errors
     /// `TickTooLarge` beyond the last tick, which is not noted then.
@@ -975,8 +977,8 @@ impl<T, W: Words, A: Allocator> Cores<T, W, A> {
         }
     }
 
-    /// Returns the tick, of one millisecond, at which the store has something to do next. It returns none if no entry is
-    /// linked. No live entry has a deadline before that tick; the least deadline may be later.
+    /// Returns the tick, of one millisecond, at which the store has something to do next. It returns none if no entry
+    /// is linked. No live entry has a deadline before that tick; the least deadline may be later.
     #[tactic(auto, using(crate::proofs::Leasts::quiet_in))]
     pub fn next_wake(&self) -> Option<u64>
         ensures quiet { IfSome result (λ w. NoneLiveIn self.now w) }

@@ -1,8 +1,8 @@
 //! One owner's queue that grows and shrinks.
 //!
 //! A [`Cores`] has cores, each a [`dq_core::DelayCore`] under a number of its own. All inserts go into one of them, the
-//! open core; the others drain: what is in them stays, and comes out there. A core that has drained can be taken out and
-//! folded; its words stay, so its keys stay refused.
+//! open core; the others drain: what is in them stays, and comes out there. A core that has drained can be taken out
+//! and folded; its words stay, so its keys stay refused.
 #![tactic(auto)]
 
 mod beside;
@@ -11,7 +11,6 @@ mod folds;
 mod moving;
 mod notes;
 mod runs;
-mod sized;
 mod sizing;
 mod store;
 mod sweeping;
@@ -24,6 +23,5 @@ pub use cores::{Cores, TakeError};
 pub use folds::Folds;
 pub use moving::{Moved, NextDeadline};
 pub use runs::{ended_stays_ended, entries_leave_once, no_core_gives_anew};
-pub use sized::SizedStore;
 pub use sizing::{CORES, Sizing};
-pub use store::Store;
+pub use store::{SizedStore, Store};

@@ -1,8 +1,8 @@
 //! An entry goes on in the open core: one call takes it out and puts it in there, and loses nothing.
 //!
 //! A core that drains may wait long for its last entries. They are moved, and so is an entry whose slot has no stamp
-//! left. Callers extend and cancel the entry until the step that takes it out, and the deadline that it has at that step
-//! is the one with which it goes on.
+//! left. Callers extend and cancel the entry until the step that takes it out, and the deadline that it has at that
+//! step is the one with which it goes on.
 ghost use Rattle.std.specs.Prelude.{◌≡◌, ◌≢◌, ◌+◌, ◌<◌, ◌≤◌, ◌⊎◌, true, false, length, None, IfOk, IfErr, OnOk, OnErr, MatchOption};
 ghost use Rattle.dq_ticks.specs.declared.TheConstants.{LAST_TICK};
 ghost use Rattle.dq_core.specs.AtTheCall.{linked_in};
@@ -112,7 +112,8 @@ fn put_in<T, W: Words, A: Allocator>(
 }
 
 impl<T, W: Words, A: Allocator> Cores<T, W, A> {
-    // How many entries the open core has and how many worn slots, where these are all its slots; none where one is free.
+    // How many entries the open core has and how many worn slots, where these are all its slots; none where one is
+    // free.
     fn full(&self) -> Option<(usize, usize)>
         ensures { MatchOption result (HasOpenRoom self.now) (λ n. IsFull self.now n.0 n.1) }
     {
@@ -141,10 +142,10 @@ impl<T, W: Words, A: Allocator> Cores<T, W, A> {
         put
     }
 
-    /// Takes a live entry out of its core and puts it into the open one, with its value and with the deadline that `next`
-    /// makes of the one that it has as it is taken out. An entry of the open core goes to another slot there if its slot
-    /// is worn. No value is dropped: one that waits for its drop in the slot that the entry takes comes out beside the
-    /// answer, and none beside any answer but `To`. Constant time in each core, and no memory is taken.
+    /// Takes a live entry out of its core and puts it into the open one, with its value and with the deadline that
+    /// `next` makes of the one that it has as it is taken out. An entry of the open core goes to another slot there if
+    /// its slot is worn. No value is dropped: one that waits for its drop in the slot that the entry takes comes out
+    /// beside the answer, and none beside any answer but `To`. Constant time in each core, and no memory is taken.
     ///
     /// # Errors
     /// Nothing is taken out. In this order:

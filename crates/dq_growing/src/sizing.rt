@@ -66,7 +66,7 @@ fn free<T, W: Words, A: Allocator>(core: &DelayCore<T, W, A>) -> usize
 
 // Whether such a slot is in the open core.
 #[inline(always)]
-fn has_open_room<T, W: Words, A: Allocator>(cores: &Cores<T, W, A>) -> bool
+pub(crate) fn has_open_room<T, W: Words, A: Allocator>(cores: &Cores<T, W, A>) -> bool
     ensures yes { result ≡ true → HasClearAt cores.now cores.now.opened }
     ensures no { result ≡ false → ¬ HasClearAt cores.now cores.now.opened }
 {
@@ -270,45 +270,9 @@ impl Sizing {
         self.quiet_since = NEVER;
     }
 
-    /// Whether a slot is free for an insert: in the open core, or in another one of which half is free, or, where any
-    /// will do, in any. That one is open then. No value that waits for its drop is in the way.
-    #[inline(always)]
-    pub fn finds_room<T, W: Words, A: Allocator + Clone>(
-        &mut self,
-        store: &mut Store<T, W, A>,
-        any_will_do: bool,
-    ) -> bool
-        // Then an insert isn't refused as full, and no value that waits for its drop is in its way.
-        ensures room { result ≡ true → HasOpenRoom store.new.cores }
-        ensures clear { result ≡ true → HasClearAt store.new.cores store.new.cores.opened }
-
-        // If the open core has such a slot, nothing changes. Else a core is open that may be opened, or
-        // nothing changes.
-        ensures stays { HasClearAt store.old.cores store.old.cores.opened → store.new ≡ store.old }
-        ensures other { (store.new ≡ store.old) ⊎ OpensOne any_will_do store.new.cores }
-
-        // Else there is no such slot in the open core, nor in one that may be opened.
-        ensures none { result ≡ false → HasNoRoom any_will_do store.old.cores }
-        ensures kept { result ≡ false → store.new ≡ store.old }
-
-        // No more changes than which core is open.
-        ensures opens { OnlyOpens store.old store.new }
-
-        // No id is given anew, and no deadline falls.
-        ensures keeps { KeepsIds store.old store.new }
-        ensures holds { HoldsDeadlines store.old store.new }
-
-        // Work is noted exactly if another core is open.
-        ensures notes { NotesWorkIf (FoundElsewhere result store.old.cores) self.old self.new }
-    {
-        if has_open_room(store.cores()) {
-            return true;
-        }
-        self.opens_another(store, any_will_do)
-    }
-
+    // Opens another core in which a slot is free for an insert, where one may be opened.
     #[cold]
-    fn opens_another<T, W: Words, A: Allocator + Clone>(
+    pub(crate) fn opens_another<T, W: Words, A: Allocator + Clone>(
         &mut self,
         store: &mut Store<T, W, A>,
         any_will_do: bool,

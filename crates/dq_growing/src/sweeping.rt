@@ -74,8 +74,8 @@ impl Sweep {
 }
 
 impl Sizing {
-    /// Frees cancelled entries at the next slots, 256 at most, unless each was looked at since the last of so many cancels.
-    /// It tells whether it looked at some. No value is dropped: each waits until it is taken out.
+    /// Frees cancelled entries at the next slots, 256 at most, unless each was looked at since the last of so many
+    /// cancels. It tells whether it looked at some. No value is dropped: each waits until it is taken out.
     pub fn sweep<T, W: Words, A: Allocator + Clone>(
         &mut self,
         store: &mut Store<T, W, A>,

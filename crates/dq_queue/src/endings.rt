@@ -5,17 +5,17 @@ ghost use Rattle.dq_queue.specs.Leaving.{StoreLosesNone};
 
 use dq_words::endings;
 
-/// Whatever a poll of a store gives out, whole or a piece, came out of one core, as expired at its deadline in force, at a
-/// tick already noted; at no deadline before one that a call by open words promised.
+/// Whatever a poll of a store gives out, whole or a piece, came out of one core, as expired at its deadline in force,
+/// at a tick already noted; at no deadline before one that a call by open words promised.
 pub fn outs_are_in_force<T>()
     ensures { StoreOutsAreInForce T }
 {
     endings::ends_are_in_force();
 }
 
-/// Whatever a removal takes out of a store, or a move gives out, leaves at its deadline in force, as the answer tells; at no
-/// deadline before one that a call by open words promised. So an entry of another core than the open one goes on, where a
-/// move asks for no deadline.
+/// Whatever a removal takes out of a store, or a move gives out, leaves at its deadline in force, as the answer tells;
+/// at no deadline before one that a call by open words promised. So an entry of another core than the open one goes on,
+/// where a move asks for no deadline.
 pub fn removals_are_in_force<T>()
     ensures removals { StoreRemovalsAreInForce T }
     ensures moves { StoreMovesAreInForce T }

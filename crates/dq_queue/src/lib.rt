@@ -1,7 +1,7 @@
 //! A delay queue that grows and shrinks, and that many threads share.
 //!
-//! A queue has a row of shards, each a [`dq_growing::SizedStore`] behind one lock. A call by name takes the lock of one shard.
-//! Each shard has one history, for contracts: it has each call by name once.
+//! A queue has a row of shards, each a [`dq_growing::SizedStore`] behind one lock. A call by name takes the lock of one
+//! shard. Each shard has one history, for contracts: it has each call by name once.
 #![tactic(auto)]
 
 pub mod endings;

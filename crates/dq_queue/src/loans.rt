@@ -1,4 +1,5 @@
-//! Cores that are away from a shard. Each left it drained, and may come back as it is, or once it was folded and unfolded.
+//! Cores that are away from a shard. Each left it drained, and may come back as it is, or once it was folded and
+//! unfolded.
 ghost use Rattle.std.specs.Prelude.{◌≡◌, ◌<◌, ◌↔◌, max, IfErr, IfOk, IsErr, OnErr, OnOk};
 ghost use Rattle.dq_core.specs.Core.{machine};
 ghost use Rattle.dq_core.specs.Deferring.{NoneDeferred};
@@ -14,8 +15,8 @@ use dq_words::Keeper;
 use std::alloc::{Allocator, Global};
 use std::marker::{Model, PhantomData};
 
-/// A core that left its shard drained. Nothing is put into it while it is away, so it gives no id anew that an entry of the
-/// shard had been given.
+/// A core that left its shard drained. Nothing is put into it while it is away, so it gives no id anew that an entry of
+/// the shard had been given.
 #[derive(Drop)]
 pub struct Drained<T, J: Rooms, A: Allocator = Global> {
     pub(crate) core: DelayCore<T, Keeper<A>, A>,
@@ -125,8 +126,8 @@ impl<T, J: Rooms, A: Allocator> FoldedDrained<T, J, A> {
         self.shard
     }
 
-    /// Notes `tick`, of one millisecond, and goes to the greatest tick noted: the core begins there once it is unfolded.
-    /// Constant time.
+    /// Notes `tick`, of one millisecond, and goes to the greatest tick noted: the core begins there once it is
+    /// unfolded. Constant time.
     ///
     /// # Errors
     /// `TickTooLarge` if `tick` is beyond the last tick. It isn't noted then.

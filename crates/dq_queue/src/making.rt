@@ -24,8 +24,8 @@ pub enum MakeError {
     NoNumber,
 }
 
-/// Makes a core with nothing in it, under the next number of the clerk's directory, in which its words stand from then on.
-/// It takes time and memory in proportion to the capacity, and no lock. `config.shard` isn't read.
+/// Makes a core with nothing in it, under the next number of the clerk's directory, in which its words stand from then
+/// on. It takes time and memory in proportion to the capacity, and no lock. `config.shard` isn't read.
 ///
 /// # Errors
 /// In this order:

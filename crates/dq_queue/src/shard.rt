@@ -61,7 +61,8 @@ impl Rooms for Brand {
 }
 
 /// A shard: its number, and its store, which keeps its size and knows its hint. Its history is that which its number
-/// names, and the words of its cores stand in the queue's directory. It has a register of the cores that are away from it.
+/// names, and the words of its cores stand in the queue's directory. It has a register of the cores that are away from
+/// it.
 #[derive(Drop)]
 pub struct Shard<T, J: Rooms, A: Allocator = Global> {
     number: u32,

@@ -93,8 +93,8 @@ impl<J: Rooms, A: Allocator> QueueWords<J, A> {
         })
     }
 
-    /// Raises the deadline of a live entry to `when`, a tick of one millisecond, and returns the deadline that is
-    /// then in force: `when`, or a later one that the entry had. No deadline gets sooner by it. It takes constant time, no
+    /// Raises the deadline of a live entry to `when`, a tick of one millisecond, and returns the deadline that is then
+    /// in force: `when`, or a later one that the entry had. No deadline gets sooner by it. It takes constant time, no
     /// lock and no memory.
     ///
     /// # Errors
@@ -145,8 +145,8 @@ impl<J: Rooms, A: Allocator> QueueWords<J, A> {
     }
 
     /// Cancels a live entry, so that it won't come out, and returns the deadline that it gave up, a tick of one
-    /// millisecond. The entry keeps its slot and its value until the queue frees it. It takes constant time, no lock and no
-    /// memory.
+    /// millisecond. The entry keeps its slot and its value until the queue frees it. It takes constant time, no lock
+    /// and no memory.
     ///
     /// # Errors
     /// In this order:
@@ -189,8 +189,8 @@ impl<J: Rooms, A: Allocator> QueueWords<J, A> {
         }
     }
 
-    /// Returns what the entry of `key` is: live, with its deadline, or how it ended. It takes constant time, no lock and
-    /// no memory.
+    /// Returns what the entry of `key` is: live, with its deadline, or how it ended. It takes constant time, no lock
+    /// and no memory.
     ///
     /// # Errors
     /// In this order:

@@ -78,7 +78,8 @@ fn add_all<R: Abort + AllocGlobal>(rt: &R, clerk: &mut Clerk<Box<u64>>, count: u
     Some(())
 }
 
-// Looks from the last number to the first. What is there is its own number's, and so is all below it. How many are there.
+// Looks from the last number to the first. What is there is its own number's, and so is all below it. How many are
+// there.
 fn look(rt: &impl Abort, directory: &Directory<Box<u64>>, count: u32) -> u32 {
     let mut found = 0u32;
     for number in (0..count).rev() {

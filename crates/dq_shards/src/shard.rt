@@ -1,5 +1,5 @@
-//! What a queue's row and a stream ask of a shard behind its lock, and of the poller that waits for it, one at a time; and
-//! what a stream asks of the queue.
+//! What a queue's row and a stream ask of a shard behind its lock, and of the poller that waits for it, one at a time;
+//! and what a stream asks of the queue.
 ghost use Rattle.std.specs.Prelude.{◌≡◌, true, Some, option_map};
 ghost use Rattle.dq_core.specs.Deferring.{WillDisplace, waiting_in};
 ghost use Rattle.dq_shards.specs.Parking.{poller};

@@ -677,7 +677,8 @@ impl<A: Allocator> Lists<A> {
     }
 
     /// Takes an index out of its list.
-    #[inline]
+    // Out of line it costs a removal and a reset a call.
+    #[inline(always)]
     pub fn unlink(&mut self, index: usize)
         requires index_in { index < length self.old.homes }
         requires linked { 0 < slice_index self.old.homes index }

@@ -5,7 +5,7 @@ use Rattle.std.specs.Prelude.{slice_index}
 use Rattle.dq_words.specs.declared.views.View.{View}
 use Rattle.dq_ticks.specs.Word.{stamp_of, mark_of}
 use Rattle.dq_ticks.specs.declared.TheConstants.{CAPACITY_LIMIT, LAST_STAMP}
-use Rattle.dq_words.specs.declared.parts.TheConstants.{ONE_CANCEL}
+use Rattle.dq_words.specs.declared.seated.TheConstants.{ONE_CANCEL}
 use Rattle.dq_words.specs.declared.views.Call.{Call}
 use Rattle.dq_words.specs.declared.views.Call.TheVariants.{Extend, Cancel}
 use Rattle.dq_words.specs.declared.views.Write.{Write}

@@ -1,7 +1,7 @@
 -- The rule over the words of one table and the views of all seats.
 use Rattle.dq_ticks.specs.declared.TheConstants.{CAPACITY_LIMIT, LAST_TICK}
 use Rattle.dq_words.specs.declared.keeper.TheConstants.{HANDLE_LIMIT}
-use Rattle.dq_words.specs.declared.parts.TheConstants.{ONE_CANCEL}
+use Rattle.dq_words.specs.declared.seated.TheConstants.{ONE_CANCEL}
 use Rattle.dq_ticks.specs.Word.{stamp_unit, word, stamp_of}
 use Rattle.std.specs.Prelude.{◌≡◌, ◌⊎◌, ℕ, zero, suc, ◌+◌, ◌*◌, ◌<◌, ◌≤◌, Bool, List, [], ◌∷◌}
 use Rattle.std.specs.Prelude.{length, slice_index, replicate, true, false}

@@ -53,8 +53,8 @@ impl<A: Allocator> Keeper<A> {
 }
 
 impl<A: Allocator> OpenWords<A> {
-    /// What the receipts of two calls by these words tell together, of whatever threads. One of them is used up, so that
-    /// they aren't the same one.
+    /// What the receipts of two calls by these words tell together, of whatever threads. One of them is used up, so
+    /// that they aren't the same one.
     pub fn compare(&self, one: &mut Receipt, other: Receipt)
         requires one { one.old.table ≡ self.now.table }
         requires other { other.table ≡ self.now.table }

@@ -10,8 +10,7 @@ ghost use Rattle.dq_words.specs.CallerCalls.{CallerCancels, CallerLooks};
 ghost use Rattle.dq_words.specs.Counts.{most_begins};
 ghost use Rattle.dq_words.specs.Keeping.{Knew};
 
-use crate::parts::{cancelled_word, live_word};
-use crate::seated::{Gone, Seated};
+use crate::seated::{Gone, Seated, cancelled_word, live_word};
 use dq_core::{CallError, Look, shown};
 use dq_ticks::{Key, LAST_TICK, Mark, stamp, unpack};
 use std::alloc::{Allocator, Global};

@@ -2,8 +2,8 @@
 //! finds the thing by its number, from any thread and without a lock, for as long as the directory lasts: a thing stays
 //! where it was put, and no number is given twice.
 //!
-//! A [`Claim`] is for contracts: it says that a number is of a thing. Two claims of one number are of one thing, whoever
-//! found them, and whenever.
+//! A [`Claim`] is for contracts: it says that a number is of a thing. Two claims of one number are of one thing,
+//! whoever found them, and whenever.
 ghost use Rattle.std.specs.Prelude.{◌≡◌, ◌+◌, ◌^◌, ◌<◌, ◌∷◌, [], IfSome, IfOk, IfErr, vec_len, ⊤};
 ghost use Rattle.dq_words.specs.DirectoryRows.{StandsAt, AreNumbered, first};
 ghost use Rattle.dq_words.specs.Claims.{IsOf};

@@ -1,5 +1,5 @@
 //! The one seat that begins and ends entries.
-ghost use Rattle.std.specs.Prelude.{◌≡◌, ◌+◌, ◌<◌, ◌≤◌, length, true, slice_set, IfErr, IfOk};
+ghost use Rattle.std.specs.Prelude.{◌≡◌, ◌+◌, ◌<◌, ◌≤◌, length, true, slice_index, slice_set, IfErr, IfOk};
 ghost use Rattle.atomic_table.specs.Seated.{TableId};
 ghost use Rattle.dq_core.specs.Words.{AreFresh, live, removed, begun_counts, settled_counts};
 ghost use Rattle.dq_core.specs.Words.{finished_counts, removed_at, IsChanged, IsFinishedBy, IsInForce, IsOver, IsSettled};
@@ -9,14 +9,14 @@ ghost use Rattle.dq_words.specs.KeeperCalls.{known_of, known_word, counts_by, En
 ghost use Rattle.dq_words.specs.KeeperCalls.{KeeperIsMade, KeeperBegins, KeeperLooks};
 ghost use Rattle.dq_words.specs.KeeperCalls.{KeeperSettles, KeeperRenews, KeeperFinishes, KeeperFinishesBy, Issues};
 ghost use Rattle.dq_words.specs.KeeperCalls.{Tells, Returns, Accounts, OnlyRemoves};
-ghost use Rattle.dq_words.specs.Keeping.{IsKeeper, NoneLive, Stood};
+ghost use Rattle.dq_words.specs.Endings.{WritesStay};
+ghost use Rattle.dq_words.specs.Keeping.{counts_of, IsEnded, IsKeeper, IsOpen, IsOpenFrom, NoneLive, Stood};
+ghost use Rattle.dq_words.specs.Plays.{SeatGoesOn};
 
 use crate::caller::Caller;
-use crate::parts::{ONE_CANCEL, live_word};
-use crate::seated::Seated;
-use crate::tries;
+use crate::seated::{ONE_CANCEL, Seated, expired_word, live_word, removed_word};
 use dq_core::{Look, Settled, SharedWords, Words};
-use dq_ticks::{CAPACITY_LIMIT, LAST_STAMP, LAST_TICK, Parts, unpack};
+use dq_ticks::{CAPACITY_LIMIT, LAST_STAMP, LAST_TICK, Parts, field, is_live, stamp, unpack};
 use std::alloc::{AllocError, Allocator, Global};
 use std::marker::Model;
 use thiserror::Error;
@@ -72,6 +72,116 @@ impl From<AllocError> for WordsError {
 
     fn from(_e: AllocError) -> WordsError {
         WordsError::NoMemory
+    }
+}
+
+// Ends the word that is live at exactly `at` by one try: a word that isn't is live at a later deadline or cancelled.
+fn settle<A: Allocator>(seat: &mut Seated<A>, index: usize, stamp: u32, at: u64) -> Settled
+    requires inside { index < length seat.old.view.seen }
+    requires keeper { seat.old.view.keeps ≡ true }
+    requires open { IsOpenFrom (slice_index seat.old.view.seen index) stamp at }
+    requires last { stamp ≤ LAST_STAMP }
+    requires tick { at ≤ LAST_TICK }
+    ensures settles { KeeperSettles seat.old.view index stamp at result seat.new.view }
+    ensures table { seat.new.table ≡ seat.old.table }
+    ensures seat { SeatGoesOn seat.old.view seat.new.view }
+{
+    let old = live_word(stamp, at);
+    let found = seat.settle(index, old, expired_word(stamp, at));
+    if found == old {
+        Settled::SettledExpired
+    } else if is_live(found) {
+        Settled::Later(field(found))
+    } else {
+        Settled::SettledCancelled
+    }
+}
+
+// Each try that fails shows a greater word.
+fn renew<A: Allocator>(seat: &mut Seated<A>, index: usize, stamp: u32, when: u64) -> Option<u64>
+    requires inside { index < length seat.old.view.seen }
+    requires keeper { seat.old.view.keeps ≡ true }
+    requires open { IsOpen (slice_index seat.old.view.seen index) stamp }
+    requires last { stamp < LAST_STAMP }
+    requires tick { when ≤ LAST_TICK }
+    ensures renews { KeeperRenews seat.old.view index stamp when result seat.new.view }
+    ensures table { seat.new.table ≡ seat.old.table }
+    ensures seat { SeatGoesOn seat.old.view seat.new.view }
+{
+    let new = live_word(stamp + 1, when);
+    let mut seen = seat.keeper_load(index);
+    while is_live(seen) {
+        let found = seat.renew(index, seen, new);
+        if found == seen {
+            return Some(field(seen));
+        }
+        seen = found;
+    }
+    None
+}
+
+// Each try that fails shows a greater word.
+fn finish<A: Allocator>(seat: &mut Seated<A>, index: usize, stamp: u32) -> Option<u64>
+    requires inside { index < length seat.old.view.seen }
+    requires keeper { seat.old.view.keeps ≡ true }
+    requires open { IsOpen (slice_index seat.old.view.seen index) stamp }
+    requires last { stamp ≤ LAST_STAMP }
+    ensures finishes { KeeperFinishes seat.old.view index stamp result seat.new.view }
+    ensures table { seat.new.table ≡ seat.old.table }
+    ensures seat { SeatGoesOn seat.old.view seat.new.view }
+{
+    let mut seen = seat.keeper_load(index);
+    while is_live(seen) {
+        let deadline = field(seen);
+        let found = seat.finish(index, seen, removed_word(stamp, deadline));
+        if found == seen {
+            return Some(deadline);
+        }
+        seen = found;
+    }
+    None
+}
+
+// The same where the deadline isn't after a tick.
+fn finish_by<A: Allocator>(seat: &mut Seated<A>, index: usize, stamp: u32, tick: u64) -> Look
+    requires inside { index < length seat.old.view.seen }
+    requires keeper { seat.old.view.keeps ≡ true }
+    requires open { IsOpen (slice_index seat.old.view.seen index) stamp }
+    requires last { stamp ≤ LAST_STAMP }
+    ensures finishes { KeeperFinishesBy seat.old.view index stamp tick result seat.new.view }
+    ensures table { seat.new.table ≡ seat.old.table }
+    ensures seat { SeatGoesOn seat.old.view seat.new.view }
+{
+    let mut seen = seat.keeper_load(index);
+    while is_live(seen) {
+        let deadline = field(seen);
+        if deadline > tick {
+            return Look::StillLive(deadline);
+        }
+        let found = seat.finish(index, seen, removed_word(stamp, deadline));
+        if found == seen {
+            return Look::LookRemoved(deadline);
+        }
+        seen = found;
+    }
+    Look::LookCancelled
+}
+
+// Ends the word of a slot as removed, where it is live.
+fn end<A: Allocator>(seat: &mut Seated<A>, index: usize)
+    requires inside { index < length seat.old.view.seen }
+    requires keeper { seat.old.view.keeps ≡ true }
+    ensures ended { IsEnded (slice_index seat.new.view.seen index) }
+    ensures only { seat.new.view.seen
+        ≡ slice_set seat.old.view.seen index (slice_index seat.new.view.seen index) }
+    ensures removes { OnlyRemoves (counts_of seat.old.view.writes) (counts_of seat.new.view.writes) }
+    ensures begun { WritesStay seat.old.view seat.new.view }
+    ensures table { seat.new.table ≡ seat.old.table }
+    ensures seat { SeatGoesOn seat.old.view seat.new.view }
+{
+    let seen = seat.keeper_load(index);
+    if is_live(seen) && stamp(seen) > 0 {
+        let _ended = finish(seat, index, stamp(seen));
     }
 }
 
@@ -195,7 +305,7 @@ impl<A: Allocator> Keeper<A> {
         ensures table { self.new.table ≡ self.old.table }
     {
         for index in 0..self.seat.rows() {
-            tries::end(&mut self.seat, index);
+            end(&mut self.seat, index);
         }
     }
 }
@@ -283,7 +393,7 @@ impl<A: Allocator> Words for Keeper<A> {
         ensures one_step { StepsAtMost 1 self.old self.new }
         ensures step { KeeperSettles self.old.view index stamp at result self.new.view }
     {
-        tries::settle(&mut self.seat, index, stamp, at)
+        settle(&mut self.seat, index, stamp, at)
     }
 
     fn renew(&mut self, index: usize, stamp: u32, when: u64) -> Option<u64>
@@ -300,7 +410,7 @@ impl<A: Allocator> Words for Keeper<A> {
         ensures begun { StillBegun HasBegun self.old self.new }
         ensures step { KeeperRenews self.old.view index stamp when result self.new.view }
     {
-        tries::renew(&mut self.seat, index, stamp, when)
+        renew(&mut self.seat, index, stamp, when)
     }
 
     fn finish(&mut self, index: usize, stamp: u32) -> Option<u64>
@@ -316,7 +426,7 @@ impl<A: Allocator> Words for Keeper<A> {
         ensures begun { StillBegun HasBegun self.old self.new }
         ensures step { KeeperFinishes self.old.view index stamp result self.new.view }
     {
-        tries::finish(&mut self.seat, index, stamp)
+        finish(&mut self.seat, index, stamp)
     }
 
     fn finish_by(&mut self, index: usize, stamp: u32, tick: u64) -> Look
@@ -333,7 +443,7 @@ impl<A: Allocator> Words for Keeper<A> {
         ensures begun { StillBegun HasBegun self.old self.new }
         ensures step { KeeperFinishesBy self.old.view index stamp tick result self.new.view }
     {
-        tries::finish_by(&mut self.seat, index, stamp, tick)
+        finish_by(&mut self.seat, index, stamp, tick)
     }
 }
 

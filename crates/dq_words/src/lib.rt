@@ -16,10 +16,8 @@ mod front;
 mod keeper;
 mod many;
 mod open;
-mod parts;
 mod seated;
 mod shards;
-mod tries;
 pub mod views;
 
 pub use caller::Caller;

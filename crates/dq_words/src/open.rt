@@ -7,8 +7,7 @@ ghost use Rattle.dq_words.specs.OpenCalls.{OpenExtendRefused, OpenLookRefused, O
 
 use crate::caller::deadline_at;
 use crate::keeper::{Keeper, WordsError};
-use crate::parts::{cancelled_word, live_word};
-use crate::seated::{OpenWords, Receipt};
+use crate::seated::{OpenWords, Receipt, cancelled_word, live_word};
 use dq_core::{CallError, Look, shown};
 use dq_ticks::{Key, LAST_TICK, stamp, unpack};
 use std::alloc::Allocator;

@@ -4,7 +4,7 @@
 //! operation once. So the keeper and its callers reach the words by these steps and by nothing else.
 ghost use Rattle.std.specs.Prelude.{◌≡◌, ◌+◌, ◌*◌, ◌<◌, ◌≤◌, length, true, false, slice_index};
 ghost use Rattle.std.specs.Prelude.{IfOk, IfErr};
-ghost use Rattle.dq_ticks.specs.declared.TheConstants.{CAPACITY_LIMIT};
+ghost use Rattle.dq_ticks.specs.declared.TheConstants.{CAPACITY_LIMIT, LAST_STAMP, LAST_TICK};
 ghost use Rattle.dq_ticks.specs.Word.{word, stamp_of, mark_of, field_of};
 ghost use Rattle.dq_words.specs.declared.keeper.TheConstants.{HANDLE_LIMIT};
 ghost use Rattle.dq_words.specs.Counts.{most_begins, cancels_in};
@@ -20,18 +20,68 @@ mod open;
 mod plays;
 mod rule;
 
-use crate::parts::ONE_CANCEL;
 use crate::seated::plays::{
     Begin, CallerLoad, Cancel, Extend, Finish, GiveBack, Issue, KeeperLoad, Renew, ReturnLoad,
     Settle,
 };
 use crate::seated::rule::{WordSeat, WordTable};
 use atomic_table::Table;
+use dq_ticks::{Mark, Parts, pack};
 pub use gone::Gone;
 pub use open::{OpenWords, Receipt};
 use std::alloc::{AllocError, Allocator};
 use std::marker::Model;
 use std::sync::Arc;
+
+// What one cancel adds to the return word. What is below it counts the callers that are gone.
+pub(crate) const ONE_CANCEL: u64 = 2048;
+
+pub(crate) fn live_word(stamp: u32, field: u64) -> u64
+    requires stamp { stamp ≤ LAST_STAMP }
+    requires field { field ≤ LAST_TICK }
+    ensures { result ≡ word stamp 0 field }
+{
+    pack(Parts {
+        stamp,
+        mark: Mark::LiveMark,
+        field,
+    })
+}
+
+pub(crate) fn cancelled_word(stamp: u32) -> u64
+    requires { stamp ≤ LAST_STAMP }
+    ensures { result ≡ word stamp 1 0 }
+{
+    pack(Parts {
+        stamp,
+        mark: Mark::CancelledMark,
+        field: 0,
+    })
+}
+
+pub(crate) fn expired_word(stamp: u32, field: u64) -> u64
+    requires stamp { stamp ≤ LAST_STAMP }
+    requires field { field ≤ LAST_TICK }
+    ensures { result ≡ word stamp 2 field }
+{
+    pack(Parts {
+        stamp,
+        mark: Mark::ExpiredMark,
+        field,
+    })
+}
+
+pub(crate) fn removed_word(stamp: u32, field: u64) -> u64
+    requires stamp { stamp ≤ LAST_STAMP }
+    requires field { field ≤ LAST_TICK }
+    ensures { result ≡ word stamp 3 field }
+{
+    pack(Parts {
+        stamp,
+        mark: Mark::RemovedMark,
+        field,
+    })
+}
 
 #[derive(Drop)]
 pub(crate) struct Seated<A: Allocator> {

@@ -1,15 +1,15 @@
 //! The queue without its clock: hontkhale's proved store of one owner, and what its handles need of it, in ticks of one
 //! millisecond.
 //!
-//! An entry stays at its place until it ends, but that `compact`, a worn slot, or an extend amid the poll after a peek moves it.
+//! An entry stays at its place until it ends, but that `compact` or a worn slot moves it.
 //! No value is dropped while a lock is held, nor where a key is in hand that its panic would take along: the value of a cancelled
 //! entry stays in its slot until a poll drops it.
 
 use crate::key::{Expired, Key, Name, MOST_CORES};
-use crate::shared::{Names, Shared};
+use crate::shared::Shared;
 use hontkhale::parts::directory::Clerk;
-use hontkhale::parts::growing::{Cores, Folds, Moved, NextDeadline, Store};
-use hontkhale::parts::owner::{CallError, CoreError, DelayCore, EntryId, Keeper, Look, OpenWords, Removed};
+use hontkhale::parts::growing::{Cores, Folds, SizedStore};
+use hontkhale::parts::owner::{self, CallError, CoreError, DelayCore, EntryId, Keeper, Look, OpenWords, Removed};
 use std::sync::mpsc::{channel, Receiver};
 use std::sync::{Arc, Mutex};
 
@@ -21,10 +21,12 @@ pub(crate) use polls::NEVER;
 pub(crate) use polls::{AFTER_LOOK, ASKED};
 
 type Core<T> = DelayCore<T, Keeper>;
+/// The key of an entry that a call of the store gave another stamp.
+type Renamed = Result<owner::Key, CoreError>;
 
 pub(crate) struct Entries<T> {
     pub shared: Arc<Shared>,
-    store: Store<T, Keeper>,
+    store: SizedStore<T, Keeper>,
     folds: Folds<Keeper>,
     clerk: Clerk<OpenWords>,
     /// What handles cancelled, and how many of their notes were heeded.
@@ -55,7 +57,7 @@ impl<T> Entries<T> {
         let (tell, cancelled) = channel();
         let mut entries = Entries {
             shared: Arc::new(Shared::new(clerk.directory().clone(), tell)),
-            store: Store::new(Cores::new()).expect("a store of no cores"),
+            store: SizedStore::new(room::FIRST_SLOTS).expect("a store of no cores"),
             folds: Folds::new(),
             clerk,
             cancelled: Mutex::new(cancelled),
@@ -80,7 +82,7 @@ impl<T> Entries<T> {
             return;
         }
         self.has_handles = true;
-        let entries = (0..self.store.cores().count()).flat_map(|place| self.linked(place));
+        let entries = (0..self.cores().count()).flat_map(|place| self.linked(place));
         let renamed = entries.filter_map(|(place, entry)| {
             let (name, first) = (self.look(&place)?.0, Name::of(&entry, entry.born()));
             (name != first).then_some((first, name))
@@ -105,8 +107,8 @@ impl<T> Entries<T> {
     pub fn insert(&mut self, value: T, when: u64) -> Key {
         let when = when.max(self.tick);
         self.note_deadline(when);
-        if !self.has_room() {
-            self.make_room();
+        if !self.store.finds_room(true) {
+            self.grow();
         }
         self.left += 1;
         match self.store.insert(value, when) {
@@ -123,12 +125,8 @@ impl<T> Entries<T> {
         let entry = self.entry(key).ok_or(CoreError::Missing)?;
         if self.has_handles {
             self.reset_shared(key, when)?;
-        } else {
-            match self.store.reset_in_place(&entry, when) {
-                Ok(_) => {}
-                Err(CoreError::Worn) => self.carry_to(key, when)?,
-                Err(error) => return Err(error),
-            }
+        } else if let Err(error) = self.store.reset_in_place(&entry, when) {
+            self.reset_elsewhere(key, when, error)?;
         }
         self.note_deadline(when);
         Ok(())
@@ -136,78 +134,52 @@ impl<T> Entries<T> {
 
     /// The same where handles may be calling. A deadline that isn't sooner is an extend, after which the entry has the same name.
     fn reset_shared(&mut self, key: &Key, when: u64) -> Result<(), CoreError> {
-        let entry = key.entry();
-        if self.store.deadline(&entry)? <= when {
+        if self.store.deadline(&key.entry())? <= when {
             let extended = self.shared.step(key, |words, key| words.extend(key, when));
             return extended.map(drop).ok_or(CoreError::Missing);
         }
-        let shared = Arc::clone(&self.shared);
-        let mut names = shared.names();
-        match self.store.reset_in_place(&entry, when) {
-            Ok(renamed) => {
-                self.note_name(&mut names, key, renamed.stamp());
-                Ok(())
-            }
-            Err(CoreError::Worn) => {
-                drop(names);
-                self.carry_to(key, when)
-            }
-            Err(error) => Err(error),
-        }
+        let reset = self.rename(key, |store| store.reset_in_place(&key.entry(), when));
+        reset.or_else(|error| self.reset_elsewhere(key, when, error))
     }
 
-    /// Gives an entry another deadline, whose slot has no stamp left.
+    /// The same of an entry whose slot has no stamp left, if it was refused for that: it goes to one of the open core.
     #[cold]
     #[inline(never)]
-    fn carry_to(&mut self, key: &Key, when: u64) -> Result<(), CoreError> {
-        self.carry(key, NextDeadline::At(when), &mut None)
-    }
-
-    /// Takes an entry out of its slot, and puts it into one of the open core under the same user's key; or where `next` lets it, it
-    /// is written to `out`.
-    #[cold]
-    fn carry(&mut self, key: &Key, next: NextDeadline, out: &mut Option<Expired<T>>) -> Result<(), CoreError> {
-        if !self.has_room() {
-            self.make_room();
+    fn reset_elsewhere(&mut self, key: &Key, when: u64, error: CoreError) -> Result<(), CoreError> {
+        if error != CoreError::Worn {
+            return Err(error);
         }
-        self.carry_to_open(key, next, out)
+        if !self.store.finds_room(true) {
+            self.grow();
+        }
+        self.rename(key, |store| store.reset(&key.entry(), when).0)
     }
 
-    /// The same where the open core has room. A handle that finds the entry moved waits until its new place is noted.
-    #[inline(never)]
-    fn carry_to_open(&mut self, key: &Key, next: NextDeadline, out: &mut Option<Expired<T>>) -> Result<(), CoreError> {
-        let shared = Arc::clone(&self.shared);
-        let mut names = shared.names();
-        match self.store.relocate(&key.entry(), next).0? {
-            Moved::Out(removed) => {
-                drop(names);
-                self.note_out(key);
-                *out = Some(self.removed(*key, removed));
-            }
-            Moved::To { key: renamed, .. } if self.has_handles => self.note_name(&mut names, key, renamed.stamp()),
-            Moved::To { .. } => {}
+    /// Makes a call of the store after which an entry has another stamp, or another place under the same user's key. A handle that
+    /// finds the first one ended waits until the next is noted.
+    fn rename(&mut self, key: &Key, call: impl FnOnce(&mut SizedStore<T, Keeper>) -> Renamed) -> Result<(), CoreError> {
+        let mut names = self.shared.names();
+        let renamed = call(&mut self.store)?;
+        if self.has_handles {
+            let place = self.store.store().place(&key.entry());
+            names.extend(place.map(|place| (key.name, Name::of(&place, renamed.stamp()))));
+            self.has_names = true;
         }
         Ok(())
-    }
-
-    /// Notes where an entry is, and its stamp.
-    fn note_name(&mut self, names: &mut Names, key: &Key, stamp: u32) {
-        let name = self.store.place(&key.entry()).map(|place| Name::of(&place, stamp));
-        names.extend(name.map(|name| (key.name, name)));
-        self.has_names = true;
-    }
-
-    #[inline(always)]
-    fn removed(&self, key: Key, removed: Removed<T>) -> Expired<T> {
-        Expired { key, data: removed.value, tick: removed.deadline, clock: self.shared.clock }
     }
 
     /// Takes the entry of a key out, none where there is none.
     #[inline]
     pub fn remove(&mut self, key: &Key) -> Option<Expired<T>> {
         let removed = self.store.remove(&self.entry(key)?).ok()?;
-        self.note_out(key);
         Some(self.removed(*key, removed))
+    }
+
+    /// Notes that an entry was taken out, and tells it as its user knows it.
+    #[inline(always)]
+    fn removed(&mut self, key: Key, removed: Removed<T>) -> Expired<T> {
+        self.note_out(&key);
+        Expired { key, data: removed.value, tick: removed.deadline, clock: self.shared.clock }
     }
 
     /// Notes that an entry came out or was removed.
@@ -230,8 +202,8 @@ impl<T> Entries<T> {
     pub fn deadline(&self, key: &Key) -> Option<u64> {
         let entry = self.entry(key)?;
         // The slot may have another entry by now.
-        self.store.get(&entry)?;
-        Some(self.look(&self.store.place(&entry)?)?.1)
+        self.store.store().get(&entry)?;
+        Some(self.look(&self.store.store().place(&entry)?)?.1)
     }
 
     /// The name of the live entry that is at a place, and its deadline in force.
@@ -252,27 +224,29 @@ impl<T> Entries<T> {
     /// The entries of a core, those among them that were cancelled and not yet freed: where each is, and the id that its user has.
     fn linked(&self, core: usize) -> impl Iterator<Item = (EntryId, EntryId)> + '_ {
         let mut slot = 0;
-        std::iter::from_fn(move || {
-            let (place, entry) = self.linked_from(core, slot)?;
-            slot = place.index() as usize + 1;
-            Some((place, entry))
-        })
+        std::iter::from_fn(move || self.next_linked(core, &mut slot))
     }
 
-    /// The first of them from a slot on.
-    fn linked_from(&self, core: usize, slot: usize) -> Option<(EntryId, EntryId)> {
-        let place = self.store.cores().get(core)?.entry_from(slot, usize::MAX)?;
-        Some((place, self.store.entry_from(core, place.index() as usize, 1)?))
+    /// The first of them from a slot on, behind which the slot is then.
+    fn next_linked(&self, core: usize, slot: &mut usize) -> Option<(EntryId, EntryId)> {
+        let place = self.cores().get(core)?.entry_from(*slot, usize::MAX)?;
+        *slot = place.index() as usize + 1;
+        Some((place, self.store.store().entry_from(core, *slot - 1, 1)?))
     }
 
-    /// All cores, by their places.
-    fn cores(&self) -> impl Iterator<Item = &Core<T>> {
-        (0..self.store.cores().count()).filter_map(|place| self.store.cores().get(place))
+    #[inline(always)]
+    fn cores(&self) -> &Cores<T, Keeper> {
+        self.store.store().cores()
+    }
+
+    /// Each core, by its place.
+    fn each_core(&self) -> impl Iterator<Item = &Core<T>> {
+        (0..self.cores().count()).filter_map(|place| self.cores().get(place))
     }
 
     /// The entries, those among them that were cancelled and not yet freed.
     pub fn len(&self) -> usize {
-        self.cores().map(DelayCore::len).sum()
+        self.each_core().map(DelayCore::len).sum()
     }
 
     /// The entries that handles cancelled and that weren't freed yet.

@@ -11,9 +11,8 @@ use tokio::time::Instant;
 /// polls, or waits. It serves entries that came after it, too, and may outlive its queue, whose entries have ended then.
 ///
 /// A call is a load and one atomic step. A lock is taken for an entry that was reset before the queue's first handle was made, or
-/// to a sooner deadline since, or that was moved. [`compact`](crate::DelayQueue::compact) and a worn slot move entries. So does a
-/// poll, if a handle extends the entry that [`peek`](crate::DelayQueue::peek) named just as the poll is about to give it. The
-/// owner holds that lock for the moment of such a call.
+/// to a sooner deadline since, or that was moved: [`compact`](crate::DelayQueue::compact) and a worn slot move entries. The owner
+/// holds that lock for the moment of such a call.
 ///
 /// A handle that outlives its queue holds on to 8 bytes for each slot that the queue had.
 ///

@@ -238,8 +238,8 @@ impl<T> DelayQueue<T> {
             }
             match piece {
                 Ok(Piece::Answer(Turn::Out(out))) => return Poll::Ready(Some(self.entries.expired(out))),
-                Ok(Piece::Answer(rest)) => {
-                    let Some(wake) = self.entries.wake(&rest, self.reached) else {
+                Ok(Piece::Answer(_)) => {
+                    let Some(wake) = self.entries.wake(self.reached) else {
                         self.timer.note_task(cx.waker());
                         self.arm(NEVER);
                         return Poll::Ready(None);

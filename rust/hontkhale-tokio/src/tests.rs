@@ -54,7 +54,7 @@ fn polled<T>(entries: &mut Entries<T>, now: u64, steps: u32) -> Found<T> {
                 entries.note_expired(&out);
                 return Found::Out(entries.expired(out));
             }
-            Piece::Answer(rest) => return entries.wake(&rest, now).map_or(Found::Idle, Found::Waiting),
+            Piece::Answer(_) => return entries.wake(now).map_or(Found::Idle, Found::Waiting),
             Piece::Working => budget.grow(),
         }
     }

@@ -65,7 +65,7 @@ impl<T> Debug for PlainTurn<T> {
 mod with_std {
     use crate::core::Words;
     use crate::delay_queue::{DelayQueue, Drain, InsertError, Iter, Timeout, TryIter};
-    use crate::growing::{Cores, Folds, Store};
+    use crate::growing::{Cores, Folds, SizedStore, Store};
     use crate::words::directory::{Clerk, Directory};
 
     shows! {
@@ -80,6 +80,7 @@ mod with_std {
         [T, W: Words] Cores<T, W> { .count() .next_wake() }
         [W: Words] Folds<W> {}
         [T, W: Words] Store<T, W> {}
+        [T, W: Words] SizedStore<T, W> { .hint() }
     }
 
     impl<T, W: Words> Default for Cores<T, W> {

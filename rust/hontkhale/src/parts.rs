@@ -112,5 +112,5 @@ pub mod directory {
 #[cfg(feature = "std")]
 #[doc(hidden)]
 pub mod growing {
-    pub use crate::growing::{Cores, Folds, Moved, NextDeadline, Store, TakeError};
+    pub use crate::growing::{Cores, Folds, Moved, NextDeadline, SizedStore, Sizing, Store, TakeError};
 }

@@ -9,8 +9,8 @@
 //! to it, it is itself the due list, and nothing moves.
 //!
 //! `arrive` opens a list as it is: its circle is hung on the head of the due list, which is empty then, and each of its
-//! indexes counts from now on as filed at that tick. So it takes the same time, however full the list is. Who takes them
-//! off one by one links each anew where its own deadline puts it, and may stop after any of them.
+//! indexes counts from now on as filed at that tick. So it takes the same time, however full the list is. Who takes
+//! them off one by one links each anew where its own deadline puts it, and may stop after any of them.
 //!
 //! The lists are linked by indexes in one row that is made with the wheel, so no other call takes memory. To link, to
 //! unlink and to take a due index off needs no search, and no test of where a list ends. The next list is found in at

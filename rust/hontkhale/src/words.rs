@@ -15,12 +15,10 @@ mod keeper;
 #[cfg(all(feature = "std", feature = "all-parts"))]
 mod many;
 mod open;
-mod parts;
 mod seated;
 #[cfg(all(feature = "std", feature = "all-parts"))]
 mod shards;
 pub(crate) mod table;
-mod tries;
 
 pub use caller::Caller;
 pub use front::{numbered_queue, shared_queue};

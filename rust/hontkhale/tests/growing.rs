@@ -67,14 +67,15 @@ mod drawn {
         (12, store::Run::step),
         (4, store::Run::reap),
         (14, store::Run::poll),
-        (2, store::Run::peek),
+        (4, store::Run::hint),
         (8, store::Run::take_deferred),
-        (4, store::Run::sweep_some),
+        (4, store::Run::sweep),
         (4, store::Run::names),
         (8, store::Run::exchange),
         (1, store::Run::take_refused),
-        (10, store::Run::take_drained),
-        (4, store::Run::open),
+        (10, store::Run::take_needless),
+        (1, store::Run::close),
+        (6, store::Run::find_room),
     ];
 
     /// How many calls are made of one row.
@@ -103,7 +104,7 @@ mod drawn {
         }
     }
 
-    // promise: core.next-key growing.by-id growing.notes growing.remove-if-due growing.upkeep
+    // promise: core.next-key growing.by-id growing.notes growing.remove-if-due growing.upkeep growing.sizing growing.hint
     #[test]
     fn drawn_calls_of_a_store_answer_as_the_model_does() {
         for round in 0..calls().div_ceil(ROUND) {

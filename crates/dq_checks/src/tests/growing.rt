@@ -2,13 +2,13 @@
 
 use super::same;
 use dq_core::{CoreConfig, CoreError, DelayCore, Piece, Turn, VecWords};
-use dq_growing::{Cores, Moved, NextDeadline, Store, TakeError};
+use dq_growing::{Moved, NextDeadline, SizedStore, TakeError};
 use dq_ticks::{EntryId, Key};
 use std::alloc::Allocator;
 use std::process::Abort;
 use std::test::Fail;
 
-type Kept<A> = Store<char, VecWords<A>, A>;
+type Kept<A> = SizedStore<char, VecWords<A>, A>;
 
 fn core_of<A: Allocator + Clone>(
     heap: &A,
@@ -75,19 +75,17 @@ fn comes_out<A: Allocator + Clone>(
 }
 
 fn keeps_ids<A: Allocator + Clone>(rt: &impl Abort, heap: &A) -> Result<(), Fail> {
-    let Ok(one) = heap.clone() else {
+    let Ok(alloc) = heap.clone() else {
         return Ok(());
     };
-    let Ok(other) = heap.clone() else {
+    let Ok(mut store) = SizedStore::new(alloc, 1) else {
         return Ok(());
     };
-    let Ok(mut store) = Store::new(Cores::new(one), other) else {
-        return Ok(());
-    };
-    let _ = store.take_in(core_of(heap, 0, 1)?);
+    let _ = store.bring(core_of(heap, 0, 1)?);
     let first = inserted(&mut store, 'a', 5)?.entry();
     let second = inserted(&mut store, 'b', 9)?.entry();
-    let _ = store.take_in(core_of(heap, 1, 1)?);
+    // The open core has no free slot, so the next one is open.
+    let _ = store.bring(core_of(heap, 1, 1)?);
 
     moves(rt, &mut store, &first, NextDeadline::Same, 5);
     same(rt, "deadline", store.deadline(&first), Ok(5));
@@ -98,8 +96,8 @@ fn keeps_ids<A: Allocator + Clone>(rt: &impl Abort, heap: &A) -> Result<(), Fail
         store.deadline(&there),
         Err(CoreError::Missing),
     );
-    same(rt, "place", store.place(&first), Some(there));
-    same(rt, "another's place", store.place(&there), None);
+    same(rt, "place", store.store().place(&first), Some(there));
+    same(rt, "another's place", store.store().place(&there), None);
 
     // The slot of the second has no stamp left, so it goes on in the open core.
     let reset = store.reset(&second, 3).0.map(|key| key.entry());
@@ -110,14 +108,14 @@ fn keeps_ids<A: Allocator + Clone>(rt: &impl Abort, heap: &A) -> Result<(), Fail
     same(
         rt,
         "drained",
-        store.take_drained().map(|core| core.shard()),
+        store.take_needless().map(|core| core.shard()),
         Some(0),
     );
     same(
         rt,
         "a noted number",
         store
-            .take_in(core_of(heap, 0, 1)?)
+            .bring(core_of(heap, 0, 1)?)
             .map_err(|refused| refused.0),
         Err(TakeError::UsedNumber),
     );
@@ -125,11 +123,16 @@ fn keeps_ids<A: Allocator + Clone>(rt: &impl Abort, heap: &A) -> Result<(), Fail
         .remove(&first)
         .map(|removed| (removed.key.entry(), removed.value));
     same(rt, "remove", removed, Ok((first, 'a')));
-    same(rt, "no place but its own", store.place(&first), Some(first));
+    same(
+        rt,
+        "no place but its own",
+        store.store().place(&first),
+        Some(first),
+    );
     same(
         rt,
         "a free number",
-        store.take_in(core_of(heap, 0, 1)?).is_ok(),
+        store.bring(core_of(heap, 0, 1)?).is_ok(),
         true,
     );
     Ok(())

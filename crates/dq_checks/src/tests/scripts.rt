@@ -1,4 +1,5 @@
-//! Whole scripts, from bytes to bytes: every command, and refused memory. Those of faults, readers and writers are in plain Rust.
+//! Whole scripts, from bytes to bytes: every command, and refused memory. Those of faults, readers and writers are in
+//! plain Rust.
 
 mod memory;
 mod table;

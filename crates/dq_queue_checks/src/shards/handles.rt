@@ -1,4 +1,5 @@
-//! The worked cases of handles: how they are made, counted, refused, given back and audited, and called inside of `lend`.
+//! The worked cases of handles: how they are made, counted, refused, given back and audited, and called inside of
+//! `lend`.
 
 use super::keys::Answer::{Given, Gone, Idle, Out, Refused, Until};
 use super::keys::Call::{Cancel, Deadline, Extend, Insert, Poll, Remove};

@@ -15,8 +15,8 @@ use std::test::Fail;
 
 type Heap<'all> = RefusingHeap<&'all LocalHeap>;
 
-// A queue of letters and a handle of it, whose memory is of one heap. Their calls are proved once for all heaps, which is
-// quicker than for the refusing one alone.
+// A queue of letters and a handle of it, whose memory is of one heap. Their calls are proved once for all heaps, which
+// is quicker than for the refusing one alone.
 type Letters<A> = SharedDelayQueue<char, A>;
 
 type Hand<A> = Handle<A>;

@@ -11,8 +11,8 @@
 //!
 //! `lock` compares once whether the shard stands at the place, and waits for ever where another was put there. `leave`
 //! lets the lock go, wakes who has left, and drops what is deferred; `unlock` is for what drops nothing. A value's drop
-//! is a user's code: it may call the queue, and it may panic. So it runs while the lock is free, and where it panics the
-//! shard is whole.
+//! is a user's code: it may call the queue, and it may panic. So it runs while the lock is free, and where it panics
+//! the shard is whole.
 ghost use Rattle.std.specs.Prelude.{◌≡◌, ℕ, ◌+◌, ◌<◌, ◌≤◌, ◌^◌, true, IfNone, IfSome, IfOk, IfErr, IsTrue, vec_len, vec_capacity};
 ghost use Rattle.std.specs.Sync.Mutex.{mutex_guard_value};
 ghost use Rattle.dq_core.specs.Calls.{IsConfig};

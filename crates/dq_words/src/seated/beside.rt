@@ -38,8 +38,8 @@ impl<A: Allocator> Seated<A> {
 }
 
 impl<A: Allocator> OpenWords<A> {
-    // What the seats of two calls know together: one of them is given up, so they aren't the same. Three loads, of which
-    // neither records any.
+    // What the seats of two calls know together: one of them is given up, so they aren't the same. Three loads, of
+    // which neither records any.
     pub(crate) fn tell(&self, one: &mut Receipt, other: Receipt)
         requires one { one.old.table ≡ self.now.table }
         requires other { other.table ≡ self.now.table }

@@ -3,8 +3,7 @@
 use super::Entries;
 use crate::budget::Budget;
 use crate::key::{Expired, Key};
-use hontkhale::parts::growing::NextDeadline;
-use hontkhale::parts::owner::{self, CoreError, EntryId, Piece, Turn};
+use hontkhale::parts::owner::{self, CoreError, EntryId, Piece};
 use std::sync::PoisonError;
 
 /// After each tick.
@@ -68,18 +67,15 @@ impl<T> Entries<T> {
     /// names the start of a slot where the hint is exact; and of several cores it may name a tick though what was to come then has
     /// left.
     #[inline]
-    pub fn wake(&mut self, rest: &Turn<T>, reached: u64) -> Option<u64> {
+    pub fn wake(&mut self, reached: u64) -> Option<u64> {
         self.tick = self.tick.max(reached);
-        let wake = match rest {
-            Turn::Waiting { next } if self.store.cores().count() == 1 => Some(*next),
-            Turn::Waiting { next } => {
-                let wake = self.store.cores().next_wake();
-                wake.map(|wake| if wake > reached { wake } else { *next })
-            }
-            _ => None,
-        };
-        self.hint = wake.map_or(NEVER, |wake| self.hint.max(wake));
-        wake.map(|_| self.hint)
+        let mut wake = self.store.hint();
+        if wake < NEVER && self.cores().count() > 1 {
+            let least = self.cores().next_wake().unwrap_or(NEVER);
+            wake = if least > reached { least } else { wake };
+        }
+        self.hint = self.hint.max(wake);
+        (wake < NEVER).then_some(self.hint)
     }
 
     /// Whether the entry is due that a peek named.
@@ -92,26 +88,18 @@ impl<T> Entries<T> {
     /// entries of one millisecond the store might give another.
     #[cold]
     pub fn take_peeked(&mut self) -> Option<Expired<T>> {
-        let peeked = self.peeked.get_mut().unwrap_or_else(PoisonError::into_inner).take();
-        let (key, deadline) = peeked.filter(|(key, deadline)| self.deadline(key) == Some(*deadline))?;
+        let (key, deadline) = self.peeked.get_mut().unwrap_or_else(PoisonError::into_inner).take()?;
         after_look();
-        let mut out = None;
-        if self.has_handles {
-            // A handle may extend it until it is taken out, and then it goes on.
-            let _ = self.carry(&key, NextDeadline::SameIfAfter(deadline), &mut out);
-        } else {
-            out = self.remove(&key);
-        }
-        if out.is_some() {
-            self.tick = self.tick.max(deadline);
-        }
-        out
+        // A handle may extend it until it is taken out, and then it stays.
+        let removed = self.store.remove_if_due(&key.entry(), deadline).ok()??;
+        self.tick = self.tick.max(deadline);
+        Some(self.removed(key, removed))
     }
 
     /// Whether a core has a step to make before a tick.
     pub fn has_step_before(&self, tick: u64) -> bool {
         asked();
-        self.store.cores().next_wake().is_some_and(|next| next < tick)
+        self.cores().next_wake().is_some_and(|next| next < tick)
     }
 
     /// Whether handles left something for the owner.
@@ -172,7 +160,7 @@ impl<T> Entries<T> {
         let is_first = |(key, deadline): &(Key, u64)| self.deadline(key) == Some(*deadline);
         // Nothing sooner was put in since, and no deadline was lowered.
         if !peeked.as_ref().is_some_and(is_first) {
-            let firsts = (0..self.store.cores().count()).filter_map(|core| self.first_in(core));
+            let firsts = (0..self.cores().count()).filter_map(|core| self.first_in(core));
             let first = firsts.min_by_key(|(_, deadline)| *deadline);
             *peeked = first.map(|(entry, deadline)| (self.key(&entry), deadline));
         }
@@ -181,12 +169,12 @@ impl<T> Entries<T> {
 
     /// The entry of a core that has the least deadline, and that deadline.
     fn first_in(&self, core: usize) -> Option<(EntryId, u64)> {
-        let queue = self.store.cores().get(core)?;
+        let queue = self.cores().get(core)?;
         let place = queue.peek()?.entry();
         match self.look(&place) {
             // It is scheduled first, and none has a deadline before the tick at which it is scheduled.
             Some((_, deadline)) if queue.filed(&place) == Some(deadline) => {
-                Some((self.store.first_in(core)?, deadline))
+                Some((self.store.store().first_in(core)?, deadline))
             }
             // A handle extended or cancelled it, or a slot is gone through whose entries are scheduled at its start.
             _ => {

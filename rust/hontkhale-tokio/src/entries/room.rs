@@ -2,20 +2,14 @@
 
 use super::{Core, Entries};
 use crate::budget::Budget;
-use hontkhale::parts::growing::NextDeadline;
+use hontkhale::parts::growing::{Moved, NextDeadline};
 use hontkhale::parts::owner::{CoreConfig, DelayCore, Keeper, CAPACITY_LIMIT};
 
 /// The slots of the first core.
-const FIRST_SLOTS: usize = 64;
+pub(super) const FIRST_SLOTS: usize = 64;
 /// As many cores as a queue may have at a time.
 const CORES: usize = 65_536;
 const MEMORY: &str = "memory for more entries";
-
-/// How many slots are free.
-#[inline(always)]
-fn free<T>(core: &Core<T>) -> usize {
-    core.capacity() - core.len() - core.worn()
-}
 
 /// How many slots a core has for so many entries: up to an eighth more, so that folded ones are of few sizes and are used again.
 fn rounded(slots: usize) -> usize {
@@ -24,26 +18,9 @@ fn rounded(slots: usize) -> usize {
 }
 
 impl<T> Entries<T> {
-    /// Whether the open core has a free slot in which no value waits for its drop.
-    #[inline(always)]
-    pub(super) fn has_room(&self) -> bool {
-        self.open_core().is_some_and(|open| free(open) > open.deferred())
-    }
-
-    /// The core into which entries are put, none where it is yet to be made.
-    #[inline(always)]
-    fn open_core(&self) -> Option<&Core<T>> {
-        self.store.cores().get(self.store.cores().opened())
-    }
-
-    /// Opens the core that has the most room, or else a new one; then those that have drained are worn, and go.
+    /// Makes a core, since none has a free slot in which no value waits for its drop: those that have drained are worn, and go.
     #[cold]
-    pub(super) fn make_room(&mut self) {
-        let rooms = self.cores().map(|core| free(core).saturating_sub(core.deferred())).enumerate();
-        if let Some((place, 1..)) = rooms.max_by_key(|(_, room)| *room) {
-            self.store.open(place);
-            return;
-        }
+    pub(super) fn grow(&mut self) {
         self.fold_drained();
         let slots = if self.promised > 0 { self.promised.min(CAPACITY_LIMIT) } else { self.next_slots() };
         self.add_core(slots);
@@ -60,7 +37,7 @@ impl<T> Entries<T> {
     /// # Panics
     /// Where there can't be so many, before any memory is taken; where memory is refused.
     pub(super) fn add_slots(&mut self, slots: usize) {
-        let most = (CORES - self.store.cores().count()).saturating_mul(CAPACITY_LIMIT);
+        let most = (CORES - self.cores().count()).saturating_mul(CAPACITY_LIMIT);
         assert!(self.promised <= most && slots <= most - self.promised, "capacity overflow");
         let first = slots.min(CAPACITY_LIMIT);
         if first < slots {
@@ -73,9 +50,9 @@ impl<T> Entries<T> {
         }
     }
 
-    /// Adds a core of so many slots, which is open then.
+    /// Adds a core of so many slots, which is open then where no slot of the open one is free.
     fn add_core(&mut self, slots: usize) {
-        assert!(self.store.cores().count() < CORES, "max entries exceeded");
+        assert!(self.cores().count() < CORES, "max entries exceeded");
         let slots = rounded(slots);
         let mut core = match self.folds.take(slots) {
             Some(folded) => folded.unfold().expect(MEMORY),
@@ -83,7 +60,7 @@ impl<T> Entries<T> {
         };
         // What is put in is scheduled from here on.
         let _idle = core.poll_deferring(self.tick);
-        self.store.take_in(core).map_err(|(refused, _)| refused).expect(MEMORY);
+        self.store.bring(core).map_err(|(refused, _)| refused).expect(MEMORY);
     }
 
     fn fresh_core(&mut self, slots: usize) -> Core<T> {
@@ -108,17 +85,17 @@ impl<T> Entries<T> {
 
     /// The slots that aren't worn, those among them whose cores are yet to be added.
     pub fn capacity(&self) -> usize {
-        self.promised + self.cores().map(|core| core.capacity() - core.worn()).sum::<usize>()
+        self.promised + self.each_core().map(|core| core.capacity() - core.worn()).sum::<usize>()
     }
 
     /// The worn slots.
     pub fn worn(&self) -> usize {
-        self.cores().map(DelayCore::worn).sum()
+        self.each_core().map(DelayCore::worn).sum()
     }
 
     /// Makes room for so many more entries.
     pub fn reserve(&mut self, additional: usize) {
-        let free = self.promised + self.cores().map(free).sum::<usize>();
+        let free = self.capacity() - self.len();
         if free < additional {
             self.add_slots((additional - free).max(self.next_slots()));
         }
@@ -127,8 +104,9 @@ impl<T> Entries<T> {
     /// Takes every entry out. Where a value's drop panics, the entries that are left stay as they are.
     pub fn clear(&mut self) {
         self.heed_news(&mut Budget::of(u32::MAX));
-        for core in 0..self.store.cores().count() {
-            while let Some((_, entry)) = self.linked_from(core, 0) {
+        for core in 0..self.cores().count() {
+            let mut slot = 0;
+            while let Some((_, entry)) = self.next_linked(core, &mut slot) {
                 if self.remove(&self.key(&entry)).is_none() {
                     // A handle has cancelled it just now.
                     let _ = self.store.reap(&entry);
@@ -137,16 +115,10 @@ impl<T> Entries<T> {
         }
     }
 
-    /// Lets the empty cores go, the open one too.
+    /// Lets the empty cores go, the open one too: the next insert opens the core that has the most room.
     pub fn shrink_to_fit(&mut self) {
         self.promised = 0;
-        if self.open_core().map_or(true, DelayCore::is_empty) {
-            let filled = self.cores().position(|core| !core.is_empty());
-            match filled {
-                Some(filled) => _ = self.store.open(filled),
-                None => self.store.close(),
-            }
-        }
+        self.store.close();
         self.fold_drained();
         self.shared.names().shrink_to_fit();
     }
@@ -156,33 +128,28 @@ impl<T> Entries<T> {
     pub fn compact(&mut self) {
         self.heed_news(&mut Budget::of(u32::MAX));
         let is_sparse = |core: &&Core<T>| !core.is_empty() && 4 * core.len() < core.capacity();
-        let mut sparse: Vec<&Core<T>> = self.cores().filter(is_sparse).collect();
+        let mut sparse: Vec<&Core<T>> = self.each_core().filter(is_sparse).collect();
         // What gives back the most for an entry that is moved goes first.
         sparse.sort_by_key(|core| CAPACITY_LIMIT * core.len() / core.capacity());
         let mut entries = sparse.iter().map(|core| core.len()).sum();
         let numbers: Vec<u32> = sparse.into_iter().map(DelayCore::shard).collect();
-        if entries > 0 {
-            self.add_core(CAPACITY_LIMIT.min(entries));
-        }
+        self.store.close();
         for number in numbers {
-            self.leave_core(number, &mut entries);
+            let Some(core) = self.each_core().position(|core| core.shard() == number) else { continue };
+            let mut slot = 0;
+            while let Some((_, entry)) = self.next_linked(core, &mut slot) {
+                if self.store.store().next_key().is_none() {
+                    self.add_core(CAPACITY_LIMIT.min(entries));
+                }
+                // A handle may have cancelled it meanwhile.
+                let _ = self.rename(&self.key(&entry), |store| match store.relocate(&entry, NextDeadline::Same).0? {
+                    Moved::To { key, .. } => Ok(key),
+                    Moved::Out(_) => unreachable!("it has the same deadline"),
+                });
+                entries = entries.saturating_sub(1).max(1);
+            }
             self.fold_drained();
         }
         self.shrink_to_fit();
-    }
-
-    /// Moves the entries of a core to new ones: of so many entries, which are left to be moved.
-    fn leave_core(&mut self, number: u32, entries: &mut usize) {
-        let Some(core) = self.cores().position(|core| core.shard() == number) else { return };
-        let mut slot = 0;
-        while let Some((place, entry)) = self.linked_from(core, slot) {
-            slot = place.index() as usize + 1;
-            if !self.has_room() {
-                self.add_core(CAPACITY_LIMIT.min(*entries));
-            }
-            // A handle may have cancelled it meanwhile.
-            let _ = self.carry_to_open(&self.key(&entry), NextDeadline::Same, &mut None);
-            *entries = entries.saturating_sub(1).max(1);
-        }
     }
 }

@@ -58,8 +58,8 @@ impl Hint {
 
 /// The hints of all places, for any thread.
 ///
-/// A hint may have changed by the time at which it is known, and nothing that is proved depends on what is found: whoever
-/// finds that something is due takes the place's lock, and the leader looks at all hints before it sleeps.
+/// A hint may have changed by the time at which it is known, and nothing that is proved depends on what is found:
+/// whoever finds that something is due takes the place's lock, and the leader looks at all hints before it sleeps.
 pub struct Hints {
     pub(crate) table: Arc<Table>,
 }

@@ -252,8 +252,8 @@ impl<W> Turns<W> {
         Ok(Seat { at, number })
     }
 
-    /// Falls asleep until it is called, and tells the tick at which it looks again by itself: one that leads, at the one
-    /// that is given; one that follows, once a task has waited, when the leader is to have acted, or after a while.
+    /// Falls asleep until it is called, and tells the tick at which it looks again by itself: one that leads, at the
+    /// one that is given; one that follows, once a task has waited, when the leader is to have acted, or after a while.
     /// Refused, with its `W`, where it has lost its seat or sleeps already, where the bell is closed, and where the one
     /// that leads found a hint before its tick.
     pub fn sleep(&mut self, seat: Seat, until: u64, now: u64, call: W) -> Result<u64, W> {

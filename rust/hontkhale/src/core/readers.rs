@@ -75,8 +75,8 @@ impl<T, W: Words> DelayCore<T, W> {
         self.slots.stamp(index)
     }
 
-    /// Whether an entry of that name was here, or its stamp has been given: no insert gives that name. The number of the
-    /// queue isn't asked.
+    /// Whether an entry of that name was here, or its stamp has been given: no insert gives that name. The number of
+    /// the queue isn't asked.
     pub fn is_past(&self, entry: &EntryId) -> bool {
         if entry.born() > self.stamp_at(entry.index() as usize) {
             return false;

@@ -26,19 +26,19 @@ pub(crate) const ROUND: usize = TURNS * STEPS as usize;
 
 /// How many receives of a thread go their own way once one finds the lock held of the shard that is due first. The one after them
 /// waits for the lock of the shard that is due first then, so no shard is passed over for good.
-const OWN_WAY: u32 = 16;
+const RECEIVES: u32 = 16;
 
 /// How a thread receives from queues of several shards.
 #[derive(Clone, Copy)]
-struct Turn {
+struct OwnWay {
     /// How many of its next receives go their own way, and one more for the one after them, which waits. 0 where none does.
-    own: u32,
+    left: u32,
     /// Where they begin if the thread has no route: where it found a lock free.
     from: usize,
 }
 
 thread_local! {
-    static TURN: Cell<Turn> = const { Cell::new(Turn { own: 0, from: 0 }) };
+    static OWN_WAY: Cell<OwnWay> = const { Cell::new(OwnWay { left: 0, from: 0 }) };
 }
 
 /// What some steps came to.
@@ -50,10 +50,10 @@ pub(crate) enum Step<R> {
     Rests,
 }
 
-/// A thread's place in the line of those that wait.
-struct Place<'q, T>(&'q Shared<T>, Option<Seat>);
+/// A thread's seat in the line of those that wait.
+struct InLine<'q, T>(&'q Shared<T>, Option<Seat>);
 
-impl<T> Drop for Place<'_, T> {
+impl<T> Drop for InLine<'_, T> {
     fn drop(&mut self) {
         self.0.common.leave(&mut self.1);
     }
@@ -114,11 +114,11 @@ impl<T> Shared<T> {
 
     /// What `take` takes; none once it has more to do, values are to be dropped, or the wait is over.
     fn wait_in_line<R>(&self, until: Option<Instant>, take: &mut impl FnMut() -> Step<R>) -> Option<R> {
-        let mut place = Place(self, None);
+        let mut thread = InLine(self, None);
         loop {
-            let thread = Wakes::Thread(thread::current());
+            let wakes = Wakes::Thread(thread::current());
             let (until_due, now) = (self.common.least_hint(), self.common.time.tick());
-            if let Some(tick) = self.common.receivers.sleep(&mut place.1, thread, until_due, now) {
+            if let Some(tick) = self.common.receivers.sleep(&mut thread.1, wakes, until_due, now) {
                 self.park(self.common.time.moment_of(tick).into_iter().chain(until).min());
             }
             match take() {
@@ -145,35 +145,35 @@ impl<T> Shared<T> {
     /// A shard that has something due: the one that is due first, unless receivers would wait there for each other's locks.
     #[inline(always)]
     fn lock_due(&self, now: u64) -> Option<Locked<'_, T>> {
-        if TURN.get().own == 0 {
+        if OWN_WAY.get().left == 0 {
             let at = self.common.most_due(now)?;
             if let Some(shard) = self.try_lock(at) {
                 return Some(shard);
             }
         }
         // It gives a number, so that no guard has to lie in memory.
-        let at = self.next_by_turn(now)?;
+        let at = self.next_own_way(now)?;
         Some(self.lock(at))
     }
 
     #[cold]
-    fn next_by_turn(&self, now: u64) -> Option<usize> {
-        let turn = TURN.get();
-        if turn.own == 1 {
-            TURN.set(Turn { own: 0, ..turn });
+    fn next_own_way(&self, now: u64) -> Option<usize> {
+        let way = OWN_WAY.get();
+        if way.left == 1 {
+            OWN_WAY.set(OwnWay { left: 0, ..way });
             return self.common.most_due(now);
         }
         // The first that is due and whose lock is free, from the one on by which the thread's inserts are routed.
         let shards = self.shards.len();
-        let from = ROUTE.get().unwrap_or(turn.from) % shards;
+        let from = ROUTE.get().unwrap_or(way.from) % shards;
         let mut due = (from..shards)
             .chain(0..from)
             .filter(|at| self.common.hint(*at) <= now)
             .peekable();
         let first = *due.peek()?;
         let from = due.find(|at| self.shards[*at].try_lock().is_some()).unwrap_or(first);
-        let own = turn.own.checked_sub(1).unwrap_or(OWN_WAY);
-        TURN.set(Turn { own, from });
+        let left = way.left.checked_sub(1).unwrap_or(RECEIVES);
+        OWN_WAY.set(OwnWay { left, from });
         Some(from)
     }
 
@@ -404,7 +404,7 @@ impl<T> Iterator for Drain<'_, T> {
 
 #[cfg(test)]
 mod tests {
-    use super::{Step, OWN_WAY, POLLED_WHOLE, ROUND, ROUNDS, STEPS};
+    use super::{Step, POLLED_WHOLE, RECEIVES, ROUND, ROUNDS, STEPS};
     use crate::delay_queue::shared::Shared;
     use crate::index::looked;
     use crate::locks::taken;
@@ -644,7 +644,7 @@ mod tests {
                 scope.spawn(move || {
                     let _ = tells.send(receive(queue));
                     gone.recv().expect("the lock is let go");
-                    (0..OWN_WAY).for_each(|_| _ = tells.send(receive(queue)));
+                    (0..RECEIVES).for_each(|_| _ = tells.send(receive(queue)));
                 });
                 assert_eq!(told.recv_timeout(Duration::from_secs(20)).as_deref(), Ok("2"));
                 drop(held);
@@ -652,7 +652,7 @@ mod tests {
                 let came: Vec<String> = told.iter().collect();
                 let others = (3..).map(|tick: u32| tick.to_string());
                 let last = iter::once("1".to_string());
-                assert_eq!(came, others.take(OWN_WAY as usize - 1).chain(last).collect::<Vec<_>>());
+                assert_eq!(came, others.take(RECEIVES as usize - 1).chain(last).collect::<Vec<_>>());
             });
         }
     }

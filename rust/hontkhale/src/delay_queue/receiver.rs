@@ -77,7 +77,7 @@ use std::time::{Duration, Instant};
 #[must_use = "a receiver gives nothing until it is asked"]
 pub struct Receiver<T> {
     shared: Arc<Shared<T>>,
-    /// Its place in the line of receivers, where it has one.
+    /// Its seat in the line of receivers, where it has one.
     seat: Option<Seat>,
     wake_at: Option<Instant>,
 }
@@ -179,7 +179,7 @@ impl<T> Receiver<T> {
                     return Poll::Ready(Some(expired));
                 }
                 Step::Works => {}
-                // Nobody sleeps any more, and no place in line is of use.
+                // Nobody sleeps any more, and no seat in line is of use.
                 Step::Rests if is_closed => return Poll::Ready(None),
                 // More is left to do, before it sleeps.
                 Step::Rests if shared.maintain_all() => break,

@@ -174,9 +174,9 @@ impl Common {
     }
 
     /// Has a receiver leave the line where it is there.
-    pub fn leave(&self, place: &mut Option<Seat>) {
-        if place.is_some() {
-            self.receivers.leave(place, self.tick_of_wake());
+    pub fn leave(&self, seat: &mut Option<Seat>) {
+        if seat.is_some() {
+            self.receivers.leave(seat, self.tick_of_wake());
         }
     }
 

@@ -5,7 +5,7 @@
 //! runs only if its runtime polls it: so a task that leads is to act by its tick and a grace, or, once called, within the grace.
 //! As soon as a task has waited in a queue, those that follow sleep for a second at most, and behind a task that leads only until
 //! it is to have acted. Who finds then that it hasn't takes the lead from it, and wakes it: it joins again where it is polled.
-//! Each place in line has a number, so that one who has lost a place touches nobody else's.
+//! Each stay in line has a seat of a number of its own, so that one who has lost a seat touches nobody else's.
 
 pub(crate) use crate::bell::Seat;
 use crate::bell::{Call, Hint, Hints, Rung, Turns};
@@ -89,15 +89,15 @@ impl Waiting {
         self.0.lock().unwrap_or_else(PoisonError::into_inner)
     }
 
-    /// Puts a receiver to sleep, which joins the line where it has no place there, and tells the tick at which it looks again by
+    /// Puts a receiver to sleep, which joins the line where it has no seat there, and tells the tick at which it looks again by
     /// itself. None where it is to look again now: the queue is closed, it leads and something is due before `until`, or it has
     /// called others.
-    pub fn sleep(&self, place: &mut Option<Seat>, wakes: Wakes, until: u64, now: u64) -> Option<u64> {
+    pub fn sleep(&self, its: &mut Option<Seat>, wakes: Wakes, until: u64, now: u64) -> Option<u64> {
         let is_task = matches!(wakes, Wakes::Task(_));
         let mut waits = self.waits();
         // Those that follow sleep without an end, until a task has waited.
         let is_first_task = is_task && !waits.turns.has_tasks();
-        let seat = match *place {
+        let seat = match *its {
             Some(seat) if waits.turns.sits(seat) => seat,
             _ => granted(waits.turns.join(is_task)),
         };
@@ -106,7 +106,7 @@ impl Waiting {
         called.extend(waits.turns.overtake(seat, now));
         let slept = waits.turns.sleep(seat, until, now, Sleeper { seat, wakes });
         drop(waits);
-        *place = Some(seat);
+        *its = Some(seat);
         // A waker may park this thread, which takes the wake that was meant for it: whoever calls one looks again.
         let calls_nobody = called.is_empty();
         lose(self.wake_each(called, now));
@@ -117,8 +117,8 @@ impl Waiting {
     /// Leaves the line, and wakes the one that leads from then on. What a program's code panics with here is lost: the caller
     /// may have a value in hand. Within a waker of the line the next one is called after it: where each of many wakers drops its
     /// receiver, none is called on another one's stack.
-    pub fn leave(&self, place: &mut Option<Seat>, now: u64) {
-        let Some(seat) = place.take() else { return };
+    pub fn leave(&self, its: &mut Option<Seat>, now: u64) {
+        let Some(seat) = its.take() else { return };
         let (slept, next) = self.left(seat, now);
         lose(catch_unwind(AssertUnwindSafe(|| drop(slept))));
         let is_calling = CALLING.get() == self.address();

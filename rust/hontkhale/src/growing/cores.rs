@@ -59,7 +59,8 @@ pub(crate) fn joined(least: Option<Least>, place: usize, wake: Option<u64>) -> O
     })
 }
 
-/// Which core's turn it is to be polled, and what is known of the others, so that who is next is found without a look at each.
+/// Which core's turn it is to be polled, and what is known of the others, so that who is next is found without a look
+/// at each.
 pub(crate) struct Turns {
     // The core that has the turn. No other one has a live entry with a deadline before `others`.
     place: usize,
@@ -124,7 +125,8 @@ impl Turns {
         }
     }
 
-    /// The one of the first cores that has the least tick, and the least tick of the others; none where all is known to be idle.
+    /// The one of the first cores that has the least tick, and the least tick of the others; none where all is known to
+    /// be idle.
     #[inline(always)]
     pub fn first(&self, cores: usize) -> Option<(usize, u64)> {
         // requires cores ≤ KNOWN
@@ -292,9 +294,9 @@ impl<T, W: Words> Cores<T, W> {
         remove_from(nth_mut(&mut self.cores, at), entry)
     }
 
-    /// Takes a live entry out if its current deadline isn't after `tick`, both of one millisecond, and returns its value
-    /// with its key and that deadline. It returns none if the deadline is later: the entry stays as it is. Constant time,
-    /// and no memory is taken.
+    /// Takes a live entry out if its current deadline isn't after `tick`, both of one millisecond, and returns its
+    /// value with its key and that deadline. It returns none if the deadline is later: the entry stays as it is.
+    /// Constant time, and no memory is taken.
     ///
     /// # Errors
     /// In this order:
@@ -338,8 +340,8 @@ impl<T, W: Words> Cores<T, W> {
         nth_mut(&mut self.cores, at).deadline(entry)
     }
 
-    /// Returns the key that an insert may give next: that of a free slot of the open core in which no value waits for its
-    /// drop. It returns none if no core is open, or no such slot is left. Constant time.
+    /// Returns the key that an insert may give next: that of a free slot of the open core in which no value waits for
+    /// its drop. It returns none if no core is open, or no such slot is left. Constant time.
     pub fn next_key(&self) -> Option<Key> {
         if self.opened >= self.cores.len() {
             return None;
@@ -356,9 +358,9 @@ impl<T, W: Words> Cores<T, W> {
         nth_mut(&mut self.cores, at).with_value(entry, call)
     }
 
-    /// Puts `value` into the open core, to come out at the tick `when` of one millisecond, and returns its key. No value
-    /// is dropped: one that waits for its drop in the slot that the entry takes comes out beside the key. Constant time,
-    /// and no memory is taken.
+    /// Puts `value` into the open core, to come out at the tick `when` of one millisecond, and returns its key. No
+    /// value is dropped: one that waits for its drop in the slot that the entry takes comes out beside the key.
+    /// Constant time, and no memory is taken.
     ///
     /// # Errors
     /// `value` comes back. In this order:
@@ -566,10 +568,10 @@ impl<T, W: Words> Cores<T, W> {
         Some(Least { place, wake, others })
     }
 
-    /// Notes a tick, of one millisecond, and polls one core: it takes out one entry whose deadline in force is reached by
-    /// the greatest tick noted, or tells when to come again, or that another core may have more. No value is dropped:
-    /// that of each cancelled entry which it reaps waits until it is taken out. It may name a tick though what was to come
-    /// then has left: whoever polls at that tick is told anew.
+    /// Notes a tick, of one millisecond, and polls one core: it takes out one entry whose deadline in force is reached
+    /// by the greatest tick noted, or tells when to come again, or that another core may have more. No value is
+    /// dropped: that of each cancelled entry which it reaps waits until it is taken out. It may name a tick though what
+    /// was to come then has left: whoever polls at that tick is told anew.
     ///
     /// # Errors
     /// `TickTooLarge` beyond the last tick, which is not noted then.
@@ -586,8 +588,8 @@ impl<T, W: Words> Cores<T, W> {
         }
     }
 
-    /// The same by at most `most` steps, each in constant time. So it also tells where it made them all, and more may be
-    /// left.
+    /// The same by at most `most` steps, each in constant time. So it also tells where it made them all, and more may
+    /// be left.
     ///
     /// # Errors
     /// `TickTooLarge` beyond the last tick, which is not noted then.
@@ -632,8 +634,8 @@ impl<T, W: Words> Cores<T, W> {
         }
     }
 
-    /// Returns the tick, of one millisecond, at which the store has something to do next. It returns none if no entry is
-    /// linked. No live entry has a deadline before that tick; the least deadline may be later.
+    /// Returns the tick, of one millisecond, at which the store has something to do next. It returns none if no entry
+    /// is linked. No live entry has a deadline before that tick; the least deadline may be later.
     pub fn next_wake(&self) -> Option<u64> {
         let least = self.least()?;
         Some(least.wake)

@@ -1,8 +1,8 @@
 //! An entry goes on in the open core: one call takes it out and puts it in there, and loses nothing.
 //!
 //! A core that drains may wait long for its last entries. They are moved, and so is an entry whose slot has no stamp
-//! left. Callers extend and cancel the entry until the step that takes it out, and the deadline that it has at that step
-//! is the one with which it goes on.
+//! left. Callers extend and cancel the entry until the step that takes it out, and the deadline that it has at that
+//! step is the one with which it goes on.
 
 use crate::core::{CoreError, DelayCore, Removed, Words};
 use crate::growing::cores::Cores;
@@ -83,7 +83,8 @@ fn put_in<T, W: Words>(core: &mut DelayCore<T, W>, value: T, deadline: u64) -> (
 }
 
 impl<T, W: Words> Cores<T, W> {
-    // How many entries the open core has and how many worn slots, where these are all its slots; none where one is free.
+    // How many entries the open core has and how many worn slots, where these are all its slots; none where one is
+    // free.
     fn full(&self) -> Option<(usize, usize)> {
         if self.opened >= self.cores.len() {
             return Some((0, 0));
@@ -99,10 +100,10 @@ impl<T, W: Words> Cores<T, W> {
         put_in(nth_mut(&mut self.cores, self.opened), value, deadline)
     }
 
-    /// Takes a live entry out of its core and puts it into the open one, with its value and with the deadline that `next`
-    /// makes of the one that it has as it is taken out. An entry of the open core goes to another slot there if its slot
-    /// is worn. No value is dropped: one that waits for its drop in the slot that the entry takes comes out beside the
-    /// answer, and none beside any answer but `To`. Constant time in each core, and no memory is taken.
+    /// Takes a live entry out of its core and puts it into the open one, with its value and with the deadline that
+    /// `next` makes of the one that it has as it is taken out. An entry of the open core goes to another slot there if
+    /// its slot is worn. No value is dropped: one that waits for its drop in the slot that the entry takes comes out
+    /// beside the answer, and none beside any answer but `To`. Constant time in each core, and no memory is taken.
     ///
     /// # Errors
     /// Nothing is taken out. In this order:

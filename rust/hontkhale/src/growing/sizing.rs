@@ -48,7 +48,7 @@ fn free<T, W: Words>(core: &DelayCore<T, W>) -> usize {
 
 // Whether such a slot is in the open core.
 #[inline(always)]
-fn has_open_room<T, W: Words>(cores: &Cores<T, W>) -> bool {
+pub(crate) fn has_open_room<T, W: Words>(cores: &Cores<T, W>) -> bool {
     let Some(core) = cores.get(cores.opened()) else {
         return false;
     };
@@ -204,18 +204,9 @@ impl Sizing {
         self.quiet_since = NEVER;
     }
 
-    /// Whether a slot is free for an insert: in the open core, or in another one of which half is free, or, where any
-    /// will do, in any. That one is open then. No value that waits for its drop is in the way.
-    #[inline(always)]
-    pub fn finds_room<T, W: Words>(&mut self, store: &mut Store<T, W>, any_will_do: bool) -> bool {
-        if has_open_room(store.cores()) {
-            return true;
-        }
-        self.opens_another(store, any_will_do)
-    }
-
+    // Opens another core in which a slot is free for an insert, where one may be opened.
     #[cold]
-    fn opens_another<T, W: Words>(&mut self, store: &mut Store<T, W>, any_will_do: bool) -> bool {
+    pub(crate) fn opens_another<T, W: Words>(&mut self, store: &mut Store<T, W>, any_will_do: bool) -> bool {
         let room = roomiest(store.cores(), any_will_do);
         if room.free == 0 {
             return false;

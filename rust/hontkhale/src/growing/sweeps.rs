@@ -23,9 +23,9 @@ impl<T, W: Words> Cores<T, W> {
         reap_from(nth_mut(&mut self.cores, at), entry)
     }
 
-    /// Reaps each linked entry that is found cancelled at `count` slots from `from` on of the core at a place, and tells
-    /// the slot to go on from. It returns none where there is no such place. No value is dropped: each waits until it is
-    /// taken out.
+    /// Reaps each linked entry that is found cancelled at `count` slots from `from` on of the core at a place, and
+    /// tells the slot to go on from. It returns none where there is no such place. No value is dropped: each waits
+    /// until it is taken out.
     pub fn sweep_some(&mut self, place: usize, from: usize, count: usize) -> Option<Swept> {
         if place >= self.cores.len() {
             return None;

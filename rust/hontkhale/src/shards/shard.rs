@@ -1,5 +1,5 @@
-//! What a queue's row and a stream ask of a shard behind its lock, and of the poller that waits for it, one at a time; and
-//! what a stream asks of the queue.
+//! What a queue's row and a stream ask of a shard behind its lock, and of the poller that waits for it, one at a time;
+//! and what a stream asks of the queue.
 
 use crate::core::{CoreError, Piece};
 use crate::locks::MutexGuard;

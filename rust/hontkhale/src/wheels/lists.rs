@@ -467,6 +467,7 @@ impl Lists {
     }
 
     /// Takes an index out of its list.
+    // Out of line it costs a removal and a reset a call.
     #[inline(always)]
     pub fn unlink(&mut self, index: usize) {
         // requires index < length self.old.homes

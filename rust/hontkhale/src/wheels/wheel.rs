@@ -173,8 +173,8 @@ impl Wheel {
     }
 
     /// An index that is due while a slot is open, as [`Self::arrive`] leaves it: most of its indexes are due only since
-    /// they were filed there, and whoever knows more of them may file them later. Else none, which tells nothing: what is
-    /// due at any other tick was filed at just that tick.
+    /// they were filed there, and whoever knows more of them may file them later. Else none, which tells nothing: what
+    /// is due at any other tick was filed at just that tick.
     #[inline]
     pub fn first_open(&self) -> Option<usize> {
         self.lists.first_open(due_list(self.tick))
@@ -204,8 +204,9 @@ impl Wheel {
         self.lists.link(index, list, filed);
     }
 
-    /// The number itself, once what an unlink of the index will write was read. Where the number goes into an atomic step,
-    /// which is a fence, these reads go out before it, together with those of the step: after it each would wait alone.
+    /// The number itself, once what an unlink of the index will write was read. Where the number goes into an atomic
+    /// step, which is a fence, these reads go out before it, together with those of the step: after it each would wait
+    /// alone.
     #[inline]
     pub fn once_near(&self, index: usize, number: u32) -> u32 {
         // requires index < length self.now.filing.filed
@@ -235,8 +236,8 @@ impl Wheel {
         self.advance_reading(limit, &Nothing)
     }
 
-    /// Goes on as [`Self::advance`] does. Where it opens a list of level 1 in a large wheel it reads what lies beside its
-    /// indexes, so that whoever takes them off soon doesn't wait for memory.
+    /// Goes on as [`Self::advance`] does. Where it opens a list of level 1 in a large wheel it reads what lies beside
+    /// its indexes, so that whoever takes them off soon doesn't wait for memory.
     pub fn advance_reading<B: Beside>(&mut self, limit: u64, beside: &B) -> bool {
         // requires NoneFiledAt self.old.filing.filed self.old.filing.tick
         // requires self.old.filing.tick ≤ limit
@@ -258,8 +259,8 @@ impl Wheel {
         true
     }
 
-    /// Goes on as [`Self::advance`] does, in constant time. Where the wake was reached each index of its slot counts from
-    /// now on as filed at that tick, so it is due, and none is moved.
+    /// Goes on as [`Self::advance`] does, in constant time. Where the wake was reached each index of its slot counts
+    /// from now on as filed at that tick, so it is due, and none is moved.
     pub fn arrive(&mut self, limit: u64) -> bool {
         // requires NoneFiledAt self.old.filing.filed self.old.filing.tick
         // requires self.old.filing.tick ≤ limit

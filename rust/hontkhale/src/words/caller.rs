@@ -2,8 +2,7 @@
 
 use crate::core::{shown, CallError, Look};
 use crate::ticks::{stamp, unpack, Key, Mark, LAST_TICK};
-use crate::words::parts::{cancelled_word, live_word};
-use crate::words::seated::Seated;
+use crate::words::seated::{cancelled_word, live_word, Seated};
 
 /// Extends and cancels entries, and looks at them, without a lock.
 ///

@@ -2,11 +2,9 @@
 
 use crate::core::{Look, Settled, SharedWords, Steps};
 use crate::memory::AllocError;
-use crate::ticks::{unpack, Parts, CAPACITY_LIMIT};
+use crate::ticks::{field, is_live, stamp, unpack, Parts, CAPACITY_LIMIT};
 use crate::words::caller::Caller;
-use crate::words::parts::{live_word, ONE_CANCEL};
-use crate::words::seated::Seated;
-use crate::words::tries;
+use crate::words::seated::{expired_word, live_word, removed_word, Seated, ONE_CANCEL};
 use core::fmt;
 
 /// The most callers that a keeper issues, given back or not.
@@ -53,6 +51,92 @@ pub struct Keeper {
 impl From<AllocError> for WordsError {
     fn from(_e: AllocError) -> WordsError {
         WordsError::NoMemory
+    }
+}
+
+// Ends the word that is live at exactly `at` by one try: a word that isn't is live at a later deadline or cancelled.
+fn settle(seat: &mut Seated, index: usize, stamp: u32, at: u64) -> Settled {
+    // requires index < length seat.old.view.seen
+    // requires seat.old.view.keeps ≡ true
+    // requires IsOpenFrom (slice_index seat.old.view.seen index) stamp at
+    // requires stamp ≤ LAST_STAMP
+    // requires at ≤ LAST_TICK
+    let old = live_word(stamp, at);
+    let found = seat.settle(index, old, expired_word(stamp, at));
+    if found == old {
+        Settled::SettledExpired
+    } else if is_live(found) {
+        Settled::Later(field(found))
+    } else {
+        Settled::SettledCancelled
+    }
+}
+
+// Each try that fails shows a greater word.
+fn renew(seat: &mut Seated, index: usize, stamp: u32, when: u64) -> Option<u64> {
+    // requires index < length seat.old.view.seen
+    // requires seat.old.view.keeps ≡ true
+    // requires IsOpen (slice_index seat.old.view.seen index) stamp
+    // requires stamp < LAST_STAMP
+    // requires when ≤ LAST_TICK
+    let new = live_word(stamp + 1, when);
+    let mut seen = seat.keeper_load(index);
+    while is_live(seen) {
+        let found = seat.renew(index, seen, new);
+        if found == seen {
+            return Some(field(seen));
+        }
+        seen = found;
+    }
+    None
+}
+
+// Each try that fails shows a greater word.
+fn finish(seat: &mut Seated, index: usize, stamp: u32) -> Option<u64> {
+    // requires index < length seat.old.view.seen
+    // requires seat.old.view.keeps ≡ true
+    // requires IsOpen (slice_index seat.old.view.seen index) stamp
+    // requires stamp ≤ LAST_STAMP
+    let mut seen = seat.keeper_load(index);
+    while is_live(seen) {
+        let deadline = field(seen);
+        let found = seat.finish(index, seen, removed_word(stamp, deadline));
+        if found == seen {
+            return Some(deadline);
+        }
+        seen = found;
+    }
+    None
+}
+
+// The same where the deadline isn't after a tick.
+fn finish_by(seat: &mut Seated, index: usize, stamp: u32, tick: u64) -> Look {
+    // requires index < length seat.old.view.seen
+    // requires seat.old.view.keeps ≡ true
+    // requires IsOpen (slice_index seat.old.view.seen index) stamp
+    // requires stamp ≤ LAST_STAMP
+    let mut seen = seat.keeper_load(index);
+    while is_live(seen) {
+        let deadline = field(seen);
+        if deadline > tick {
+            return Look::StillLive(deadline);
+        }
+        let found = seat.finish(index, seen, removed_word(stamp, deadline));
+        if found == seen {
+            return Look::LookRemoved(deadline);
+        }
+        seen = found;
+    }
+    Look::LookCancelled
+}
+
+// Ends the word of a slot as removed, where it is live.
+fn end(seat: &mut Seated, index: usize) {
+    // requires index < length seat.old.view.seen
+    // requires seat.old.view.keeps ≡ true
+    let seen = seat.keeper_load(index);
+    if is_live(seen) && stamp(seen) > 0 {
+        let _ended = finish(seat, index, stamp(seen));
     }
 }
 
@@ -110,7 +194,7 @@ impl Keeper {
     // exchange or more for each live one.
     fn end_all(&mut self) {
         for index in 0..self.seat.rows() {
-            tries::end(&mut self.seat, index);
+            end(&mut self.seat, index);
         }
     }
 }
@@ -151,7 +235,7 @@ impl Steps for Keeper {
         // requires IsInForce stamp at (known_word self.old index)
         // requires stamp ≤ LAST_STAMP
         // requires at ≤ LAST_TICK
-        tries::settle(&mut self.seat, index, stamp, at)
+        settle(&mut self.seat, index, stamp, at)
     }
 
     fn renew(&mut self, index: usize, stamp: u32, when: u64) -> Option<u64> {
@@ -159,21 +243,21 @@ impl Steps for Keeper {
         // requires IsInForce stamp 0 (known_word self.old index)
         // requires stamp < LAST_STAMP
         // requires when ≤ LAST_TICK
-        tries::renew(&mut self.seat, index, stamp, when)
+        renew(&mut self.seat, index, stamp, when)
     }
 
     fn finish(&mut self, index: usize, stamp: u32) -> Option<u64> {
         // requires index < length (known_of self.old)
         // requires IsInForce stamp 0 (known_word self.old index)
         // requires stamp ≤ LAST_STAMP
-        tries::finish(&mut self.seat, index, stamp)
+        finish(&mut self.seat, index, stamp)
     }
 
     fn finish_by(&mut self, index: usize, stamp: u32, tick: u64) -> Look {
         // requires index < length (known_of self.old)
         // requires IsInForce stamp 0 (known_word self.old index)
         // requires stamp ≤ LAST_STAMP
-        tries::finish_by(&mut self.seat, index, stamp, tick)
+        finish_by(&mut self.seat, index, stamp, tick)
     }
 }
 

@@ -4,8 +4,7 @@ use crate::core::{shown, CallError, Look};
 use crate::ticks::{stamp, unpack, Key, LAST_TICK};
 use crate::words::caller::deadline_at;
 use crate::words::keeper::{Keeper, WordsError};
-use crate::words::parts::{cancelled_word, live_word};
-use crate::words::seated::OpenWords;
+use crate::words::seated::{cancelled_word, live_word, OpenWords};
 
 impl Keeper {
     /// The words of this keeper, on which any thread may step from now on. No caller is issued for it.

@@ -4,13 +4,55 @@
 //! operation once. So the keeper and its callers reach the words by these steps and by nothing else.
 
 use crate::memory::AllocError;
-use crate::words::parts::ONE_CANCEL;
+use crate::ticks::{pack, Mark, Parts};
 use crate::words::table::Table;
 use alloc::sync::Arc;
 
 mod open;
 
 pub use open::OpenWords;
+
+// What one cancel adds to the return word. What is below it counts the callers that are gone.
+pub(crate) const ONE_CANCEL: u64 = 2048;
+
+pub(crate) fn live_word(stamp: u32, field: u64) -> u64 {
+    // requires stamp ≤ LAST_STAMP
+    // requires field ≤ LAST_TICK
+    pack(Parts {
+        stamp,
+        mark: Mark::LiveMark,
+        field,
+    })
+}
+
+pub(crate) fn cancelled_word(stamp: u32) -> u64 {
+    // requires stamp ≤ LAST_STAMP
+    pack(Parts {
+        stamp,
+        mark: Mark::CancelledMark,
+        field: 0,
+    })
+}
+
+pub(crate) fn expired_word(stamp: u32, field: u64) -> u64 {
+    // requires stamp ≤ LAST_STAMP
+    // requires field ≤ LAST_TICK
+    pack(Parts {
+        stamp,
+        mark: Mark::ExpiredMark,
+        field,
+    })
+}
+
+pub(crate) fn removed_word(stamp: u32, field: u64) -> u64 {
+    // requires stamp ≤ LAST_STAMP
+    // requires field ≤ LAST_TICK
+    pack(Parts {
+        stamp,
+        mark: Mark::RemovedMark,
+        field,
+    })
+}
 
 pub(crate) struct Seated {
     table: Arc<Table>,

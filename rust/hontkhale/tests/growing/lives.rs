@@ -64,7 +64,7 @@ fn lives(last_stamp: u32, count: u64) {
     assert_eq!(living.count(), 0);
 }
 
-// promise: growing.take-drained
+// promise: growing.sizing
 #[test]
 fn lives_without_end_by_slots_of_few_stamps() {
     let count = if is_whole() { 1_000_000 } else { 30_000 };
@@ -95,7 +95,7 @@ fn grow_and_shrink(queue: &mut Growing<Value>, living: &Living, draw: &mut Draw,
     assert_eq!((queue.len(), queue.count(), living.count()), (0, 1, 0));
 }
 
-// promise: growing.take-drained growing.folds
+// promise: growing.sizing growing.folds
 #[test]
 fn growing_and_shrinking_again_keeps_no_more_than_once() {
     let (most, times) = if is_whole() { (100_000, 100) } else { (5_000, 10) };

@@ -30,6 +30,8 @@ pub struct Run {
     living: Living,
     values: u64,
     numbers: u32,
+    /// About how many cores there are at most: in some runs more than those whose wakes the row knows.
+    most: u64,
 }
 
 impl Run {
@@ -45,6 +47,7 @@ impl Run {
             living: Living::default(),
             values: 0,
             numbers: 0,
+            most: if seed % 4 == 0 { 40 } else { 8 },
         }
     }
 
@@ -394,7 +397,7 @@ impl Run {
 
     /// Whether the row has as many cores as it is to have.
     fn is_long(&mut self) -> bool {
-        self.model.row.len() as u64 > self.draw.below(8)
+        self.model.row.len() as u64 > self.draw.below(self.most)
     }
 
     pub fn exchange(&mut self) {

@@ -2,7 +2,7 @@
 
 use super::draw::Draw;
 use super::value::{Living, Value};
-use hontkhale::parts::growing::{Cores, Moved, NextDeadline, Store, TakeError};
+use hontkhale::parts::growing::{Cores, Moved, NextDeadline, SizedStore, TakeError};
 use hontkhale::parts::owner::{
     CoreConfig, CoreError, DelayCore, EntryId, Expired, Keeper, Key, OpenWords, Piece, ReapError, Turn, LAST_TICK,
 };
@@ -22,14 +22,21 @@ struct Known {
 /// The parts of an id, in the order of cores and slots.
 type Id = (u32, u32, u32);
 
+type Core = DelayCore<Value, Keeper>;
+
+/// The most slots of a core.
+const SLOTS: usize = 4;
+
 pub struct Run {
-    store: Store<Value, Keeper>,
+    store: SizedStore<Value, Keeper>,
     entries: BTreeMap<Id, Known>,
     /// The ids that were given, the last one last.
     given: Vec<EntryId>,
     ways: BTreeMap<u32, (OpenWords, u32)>,
     deferred: BTreeSet<u64>,
     noted: u64,
+    /// How many cancels were accepted.
+    cancels: u64,
     pub draw: Draw,
     living: Living,
     values: u64,
@@ -44,15 +51,26 @@ fn entry_of(id: &Id) -> EntryId {
     EntryId::new(id.0, id.1, id.2)
 }
 
+/// How many slots are free in which no value waits, where values wait in free slots first.
+fn room_of(core: &Core) -> usize {
+    (core.capacity() - core.len() - core.worn()).saturating_sub(core.deferred())
+}
+
+/// Whether nothing is in a core, not even a value that waits.
+fn has_drained(core: &Core) -> bool {
+    core.is_empty() && core.deferred() == 0
+}
+
 impl Run {
     pub fn new(seed: u64) -> Run {
         Run {
-            store: Store::new(Cores::new()).expect("a store of no cores"),
+            store: SizedStore::new(1).expect("a store of no cores"),
             entries: BTreeMap::new(),
             given: Vec::new(),
             ways: BTreeMap::new(),
             deferred: BTreeSet::new(),
             noted: 0,
+            cancels: 0,
             draw: Draw::new(seed),
             living: Living::default(),
             values: 0,
@@ -93,9 +111,26 @@ impl Run {
             .ok_or(CoreError::WasCancelled)
     }
 
+    fn cores(&self) -> &Cores<Value, Keeper> {
+        self.store.store().cores()
+    }
+
+    fn each_core(&self) -> impl Iterator<Item = &Core> {
+        (0..self.cores().count()).filter_map(|place| self.cores().get(place))
+    }
+
+    fn open_core(&self) -> Option<&Core> {
+        self.cores().get(self.cores().opened())
+    }
+
+    /// The number of the open core.
+    fn opened(&self) -> Option<u32> {
+        self.open_core().map(Core::shard)
+    }
+
     /// Why the open core takes no entry, none where it does.
     fn is_full(&self) -> Option<CoreError> {
-        let Some(open) = self.store.cores().get(self.store.cores().opened()) else {
+        let Some(open) = self.open_core() else {
             return Some(CoreError::Full { linked: 0, worn: 0 });
         };
         let (linked, worn) = (open.len(), open.worn());
@@ -107,12 +142,7 @@ impl Run {
         if let Some(beside) = beside {
             assert!(self.deferred.remove(&beside.number()), "a value that didn't wait");
         }
-        let open = self
-            .store
-            .cores()
-            .get(self.store.cores().opened())
-            .expect("an open core");
-        assert_eq!(place.shard(), open.shard());
+        assert_eq!(Some(place.shard()), self.opened());
         let known = Known {
             value,
             deadline: Some(when),
@@ -130,8 +160,8 @@ impl Run {
         assert!(when <= deadline && deadline <= most, "{deadline} for {when}");
         let known = self.entries.get_mut(&id_of(&entry)).expect("an entry that is in");
         known.deadline = Some(deadline);
-        assert_eq!(self.store.place(&entry), Some(known.place));
-        assert_eq!(self.store.get(&entry).map(Value::number), Some(known.value));
+        assert_eq!(self.store.store().place(&entry), Some(known.place));
+        assert_eq!(self.store.store().get(&entry).map(Value::number), Some(known.value));
     }
 
     fn leaves(&mut self, entry: &EntryId) -> Known {
@@ -145,7 +175,7 @@ impl Run {
             true => Some(CoreError::TooFar { limit: LAST_TICK }),
             false => self.is_full(),
         };
-        let next = self.store.next_key();
+        let next = self.store.store().next_key();
         let (answer, beside) = self.store.insert(self.living.value(self.values), when);
         match answer {
             Ok(key) => {
@@ -199,8 +229,8 @@ impl Run {
     /// No call finds an entry that left, and its note went with it.
     fn is_gone(&mut self, entry: &EntryId) {
         assert_eq!(self.store.deadline(entry), Err(CoreError::Missing));
-        assert!(self.store.get(entry).is_none());
-        assert_eq!(self.store.place(entry), Some(*entry));
+        assert!(self.store.store().get(entry).is_none());
+        assert_eq!(self.store.store().place(entry), Some(*entry));
     }
 
     pub fn reset(&mut self) {
@@ -220,7 +250,7 @@ impl Run {
         };
         assert_eq!(key.entry(), entry);
         if is_worn(known) {
-            let place = self.store.place(&entry).expect("where it is");
+            let place = self.store.store().place(&entry).expect("where it is");
             self.comes(key, place, known.value, when, beside);
         } else {
             assert_eq!((key.stamp(), beside.is_none()), (known.stamp + 1, true));
@@ -241,7 +271,7 @@ impl Run {
         let is_too_far = matches!(next, NextDeadline::At(_)) && tick > LAST_TICK;
         let error = match (&known, full) {
             // It is looked first whether a place has another's entry.
-            _ if self.store.place(&entry).is_none() => Some(CoreError::Missing),
+            _ if self.store.store().place(&entry).is_none() => Some(CoreError::Missing),
             _ if is_too_far => Some(CoreError::TooFar { limit: LAST_TICK }),
             (_, Some(full)) => Some(full),
             (known, None) => known.as_ref().err().copied(),
@@ -259,7 +289,7 @@ impl Run {
                     deadline
                 };
                 assert_eq!((key.entry(), told), (entry, wanted));
-                let place = self.store.place(&entry).expect("where it is");
+                let place = self.store.store().place(&entry).expect("where it is");
                 self.comes(key, place, known.value, told, beside);
             }
             Moved::Out(removed) => {
@@ -281,7 +311,7 @@ impl Run {
         let known = self.live(&entry).map(|it| it.1);
         assert_eq!(self.store.deadline(&entry), known);
         let value = self.entries.get(&id_of(&entry)).map(|it| it.value);
-        assert_eq!(self.store.get(&entry).map(Value::number), value);
+        assert_eq!(self.store.store().get(&entry).map(Value::number), value);
     }
 
     /// A change of an entry's value where it is.
@@ -306,6 +336,7 @@ impl Run {
         let (words, key) = (&self.ways[&known.place.shard()].0, Key::new(known.place, known.stamp));
         let after = if self.draw.one_in(3) {
             assert_eq!(words.cancel(&key), Ok(deadline));
+            self.cancels += 1;
             None
         } else {
             assert_eq!(words.extend(&key, when), Ok(deadline.max(when)));
@@ -378,15 +409,13 @@ impl Run {
         }
     }
 
-    pub fn peek(&mut self) {
-        let known = self
-            .store
-            .peek()
-            .map(|key| (key.stamp(), self.entries.get(&id_of(&key.entry()))));
-        match known {
-            Some((stamp, known)) => assert_eq!(known.map(|it| it.stamp), Some(stamp)),
-            None => assert!(self.entries.is_empty()),
+    /// The hint isn't after the deadline of a live entry, and neither is it once the only core was looked at.
+    pub fn hint(&mut self) {
+        if self.draw.one_in(4) {
+            self.store.note_next();
         }
+        let hint = self.store.hint();
+        assert!(self.entries.values().all(|it| it.deadline.is_none_or(|at| hint <= at)));
     }
 
     pub fn take_deferred(&mut self) {
@@ -398,17 +427,21 @@ impl Run {
 
     /// A place in the row, and the number of the core there.
     fn place(&mut self) -> (usize, Option<u32>) {
-        let place = self.draw.below(self.store.cores().count() as u64 + 1) as usize;
-        (place, self.store.cores().get(place).map(DelayCore::shard))
+        let place = self.draw.below(self.cores().count() as u64 + 1) as usize;
+        (place, self.cores().get(place).map(Core::shard))
     }
 
-    pub fn sweep_some(&mut self) {
-        let ((place, core), from, count) = (self.place(), self.draw.below(5), self.draw.below(5));
-        let before = self.deferred.len();
-        let answer = self.store.sweep_some(place, from as usize, count as usize);
-        assert_eq!(answer.is_none(), core.is_none());
+    /// Some looks for cancelled entries, or as many as are enough to free each. A look takes in all slots of a core, as
+    /// it has few; and some slots may be counted still of a core that was taken out.
+    pub fn sweep(&mut self) {
+        let enough = self.cores().count() + SLOTS + 1;
+        let most = self.draw.one_of(&[1, 2, enough]);
+        let is_done = !(0..most).all(|_| self.store.sweep(self.cancels));
         self.find_reaped();
-        assert_eq!(answer.map_or(0, |answer| answer.reaped), self.deferred.len() - before);
+        assert!(is_done || most < enough, "a sweep has no end");
+        assert!(!is_done || self.entries.values().all(|it| it.deadline.is_some()));
+        // Nothing that is live was freed.
+        assert_eq!(self.each_core().map(Core::len).sum::<usize>(), self.entries.len());
     }
 
     /// A core names its entries by the ids that their users have.
@@ -417,16 +450,16 @@ impl Run {
         let slots = from as u32..(from + count) as u32;
         let there = self.entries.iter().filter(|it| Some(it.1.place.shard()) == core);
         let there: Vec<_> = there.map(|it| (it.1.place.index(), entry_of(it.0))).collect();
-        let first = self.store.first_in(place);
+        let first = self.store.store().first_in(place);
         let is_there = first.is_some_and(|first| there.iter().any(|it| it.1 == first));
         assert_eq!((first.is_some(), is_there), (!there.is_empty(), !there.is_empty()));
         let known = there.iter().filter(|it| slots.contains(&it.0)).min_by_key(|it| it.0);
-        let answer = self.store.entry_from(place, from as usize, count as usize);
+        let answer = self.store.store().entry_from(place, from as usize, count as usize);
         assert_eq!(answer, known.map(|it| it.1));
     }
 
-    fn core_of(&mut self, number: u32, last_stamp: u32) -> DelayCore<Value, Keeper> {
-        let capacity = 1 + self.draw.below(4) as usize;
+    fn core_of(&mut self, number: u32, last_stamp: u32) -> Core {
+        let capacity = 1 + self.draw.below(SLOTS as u64) as usize;
         let mut keeper = Keeper::new(capacity).expect("a keeper");
         let words = keeper.open().expect("open words");
         self.ways.entry(number).or_insert((words, last_stamp));
@@ -438,15 +471,50 @@ impl Run {
         DelayCore::new(config, keeper).map_err(|it| it.0).expect("a core")
     }
 
-    /// Another core is open, of 1 to 4 slots and 1 to 3 stamps.
+    /// Another core comes, of 1 to 4 slots and 1 to 3 stamps.
     pub fn exchange(&mut self) {
-        if self.store.cores().count() as u64 > self.draw.below(8) {
+        if self.cores().count() as u64 > self.draw.below(8) {
             return;
         }
         self.numbers += 1;
         let last_stamp = 1 + self.draw.below(3) as u32;
         let core = self.core_of(self.numbers, last_stamp);
-        assert!(self.store.reserve(1).is_ok() && self.store.take_in(core).is_ok());
+        assert!(self.store.reserve(1).is_ok());
+        self.bring(core);
+    }
+
+    /// A core comes, mostly where none is open. It stands last, and is open where the open one has no room; else that one
+    /// may stay open.
+    fn bring(&mut self, core: Core) {
+        if !self.draw.one_in(4) {
+            self.close();
+        }
+        let (number, open) = (Some(core.shard()), self.opened());
+        let has_room = self.open_core().is_some_and(|core| room_of(core) > 0);
+        assert!(self.store.bring(core).is_ok());
+        assert_eq!(self.each_core().last().map(Core::shard), number);
+        assert!(self.opened() == number || has_room && self.opened() == open);
+    }
+
+    pub fn close(&mut self) {
+        self.store.close();
+        assert_eq!(self.opened(), None);
+    }
+
+    /// The open core stays open where it has room. Else the one with the most room is open, of those that are half free
+    /// or of all.
+    pub fn find_room(&mut self) {
+        let (any_will_do, open) = (self.draw.one_in(2), self.opened());
+        let had = self.open_core().map_or(0, room_of);
+        let may_open = |core: &&Core| any_will_do || core.capacity() / 2 <= room_of(core);
+        let most = self.each_core().filter(may_open).map(room_of).max().unwrap_or(0);
+        assert_eq!(self.store.finds_room(any_will_do), had > 0 || most > 0);
+        if had > 0 || most == 0 {
+            return assert_eq!(self.opened(), open);
+        }
+        let opened = self.open_core().filter(may_open);
+        assert_eq!(opened.map(room_of), Some(most));
+        assert!(self.store.store().next_key().is_some(), "a value is in the way");
     }
 
     /// A core of fresh words doesn't come in under a number that the id of a moved entry has.
@@ -456,31 +524,28 @@ impl Run {
             return;
         };
         let core = self.core_of(number, 1);
-        let refused = self.store.take_in(core).map_err(|it| (it.0, it.1.shard()));
+        let known = (self.cores().count(), self.opened());
+        let refused = self.store.bring(core).map_err(|it| (it.0, it.1.shard()));
         assert_eq!(refused, Err((TakeError::UsedNumber, number)));
+        assert_eq!((self.cores().count(), self.opened()), known);
     }
 
-    /// Takes a core out that has drained, and drops it, or takes it in again.
-    pub fn take_drained(&mut self) {
-        let is_foldable = |core: &DelayCore<Value, Keeper>| core.is_empty() && core.deferred() == 0;
-        let cores = self.store.cores();
-        let others = (0..cores.count()).filter(|place| *place != cores.opened());
-        let has_drained = others.filter_map(|place| cores.get(place)).any(is_foldable);
-        let core = self.store.take_drained();
-        assert_eq!(core.is_some(), has_drained);
-        let Some(core) = core else { return };
-        assert!(is_foldable(&core));
+    /// Takes a core out that has drained and isn't needed, and drops it, or brings it in again.
+    pub fn take_needless(&mut self) {
+        let open = self.opened();
+        let drained = |core: &&Core| has_drained(core) && Some(core.shard()) != open;
+        let drained: Vec<_> = self.each_core().filter(drained).map(Core::shard).collect();
+        let answer = self.store.take_needless();
+        assert_eq!(self.opened(), open);
+        let Some(core) = answer else {
+            // One that is worn is never needed.
+            let is_worn = |core: &Core| drained.contains(&core.shard()) && 2 * core.worn() > core.capacity();
+            return assert!(!self.each_core().any(is_worn), "a worn core stays");
+        };
+        assert!(has_drained(&core) && drained.contains(&core.shard()));
+        assert!(self.each_core().all(|it| it.shard() != core.shard()));
         if self.draw.one_in(2) {
-            assert!(self.store.take_in(core).is_ok());
-        }
-    }
-
-    pub fn open(&mut self) {
-        let (place, core) = self.place();
-        assert_eq!(self.store.open(place), core.is_some());
-        if let Some(core) = core {
-            let opened = self.store.cores().get(self.store.cores().opened());
-            assert_eq!(opened.map(DelayCore::shard), Some(core));
+            self.bring(core);
         }
     }
 
