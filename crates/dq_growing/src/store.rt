@@ -1019,7 +1019,7 @@ impl<T, W: Words, A: Allocator + Clone> SizedStore<T, W, A> {
         reserved
     }
 
-    /// Closes the open core: inserts are refused until another one is opened.
+    /// Closes the open core: inserts are refused until `finds_room` opens one, or one comes in.
     pub fn close(&mut self)
         ensures closes { self.new.store.cores
             ≡ record self.old.store.cores { opened = length self.old.store.cores.cores } }
@@ -1089,15 +1089,20 @@ impl<T, W: Words, A: Allocator + Clone> SizedStore<T, W, A> {
         ensures keeps { KeepsIds self.old.store self.new.store }
         ensures holds { HoldsDeadlines self.old.store self.new.store }
 
-        // The way of the sweeps begins anew: the cores get other places.
-        ensures sizing { self.new.sizing ≡ record self.old.sizing {
-          sweep = anew self.old.sizing.sweep self.old.store.cores;
-        } }
+        // The way of the sweeps begins anew where one is taken out: the cores get other places.
+        ensures anew { OnSome result
+            (self.new.sizing.sweep ≡ anew self.old.sizing.sweep self.old.store.cores) }
+        ensures stays { IfNone result (self.new.sizing.sweep ≡ self.old.sizing.sweep) }
+        ensures sizing { self.new.sizing
+            ≡ record self.old.sizing { sweep = self.new.sizing.sweep } }
         ensures hint { self.new.hint ≡ self.old.hint }
     {
         self.store.cores.law();
-        self.sizing.sweep.restart(slots(&self.store.cores));
+        let all = slots(&self.store.cores);
         let core = self.store.cores.take_drained();
+        if core.is_some() {
+            self.sizing.sweep.restart(all);
+        }
         core
     }
 

@@ -411,13 +411,32 @@ fn a_handle_finds_an_entry_that_moves_meanwhile() {
     });
 }
 
+/// What gives memory back.
+const GIVES_BACK: [fn(&mut Entries<u64>); 2] = [Entries::shrink_to_fit, Entries::compact];
+
 #[test]
 fn slots_that_are_yet_to_be_made_are_given_back() {
-    let gives_back: [fn(&mut Entries<u64>); 2] = [Entries::shrink_to_fit, Entries::compact];
-    for give_back in gives_back {
+    for give_back in GIVES_BACK {
         let mut queue = Entries::new(CAPACITY_LIMIT + 64, LAST_STAMP);
         give_back(&mut queue);
         assert_eq!(queue.capacity(), 0);
+    }
+}
+
+/// Else the next insert might go to a core that drains, which then never goes.
+#[test]
+fn a_core_that_has_entries_stays_open_as_memory_is_given_back() {
+    for give_back in GIVES_BACK {
+        let mut queue = Entries::new(64, LAST_STAMP);
+        let keys: Vec<Key> = (0..165).map(|value| queue.insert(value, 1)).collect();
+        let drain = |queue: &mut Entries<u64>, those: std::ops::Range<usize>| {
+            keys[those].iter().for_each(|key| assert!(queue.remove(key).is_some()));
+            give_back(queue);
+        };
+        drain(&mut queue, 0..45);
+        queue.insert(165, 1);
+        drain(&mut queue, 45..64);
+        assert_eq!(queue.capacity(), 128);
     }
 }
 
@@ -613,7 +632,7 @@ fn an_entry_that_is_cancelled_after_a_look_at_it_never_comes_out() {
     });
 }
 
-/// Each of them leaves its slot, which the next one fills, and waits elsewhere under its key.
+/// Each of them stays in its slot under its key, and the next one fills another.
 #[test]
 fn entries_that_are_extended_one_after_the_other_keep_their_keys() {
     paused().block_on(async {

@@ -50,7 +50,7 @@ impl<T> Entries<T> {
         }
     }
 
-    /// Adds a core of so many slots, which is open then where no slot of the open one is free.
+    /// Adds a core of so many slots, which is open then where no slot of the open one is free, or that is worn or too large.
     fn add_core(&mut self, slots: usize) {
         assert!(self.cores().count() < CORES, "max entries exceeded");
         let slots = rounded(slots);
@@ -118,7 +118,10 @@ impl<T> Entries<T> {
     /// Lets the empty cores go, the open one too: the next insert opens the core that has the most room.
     pub fn shrink_to_fit(&mut self) {
         self.promised = 0;
-        self.store.close();
+        // One that has entries stays open: else the next insert might go to a core that drains.
+        if self.cores().get(self.cores().opened()).is_some_and(DelayCore::is_empty) {
+            self.store.close();
+        }
         self.fold_drained();
         self.shared.names().shrink_to_fit();
     }
@@ -133,7 +136,9 @@ impl<T> Entries<T> {
         sparse.sort_by_key(|core| CAPACITY_LIMIT * core.len() / core.capacity());
         let mut entries = sparse.iter().map(|core| core.len()).sum();
         let numbers: Vec<u32> = sparse.into_iter().map(DelayCore::shard).collect();
-        self.store.close();
+        if !numbers.is_empty() {
+            self.store.close();
+        }
         for number in numbers {
             let Some(core) = self.each_core().position(|core| core.shard() == number) else { continue };
             let mut slot = 0;

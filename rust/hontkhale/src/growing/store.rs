@@ -544,7 +544,7 @@ impl<T, W: Words> SizedStore<T, W> {
         self.store.reserve(cores)
     }
 
-    /// Closes the open core: inserts are refused until another one is opened.
+    /// Closes the open core: inserts are refused until `finds_room` opens one, or one comes in.
     pub fn close(&mut self) {
         self.store.cores.close();
     }
@@ -566,8 +566,12 @@ impl<T, W: Words> SizedStore<T, W> {
     /// Takes a core out that has drained: it isn't the open one, and holds nothing, not even a value that waits for its
     /// drop. It may be needed soon. Folded, it keeps its words alone.
     pub fn take_drained(&mut self) -> Option<DelayCore<T, W>> {
-        self.sizing.sweep.restart(slots(&self.store.cores));
-        self.store.cores.take_drained()
+        let all = slots(&self.store.cores);
+        let core = self.store.cores.take_drained();
+        if core.is_some() {
+            self.sizing.sweep.restart(all);
+        }
+        core
     }
 
     /// Frees cancelled entries at the next slots, as [`Sizing::sweep`] tells.
