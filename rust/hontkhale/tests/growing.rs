@@ -73,7 +73,8 @@ mod drawn {
         (4, store::Run::names),
         (8, store::Run::exchange),
         (1, store::Run::take_refused),
-        (10, store::Run::take_needless),
+        (6, store::Run::take_needless),
+        (4, store::Run::take_drained),
         (1, store::Run::close),
         (6, store::Run::find_room),
     ];
@@ -104,7 +105,7 @@ mod drawn {
         }
     }
 
-    // promise: core.next-key growing.by-id growing.notes growing.remove-if-due growing.upkeep growing.sizing growing.hint
+    // promise: core.next-key growing.by-id growing.notes growing.remove-if-due growing.upkeep growing.take-drained growing.sizing growing.hint
     #[test]
     fn drawn_calls_of_a_store_answer_as_the_model_does() {
         for round in 0..calls().div_ceil(ROUND) {

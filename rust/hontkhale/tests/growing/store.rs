@@ -530,18 +530,36 @@ impl Run {
         assert_eq!((self.cores().count(), self.opened()), known);
     }
 
-    /// Takes a core out that has drained and isn't needed, and drops it, or brings it in again.
+    /// The numbers of the cores that have drained, but for the open one.
+    fn drained(&self) -> Vec<u32> {
+        let drained = |core: &&Core| has_drained(core) && Some(core.shard()) != self.opened();
+        self.each_core().filter(drained).map(Core::shard).collect()
+    }
+
+    /// Takes a core out that has drained, and isn't needed.
     pub fn take_needless(&mut self) {
-        let open = self.opened();
-        let drained = |core: &&Core| has_drained(core) && Some(core.shard()) != open;
-        let drained: Vec<_> = self.each_core().filter(drained).map(Core::shard).collect();
+        let (open, drained) = (self.opened(), self.drained());
         let answer = self.store.take_needless();
-        assert_eq!(self.opened(), open);
-        let Some(core) = answer else {
+        if answer.is_none() {
             // One that is worn is never needed.
             let is_worn = |core: &Core| drained.contains(&core.shard()) && 2 * core.worn() > core.capacity();
-            return assert!(!self.each_core().any(is_worn), "a worn core stays");
-        };
+            assert!(!self.each_core().any(is_worn), "a worn core stays");
+        }
+        self.took_out(answer, &drained, open);
+    }
+
+    /// The same, needed or not.
+    pub fn take_drained(&mut self) {
+        let (open, drained) = (self.opened(), self.drained());
+        let answer = self.store.take_drained();
+        assert_eq!(answer.is_none(), drained.is_empty());
+        self.took_out(answer, &drained, open);
+    }
+
+    /// A core that was taken out is dropped, or brought in again.
+    fn took_out(&mut self, core: Option<Core>, drained: &[u32], open: Option<u32>) {
+        assert_eq!(self.opened(), open);
+        let Some(core) = core else { return };
         assert!(has_drained(&core) && drained.contains(&core.shard()));
         assert!(self.each_core().all(|it| it.shard() != core.shard()));
         if self.draw.one_in(2) {
