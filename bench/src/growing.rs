@@ -1,4 +1,4 @@
-//! `peers growing ENTRIES ROUNDS`: the calls of a queue of one owner that grows and shrinks, by hand over a row of cores, while
+//! `peers growing ENTRIES ROUNDS`: the calls of a queue of one owner that grows and shrinks, over a store that tells when, while
 //! so many entries stand, and what they take of memory. The queue stands with the tests of the crate, which drive it too.
 
 // Its tests ask for more.

@@ -1,7 +1,7 @@
 -- A tick before which no live entry of a store has a deadline stays such a one, but by an insert or a reset to an earlier
 -- deadline; and a poll that finds nothing due tells such a tick.
 use Rattle.std.specs.Prelude.{unwrap_or, OnOk, IfOk, IfErr, IfSome, IfNone, ◌+◌}
-use Rattle.std.proofs.lemmas.Bool.{both_ways, lt-ltb, le-ltb}
+use Rattle.std.proofs.lemmas.Bool.{lt-ltb, le-ltb}
 use Rattle.dq_wheel.proofs.Links.{nat_le_or_lt}
 use Rattle.std.proofs.Common.{◌≡◌, ◌≢◌, ◌⊎◌, ℕ, ◌≤◌, Bool, true, false, List, length, min, is_ok, Option, Some, None, Result, Ok, Err, refl, sym, ap, ◌∙◌, subst, inl, inr, ⊎_elim, arith}
 use Rattle.dq_ticks.specs.declared.keys.Key.{Key}
@@ -42,11 +42,6 @@ use Rattle.dq_growing.proofs.Pairing.{one_or_two}
 use Rattle.dq_growing.proofs.Keeping.{one_entry}
 use Rattle.dq_growing.proofs.Stored.{unlinked}
 use Rattle.dq_growing.proofs.Quiet.{find_refused_late, removes_late, tells_late, inserts_late, resets_late, reap_late, sweeps_late, polls_late, pieces_late, run_late, quiet_fresh, quiet_wake}
-
--- what is said of an accepted call says nothing of a refused one
-pub on_err : {X E : Type 0} (P : Type 0) (r : Result X E) → is_ok r ≡ false → OnOk r P
-on_err P (Ok x) refused = absurd (both_ways true refused refl)
-on_err P (Err e) refused = tt {0}
 
 -- a move that asks for a deadline asks for none before a tick
 abbrev pub IsAfter : ℕ → NextDeadline → Type 0

@@ -22,7 +22,7 @@ use Rattle.dq_core.specs.Core.{Core}
 use Rattle.dq_core.specs.Machine.{Entry}
 use Rattle.dq_core.specs.Readers.{TellsLeast, TellsFirst}
 use Rattle.dq_growing.specs.Cores.{CoreRow, IsCoreAt, OnCoreOr, TakeRefused, missing_error}
-use Rattle.dq_growing.specs.Polls.{PollsRow, PeeksIn}
+use Rattle.dq_growing.specs.Polls.{PollsRow}
 use Rattle.dq_growing.specs.Stands.{HasEntry, IsPastIn, OneChanges, OneComes, OthersStand}
 use Rattle.dq_growing.specs.Moving.{IsTakenOut, IsBaseIn, Relocates, HasBegunIn}
 use Rattle.dq_growing.specs.Notes.{Book, AreNotes, AllArePast, SameNotes, LosesNote, IsNoted, HasNoteRoom}
@@ -83,11 +83,6 @@ piece_as n r = r
 abbrev pub NotesAfter : {T : Type 0} → Book → Result (Piece T) CoreError → Book → Type 0
 NotesAfter n (Ok (Answer (CameOut x))) m = LosesNote n x.key.entry m
 NotesAfter n r m = m ≡ n
-
--- a key, as the user of its place has it
-abbrev pub peeked_as : Book → Option Key → Option Key
-peeked_as n None = None
-peeked_as n (Some k) = Some (key_as (user_at n k.entry) k)
 
 -- the id of a key, where there is one
 abbrev pub entry_told : Option Key → Option EntryId
@@ -281,10 +276,6 @@ module _ {T W : Type 0} where
   PollsFor Did s tick r t =
       (made : Result (Piece T) CoreError) × PollsRow Did s.cores tick made t.cores
       × (r ≡ piece_as s.notes made) × NotesAfter s.notes made t.notes
-
-  -- what is scheduled first, as its user knows it
-  abbrev pub PeeksFor : StoreState T W → Option Key → Type 0
-  PeeksFor s r = (k : Option Key) × PeeksIn s.cores k × (r ≡ peeked_as s.notes k)
 
   -- what a core tells by its own ids of an entry of it, by the id that the entry's user has; none where
   -- there is no such core

@@ -32,11 +32,7 @@ use dq_ticks::{EntryId, Key};
 use std::alloc::{AllocError, Allocator, Global};
 use std::marker::Model;
 
-/// A delay queue of one owner that grows and shrinks, and moves entries from core to core. An entry keeps the id that
-/// its key had when it came in.
-///
-/// A call by an entry's id looks for its note in a map, and for its core as [`Cores`] does. What it costs, as it is
-/// told with the call, is in that core.
+/// What a [`SizedStore`] holds, to be read: its cores, and a note of where each moved entry is.
 #[derive(Drop)]
 pub struct Store<T, W: Words, A: Allocator = Global> {
     pub(crate) cores: Cores<T, W, A>,
@@ -378,7 +374,11 @@ impl<T, W: Words, A: Allocator + Clone> Store<T, W, A> {
     }
 }
 
-/// A store, what is known of its size, and its hint.
+/// A delay queue of one owner that grows and shrinks, and moves entries from core to core. An entry keeps the id that
+/// its key had when it came in.
+///
+/// A call by an entry's id looks for its note in a map, and for its core as [`Cores`] does. What it costs, as it is
+/// told with the call, is in that core.
 #[derive(Drop)]
 pub struct SizedStore<T, W: Words, A: Allocator = Global> {
     pub(crate) store: Store<T, W, A>,

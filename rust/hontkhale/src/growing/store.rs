@@ -14,11 +14,7 @@ use crate::growing::NEVER;
 use crate::memory::AllocError;
 use crate::ticks::{EntryId, Key};
 
-/// A delay queue of one owner that grows and shrinks, and moves entries from core to core. An entry keeps the id that
-/// its key had when it came in.
-///
-/// A call by an entry's id looks for its note in a map, and for its core as [`Cores`] does. What it costs, as it is
-/// told with the call, is in that core.
+/// What a [`SizedStore`] holds, to be read: its cores, and a note of where each moved entry is.
 pub struct Store<T, W: Words> {
     pub(crate) cores: Cores<T, W>,
     pub(crate) notes: Notes,
@@ -221,7 +217,11 @@ impl<T, W: Words> Store<T, W> {
     }
 }
 
-/// A store, what is known of its size, and its hint.
+/// A delay queue of one owner that grows and shrinks, and moves entries from core to core. An entry keeps the id that
+/// its key had when it came in.
+///
+/// A call by an entry's id looks for its note in a map, and for its core as [`Cores`] does. What it costs, as it is
+/// told with the call, is in that core.
 pub struct SizedStore<T, W: Words> {
     pub(crate) store: Store<T, W>,
     sizing: Sizing,
