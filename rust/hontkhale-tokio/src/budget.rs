@@ -1,8 +1,6 @@
 //! How much a poll of a task may do: so many steps of the wheels, each in constant time but for a value's drop. And how many
 //! entries the task may have in a row.
 
-use std::task::Poll;
-
 /// The steps of a poll where no other number is set, as many as tokio lets a task have of its own resources.
 pub(crate) const DEFAULT_BUDGET: u32 = 128;
 
@@ -10,7 +8,6 @@ pub(crate) const DEFAULT_BUDGET: u32 = 128;
 const PIECE: u32 = 8;
 
 /// The steps that are left of a task's poll.
-#[derive(Clone, Copy)]
 pub(crate) struct Budget {
     /// The greatest number is no limit.
     left: u32,
@@ -79,15 +76,5 @@ impl Streak {
     #[inline]
     pub fn end(&mut self) {
         self.entries = 0;
-    }
-
-    /// Notes what a poll answers.
-    #[inline]
-    pub fn note<E>(&mut self, answer: &Poll<Option<E>>) {
-        match answer {
-            Poll::Ready(Some(_)) => self.count(),
-            Poll::Ready(None) => {}
-            Poll::Pending => self.end(),
-        }
     }
 }

@@ -16,9 +16,8 @@ use std::sync::{Arc, Mutex};
 mod polls;
 mod room;
 
-pub(crate) use polls::NEVER;
-#[cfg(test)]
-pub(crate) use polls::{AFTER_LOOK, ASKED};
+/// After each tick.
+pub(crate) const NEVER: u64 = u64::MAX;
 
 type Core<T> = DelayCore<T, Keeper>;
 /// The key of an entry that a call of the store gave another stamp.
@@ -93,13 +92,13 @@ impl<T> Entries<T> {
 
     #[inline]
     fn key(&self, entry: &EntryId) -> Key {
-        Key::of(self.shared.number, entry)
+        Key { queue: self.shared.number, name: Name::of(entry, entry.born()) }
     }
 
     /// The id under which the store has the entry of a key, none where the key is another queue's.
     #[inline]
     fn entry(&self, key: &Key) -> Option<EntryId> {
-        (key.queue == self.shared.number).then(|| key.entry())
+        (key.queue == self.shared.number).then(|| key.name.entry())
     }
 
     /// Puts a value in, whose deadline isn't beyond the last tick.
@@ -123,36 +122,30 @@ impl<T> Entries<T> {
     pub fn reset(&mut self, key: &Key, when: u64) -> Result<(), CoreError> {
         let when = when.max(self.tick);
         let entry = self.entry(key).ok_or(CoreError::Missing)?;
-        if self.has_handles {
-            self.reset_shared(key, when)?;
-        } else if let Err(error) = self.store.reset_in_place(&entry, when) {
-            self.reset_elsewhere(key, when, error)?;
+        let reset = if !self.has_handles {
+            self.store.reset_in_place(&entry, when).map(drop)
+        } else if self.store.deadline(&entry)? > when {
+            self.rename(key, |store| store.reset_in_place(&entry, when))
+        } else {
+            // A deadline that isn't sooner is an extend, after which the entry has the same name.
+            self.shared.step(key, |words, key| words.extend(key, when)).map(drop).ok_or(CoreError::Missing)
+        };
+        match reset {
+            Err(CoreError::Worn) => self.reset_elsewhere(key, when)?,
+            others => others?,
         }
         self.note_deadline(when);
         Ok(())
     }
 
-    /// The same where handles may be calling. A deadline that isn't sooner is an extend, after which the entry has the same name.
-    fn reset_shared(&mut self, key: &Key, when: u64) -> Result<(), CoreError> {
-        if self.store.deadline(&key.entry())? <= when {
-            let extended = self.shared.step(key, |words, key| words.extend(key, when));
-            return extended.map(drop).ok_or(CoreError::Missing);
-        }
-        let reset = self.rename(key, |store| store.reset_in_place(&key.entry(), when));
-        reset.or_else(|error| self.reset_elsewhere(key, when, error))
-    }
-
-    /// The same of an entry whose slot has no stamp left, if it was refused for that: it goes to one of the open core.
+    /// The same of an entry whose slot has no stamp left: it goes to one of the open core.
     #[cold]
     #[inline(never)]
-    fn reset_elsewhere(&mut self, key: &Key, when: u64, error: CoreError) -> Result<(), CoreError> {
-        if error != CoreError::Worn {
-            return Err(error);
-        }
+    fn reset_elsewhere(&mut self, key: &Key, when: u64) -> Result<(), CoreError> {
         if !self.store.finds_room(true) {
             self.grow();
         }
-        self.rename(key, |store| store.reset(&key.entry(), when).0)
+        self.rename(key, |store| store.reset(&key.name.entry(), when).0)
     }
 
     /// Makes a call of the store after which an entry has another stamp, or another place under the same user's key. A handle that
@@ -161,7 +154,7 @@ impl<T> Entries<T> {
         let mut names = self.shared.names();
         let renamed = call(&mut self.store)?;
         if self.has_handles {
-            let place = self.store.store().place(&key.entry());
+            let place = self.store.store().place(&key.name.entry());
             names.extend(place.map(|place| (key.name, Name::of(&place, renamed.stamp()))));
             self.has_names = true;
         }
@@ -253,10 +246,5 @@ impl<T> Entries<T> {
     pub fn cancelled(&self) -> usize {
         let len = self.len();
         (len + self.shared.cancels()).saturating_sub(self.left)
-    }
-
-    /// Whether nothing is left but what handles cancelled.
-    pub fn holds_none_live(&self) -> bool {
-        self.len() <= self.cancelled()
     }
 }

@@ -32,7 +32,7 @@ use tokio::time::Instant;
 /// ```
 #[derive(Clone)]
 pub struct Handle {
-    shared: Arc<Shared>,
+    pub(crate) shared: Arc<Shared>,
 }
 
 /// Why a call on an entry is refused.
@@ -46,10 +46,6 @@ pub enum EntryError {
 }
 
 impl Handle {
-    pub(crate) fn of(shared: Arc<Shared>) -> Handle {
-        Handle { shared }
-    }
-
     /// Raises the deadline of an entry to `timeout` from now, and returns the deadline that is then in force: that one, or
     /// a later one that it had. No extend that was accepted is lost. An entry that is due and hasn't come out yet is put off,
     /// too. It reads the clock, and makes one atomic step.

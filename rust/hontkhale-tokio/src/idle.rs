@@ -64,7 +64,10 @@ impl IdleTimeouts {
     /// If it is called outside of a runtime and no task runs, if memory is refused, or if 3 million connections a processor, of
     /// up to 16 processors, are there already.
     pub fn wrap<IO>(&self, io: IO, after: Duration) -> IdleTimeout<IO> {
-        self.run();
+        if !self.has_task.load(SeqCst) && !self.has_task.swap(true, SeqCst) {
+            let runs = Runs(Arc::clone(&self.has_task));
+            tokio::spawn(end_idle_ones(self.queue.stream(), runs));
+        }
         let (timeouts, waits) = (self.clone(), Arc::<Waits>::default());
         let place = timeouts.place(&waits, after);
         IdleTimeout { io, entry: Entry { timeouts, place, after, waits } }
@@ -77,14 +80,6 @@ impl IdleTimeouts {
             Ok(key) => Some((key, deadline)),
             Err(refused) if refused.kind() == InsertErrorKind::TooFar => None,
             Err(refused) => panic!("an idle timeout has no place: {refused}"),
-        }
-    }
-
-    /// Spawns the task, unless one runs.
-    fn run(&self) {
-        if !self.has_task.load(SeqCst) && !self.has_task.swap(true, SeqCst) {
-            let runs = Runs(Arc::clone(&self.has_task));
-            tokio::spawn(end_idle_ones(self.queue.stream(), runs));
         }
     }
 }
@@ -223,15 +218,6 @@ impl Entry {
         }
     }
 
-    /// Begins another time, unless the task has taken the entry out: it ends the connection then.
-    fn begin(&mut self, after: Duration) {
-        let is_out = self.place.take().is_some_and(|(key, _)| self.timeouts.queue.remove(&key).is_err());
-        if !is_out {
-            self.after = after;
-            self.place = self.timeouts.place(&self.waits, after);
-        }
-    }
-
     /// A write of some kind.
     fn poll_write(
         &mut self,
@@ -293,7 +279,13 @@ impl<IO> IdleTimeout<IO> {
     /// # Ok(()) }
     /// ```
     pub fn set_timeout(&mut self, after: Duration) {
-        self.entry.begin(after);
+        let entry = &mut self.entry;
+        // Where the task has taken the entry out, it ends the connection.
+        let is_out = entry.place.take().is_some_and(|(key, _)| entry.timeouts.queue.remove(&key).is_err());
+        if !is_out {
+            entry.after = after;
+            entry.place = entry.timeouts.place(&entry.waits, after);
+        }
     }
 
     /// The reader and writer, without a timeout.

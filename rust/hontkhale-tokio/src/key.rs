@@ -38,7 +38,7 @@ impl Name {
         (self.0 >> (STAMP_BITS + SLOT_BITS)) as u32
     }
 
-    /// The id of an entry whose birth has that stamp.
+    /// The id of an entry whose birth has that stamp: the store has an entry under that of its first name.
     #[inline]
     pub fn entry(self) -> EntryId {
         EntryId::new(self.core(), u32::from((self.0 >> STAMP_BITS) as u16), self.stamp())
@@ -56,23 +56,9 @@ impl Name {
     }
 }
 
-impl Key {
-    /// The name of an entry of a queue.
-    #[inline]
-    pub(crate) fn of(queue: u64, entry: &EntryId) -> Key {
-        Key { queue, name: Name::of(entry, entry.born()) }
-    }
-
-    /// The id under which the store has the entry.
-    #[inline]
-    pub(crate) fn entry(&self) -> EntryId {
-        self.name.entry()
-    }
-}
-
 impl fmt::Debug for Key {
     fn fmt(&self, f: &mut fmt::Formatter<'_>) -> fmt::Result {
-        let entry = self.entry();
+        let entry = self.name.entry();
         f.debug_struct("Key")
             .field("queue", &self.queue)
             .field("core", &entry.shard())

@@ -52,9 +52,8 @@ pub struct DelayQueue<T> {
     /// Whether the clock was looked at since the task was woken. Where more came due meanwhile, the timer tells it.
     has_looked: bool,
     latest: Latest,
-    /// The most steps of a poll, as they were set, and as a poll begins with them.
+    /// The most steps of a poll, as they were set.
     budget: u32,
-    fresh: Budget,
     streak: Streak,
 }
 
@@ -104,7 +103,6 @@ impl<T> DelayQueue<T> {
             has_looked: false,
             latest: Latest::default(),
             budget: DEFAULT_BUDGET,
-            fresh: Budget::of(DEFAULT_BUDGET),
             streak: Streak::default(),
         }
     }
@@ -140,7 +138,6 @@ impl<T> DelayQueue<T> {
     /// ```
     pub fn set_budget(&mut self, steps: u32) {
         self.budget = steps;
-        self.fresh = Budget::of(steps);
     }
 
     /// Puts a value in that comes out at `when`, or at once where `when` is over. The present millisecond may not be over by
@@ -189,13 +186,15 @@ impl<T> DelayQueue<T> {
     /// time, and went on by whole milliseconds, it is ready.
     pub fn poll_expired(&mut self, cx: &mut Context<'_>) -> Poll<Option<Expired<T>>> {
         if self.armed > 0 && self.armed < NEVER {
-            if self.waits_on(cx) {
+            // It was given nothing since it waits, so there is no row to end.
+            let is_as_it_was = !self.has_changes && !self.entries.has_news() && self.timer.is_of(cx.waker());
+            if is_as_it_was && self.timer.poll_again(cx).is_pending() {
                 return Poll::Pending;
             }
             // The task waited, so what is due came due since the clock was looked at.
             self.look();
         }
-        let mut budget = self.fresh;
+        let mut budget = Budget::of(self.budget);
         // A row of entries ends as the budget does: what handles cancelled is dropped before.
         if !self.entries.heed_news(&mut budget) || self.streak.is_over() {
             return self.give_way(cx);
@@ -244,7 +243,11 @@ impl<T> DelayQueue<T> {
                         self.arm(NEVER);
                         return Poll::Ready(None);
                     };
-                    if self.waits_for(wake, cx) {
+                    // By the clock, and by the task's timer.
+                    if !self.has_looked {
+                        self.look();
+                    }
+                    if self.reached < wake && self.poll_sleep(wake, cx).is_pending() {
                         return Poll::Pending;
                     }
                 }
@@ -252,15 +255,6 @@ impl<T> DelayQueue<T> {
                 Err(_) => unreachable!("a tick that the clock showed"),
             }
         }
-    }
-
-    /// Whether the task has to wait until a tick, by the clock and by its timer.
-    #[inline]
-    fn waits_for(&mut self, wake: u64, cx: &mut Context<'_>) -> bool {
-        if !self.has_looked {
-            self.look();
-        }
-        self.reached < wake && self.poll_sleep(wake, cx).is_pending()
     }
 
     /// A poll where the entry is due that a peek named.
@@ -284,14 +278,6 @@ impl<T> DelayQueue<T> {
         self.timer.leave();
         self.streak.count();
         self.latest.note(deadline, self.reached, &self.entries.shared.clock);
-    }
-
-    /// Whether the task that waits goes on waiting: nothing was changed that it waits for, and its timer hasn't fired.
-    #[inline]
-    fn waits_on(&mut self, cx: &mut Context<'_>) -> bool {
-        // It was given nothing since it waits, so there is no row to end.
-        let is_as_it_was = !self.has_changes && !self.entries.has_news() && self.timer.is_of(cx.waker());
-        is_as_it_was && self.timer.poll_again(cx).is_pending()
     }
 
     /// Wakes the task at once: other tasks run before it comes again.
@@ -397,7 +383,8 @@ impl<T> DelayQueue<T> {
         let out = self.entries.remove(key);
         if out.is_some() {
             self.has_changes = true;
-            if self.armed > 0 && self.entries.holds_none_live() {
+            // Nothing is left but what handles cancelled.
+            if self.armed > 0 && self.len() <= self.entries.cancelled() {
                 self.wake();
             }
         }
@@ -497,7 +484,7 @@ impl<T> DelayQueue<T> {
     /// # }
     /// ```
     pub fn peek(&self) -> Option<Key> {
-        self.entries.peek()
+        self.entries.first().map(|(key, _)| key)
     }
 
     /// Takes every entry out and drops its value. The room stays. A task that waits for an entry is woken for the end.
@@ -594,7 +581,7 @@ impl<T> DelayQueue<T> {
     pub fn numbers(&self) -> Numbers {
         let clock = &self.entries.shared.clock;
         let cancelled = self.entries.cancelled();
-        let late = self.entries.least().map_or(0, |deadline| clock.tick_over().saturating_sub(deadline));
+        let late = self.entries.first().map_or(0, |(_, deadline)| clock.tick_over().saturating_sub(deadline));
         self.latest.note_late(late);
         Numbers {
             waiting: self.len() - cancelled,
@@ -622,7 +609,7 @@ impl<T> DelayQueue<T> {
     /// ```
     pub fn handle(&mut self) -> Handle {
         self.entries.share();
-        Handle::of(self.entries.shared.clone())
+        Handle { shared: self.entries.shared.clone() }
     }
 }
 

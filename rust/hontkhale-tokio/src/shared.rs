@@ -66,11 +66,10 @@ impl Shared {
             return None;
         }
         match step(self.words.get(key.name.core())?, &key.name.key()) {
-            Ok(deadline) => Some(deadline),
             Err(CallError::Stale { .. } | CallError::Ended { how: Look::LookRemoved(_) }) => {
                 self.step_by_name(key, step)
             }
-            Err(_) => None,
+            stepped => stepped.ok(),
         }
     }
 

@@ -89,7 +89,11 @@ impl<T> Stream for QueueStream<T> {
         let stream = self.get_mut();
         stream.timer.note_task(cx.waker());
         let answer = if stream.streak.is_over() { give_way(cx) } else { stream.poll_received(cx) };
-        stream.streak.note(&answer);
+        match answer {
+            Poll::Ready(Some(_)) => stream.streak.count(),
+            Poll::Ready(None) => {}
+            Poll::Pending => stream.streak.end(),
+        }
         answer
     }
 }

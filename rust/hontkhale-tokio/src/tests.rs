@@ -1,7 +1,7 @@
 //! The entries beside a plain model, with slots that wear out after a few stamps, so that entries move all the time.
 
 use crate::budget::Budget;
-use crate::entries::{Entries, AFTER_LOOK, ASKED};
+use crate::entries::Entries;
 use crate::handle::{EntryError, Handle};
 use crate::key::{Expired, Key};
 use crate::queue::DelayQueue;
@@ -15,6 +15,25 @@ use std::task::{Context, Poll, Wake, Waker};
 use std::thread;
 use std::time::Duration;
 use tokio::time::{advance, Instant};
+
+thread_local! {
+    /// What a test does once, in this thread, between a look at the entry that comes first and what rests on the look.
+    static AFTER_LOOK: Cell<Option<Box<dyn FnOnce()>>> = const { Cell::new(None) };
+    /// How often this thread has asked stores for what comes out, or when.
+    static ASKED: Cell<usize> = const { Cell::new(0) };
+}
+
+/// Counts a question to the store.
+pub(crate) fn asked() {
+    ASKED.with(|asked| asked.set(asked.get() + 1));
+}
+
+/// Where a handle's call may come between: see `AFTER_LOOK`.
+pub(crate) fn after_look() {
+    if let Some(call) = AFTER_LOOK.with(Cell::take) {
+        call();
+    }
+}
 
 /// Marsaglia's xorshift.
 struct Dice(u64);
@@ -88,7 +107,7 @@ impl Twin {
         }
         Twin {
             dice,
-            handle: Handle::of(queue.shared.clone()),
+            handle: Handle { shared: queue.shared.clone() },
             queue,
             has_handle,
             entries: HashMap::new(),
@@ -155,7 +174,7 @@ impl Twin {
     /// After the next look a handle extends an entry, that which comes first or any. What it extended, and to when.
     fn extend_after_look(&mut self) -> Rc<Cell<Option<(Key, u64)>>> {
         let extended = Rc::<Cell<Option<(Key, u64)>>>::default();
-        let key = if self.dice.below(2) == 0 { self.queue.peek() } else { self.draw() };
+        let key = if self.dice.below(2) == 0 { self.queue.first().map(|(key, _)| key) } else { self.draw() };
         if let Some(key) = key.filter(|_| self.has_handle) {
             let (handle, when, told) = (self.handle.clone(), self.tick_ahead(), extended.clone());
             let moment = self.queue.shared.clock.moment(when);
@@ -257,7 +276,7 @@ impl Twin {
         for key in self.row.iter().take(3) {
             assert_eq!(self.queue.deadline(key), Some(self.entries[key].0));
         }
-        let first = self.queue.peek().map(|key| self.entries[&key].0);
+        let first = self.queue.first().map(|(key, _)| self.entries[&key].0);
         assert_eq!(first, self.entries.values().map(|entry| entry.0).min());
     }
 }
@@ -320,7 +339,7 @@ fn a_worn_core_goes_in_no_insert_or_reset_with_the_values_that_were_cancelled_in
         let value = || Watched { is_in_call: is_in_call.clone(), drops_in_calls: drops_in_calls.clone() };
         let mut queue = Entries::new(0, 2);
         queue.share();
-        let handle = Handle::of(queue.shared.clone());
+        let handle = Handle { shared: queue.shared.clone() };
         for _ in 0..20 {
             let keys: Vec<Key> = (0..100).map(|_| queue.insert(value(), 1_000)).collect();
             keys[..50].iter().for_each(|key| assert!(handle.cancel(key).is_ok()));
@@ -344,7 +363,7 @@ fn an_insert_drops_no_value_that_waits_in_the_one_free_slot() {
     let value = || Watched { is_in_call: is_in_call.clone(), drops_in_calls: drops_in_calls.clone() };
     let mut queue = Entries::new(1, LAST_STAMP);
     queue.share();
-    let handle = Handle::of(queue.shared.clone());
+    let handle = Handle { shared: queue.shared.clone() };
     let key = queue.insert(value(), 5);
     assert!(handle.cancel(&key).is_ok());
     assert!(matches!(queue.poll(5, u32::MAX), Ok(Piece::Answer(Turn::Idle))));
@@ -361,7 +380,7 @@ fn no_name_outlives_its_entry() {
     let ends: [Ends; 3] = [
         |queue, key| assert!(queue.remove(key).is_some()),
         |queue, key| {
-            assert!(Handle::of(queue.shared.clone()).cancel(key).is_ok());
+            assert!(Handle { shared: queue.shared.clone() }.cancel(key).is_ok());
             assert!(matches!(polled(queue, 0, u32::MAX), Found::Waiting(_) | Found::Idle));
         },
         |queue, _| assert!(matches!(polled(queue, 500, u32::MAX), Found::Out(_))),
@@ -391,7 +410,7 @@ fn a_handle_finds_an_entry_that_moves_meanwhile() {
     let mut queue = Entries::new(0, 1);
     queue.share();
     let key = queue.insert(0, 1_000_000);
-    let handle = Handle::of(queue.shared.clone());
+    let handle = Handle { shared: queue.shared.clone() };
     let is_over = AtomicBool::new(false);
     thread::scope(|scope| {
         let extends = scope.spawn(|| {
@@ -484,7 +503,7 @@ fn a_core_of_a_size_that_was_there_goes_on_with_its_words() {
     let mut queue = Entries::new(0, LAST_STAMP);
     for _ in 0..50 {
         let keys: Vec<Key> = (0..100).map(|value| queue.insert(value, 10)).collect();
-        assert!(keys.iter().all(|key| key.entry().shard() < 4));
+        assert!(keys.iter().all(|key| key.name.core() < 4));
         keys.iter().for_each(|key| assert!(queue.remove(key).is_some()));
         queue.shrink_to_fit();
     }
@@ -494,7 +513,7 @@ fn a_core_of_a_size_that_was_there_goes_on_with_its_words() {
 fn a_clear_drops_what_was_cancelled_too() {
     let mut queue = Entries::new(0, LAST_STAMP);
     queue.share();
-    let (handle, value) = (Handle::of(queue.shared.clone()), Rc::new(()));
+    let (handle, value) = (Handle { shared: queue.shared.clone() }, Rc::new(()));
     let keys: Vec<Key> = (0..100).map(|_| queue.insert(value.clone(), 10)).collect();
     keys.iter().step_by(2).for_each(|key| assert!(handle.cancel(key).is_ok()));
     queue.clear();

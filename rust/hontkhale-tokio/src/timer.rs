@@ -52,13 +52,12 @@ impl Timer {
     #[inline]
     pub fn poll_until(&mut self, moment: Instant, cx: &mut Context<'_>) -> Poll<()> {
         let sleep = self.sleep.get_or_insert_with(|| new_sleep(moment));
-        if sleep.is_elapsed() {
-            if sleep.deadline() == moment && moment <= Instant::now() {
-                return Poll::Ready(());
-            }
+        let is_elapsed = sleep.is_elapsed();
+        if is_elapsed && sleep.deadline() == moment && moment <= Instant::now() {
+            return Poll::Ready(());
+        }
+        if is_elapsed || self.is_left {
             // It has fired, or its runtime has gone: polled again, it would panic then.
-            renew(sleep.as_mut(), moment);
-        } else if self.is_left {
             renew(sleep.as_mut(), moment);
         } else if sleep.deadline() != moment {
             sleep.as_mut().reset(moment);

@@ -1,51 +1,28 @@
 //! What comes out, and what comes out next.
 
-use super::Entries;
+use super::{Entries, NEVER};
 use crate::budget::Budget;
 use crate::key::{Expired, Key};
+#[cfg(test)]
+use crate::tests;
 use hontkhale::parts::owner::{self, CoreError, EntryId, Piece};
 use std::sync::PoisonError;
-
-/// After each tick.
-pub(crate) const NEVER: u64 = u64::MAX;
-
-#[cfg(test)]
-thread_local! {
-    /// What a test does once, in this thread, between a look at the entry that comes first and what rests on the look.
-    pub(crate) static AFTER_LOOK: std::cell::Cell<Option<Box<dyn FnOnce()>>> = const { std::cell::Cell::new(None) };
-    /// How often this thread has asked stores for what comes out, or when.
-    pub(crate) static ASKED: std::cell::Cell<usize> = const { std::cell::Cell::new(0) };
-}
-
-/// Counts a question to the store.
-#[inline(always)]
-fn asked() {
-    #[cfg(test)]
-    ASKED.with(|asked| asked.set(asked.get() + 1));
-}
-
-/// Where a handle's call may come between: see `AFTER_LOOK`.
-#[inline(always)]
-fn after_look() {
-    #[cfg(test)]
-    if let Some(call) = AFTER_LOOK.with(std::cell::Cell::take) {
-        call();
-    }
-}
 
 impl<T> Entries<T> {
     /// Makes at most so many steps of a poll of the store. What came out is noted by `note_expired`, and that nothing did by
     /// `wake`.
     #[inline(always)]
     pub fn poll(&mut self, reached: u64, most: u32) -> Result<Piece<T>, CoreError> {
-        asked();
+        #[cfg(test)]
+        tests::asked();
         self.store.poll_some(reached, most)
     }
 
     /// The same of a whole poll: where no limit is wanted it takes fewer instructions for each entry that moves.
     #[inline(always)]
     pub fn poll_whole(&mut self, reached: u64) -> Result<Piece<T>, CoreError> {
-        asked();
+        #[cfg(test)]
+        tests::asked();
         self.store.poll(reached)
     }
 
@@ -89,16 +66,18 @@ impl<T> Entries<T> {
     #[cold]
     pub fn take_peeked(&mut self) -> Option<Expired<T>> {
         let (key, deadline) = self.peeked.get_mut().unwrap_or_else(PoisonError::into_inner).take()?;
-        after_look();
+        #[cfg(test)]
+        tests::after_look();
         // A handle may extend it until it is taken out, and then it stays.
-        let removed = self.store.remove_if_due(&key.entry(), deadline).ok()??;
+        let removed = self.store.remove_if_due(&key.name.entry(), deadline).ok()??;
         self.tick = self.tick.max(deadline);
         Some(self.removed(key, removed))
     }
 
     /// Whether a core has a step to make before a tick.
     pub fn has_step_before(&self, tick: u64) -> bool {
-        asked();
+        #[cfg(test)]
+        tests::asked();
         self.cores().next_wake().is_some_and(|next| next < tick)
     }
 
@@ -127,7 +106,7 @@ impl<T> Entries<T> {
                 self.forget_name(&key);
             }
             // A poll may have freed it where it was due.
-            let _ = self.store.reap(&key.entry());
+            let _ = self.store.reap(&key.name.entry());
             self.has_freed = true;
             self.drop_freed();
         }
@@ -142,20 +121,8 @@ impl<T> Entries<T> {
         }
     }
 
-    /// The key of the entry that comes out next.
-    pub fn peek(&self) -> Option<Key> {
-        self.first().map(|(key, _)| key)
-    }
-
-    /// The least deadline of all entries.
-    pub fn least(&self) -> Option<u64> {
-        let first = self.first();
-        after_look();
-        first.map(|(_, deadline)| deadline)
-    }
-
-    /// The key of the entry that comes out next, and the deadline that it was seen to have.
-    fn first(&self) -> Option<(Key, u64)> {
+    /// The key of the entry that comes out next, and the deadline that it was seen to have, the least of all.
+    pub fn first(&self) -> Option<(Key, u64)> {
         let mut peeked = self.peeked.lock().unwrap_or_else(PoisonError::into_inner);
         let is_first = |(key, deadline): &(Key, u64)| self.deadline(key) == Some(*deadline);
         // Nothing sooner was put in since, and no deadline was lowered.
@@ -164,6 +131,8 @@ impl<T> Entries<T> {
             let first = firsts.min_by_key(|(_, deadline)| *deadline);
             *peeked = first.map(|(entry, deadline)| (self.key(&entry), deadline));
         }
+        #[cfg(test)]
+        tests::after_look();
         *peeked
     }
 
