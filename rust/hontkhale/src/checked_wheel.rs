@@ -20,9 +20,7 @@ use crate::wheels::{Place, WheelError};
 /// }
 /// # Ok::<(), hontkhale::parts::wheel::WheelError>(())
 /// ```
-pub struct Wheel {
-    wheel: crate::wheels::Wheel,
-}
+pub struct Wheel(crate::wheels::Wheel);
 
 impl Wheel {
     /// A wheel at tick 0 with nothing linked, over so many indexes. No other call takes memory.
@@ -30,18 +28,17 @@ impl Wheel {
     /// # Errors
     /// BadConfig where the capacity isn't 1 to [`CAPACITY_LIMIT`](crate::parts::owner::CAPACITY_LIMIT), and else NoMemory.
     pub fn new(capacity: usize) -> Result<Wheel, WheelError> {
-        let wheel = crate::wheels::Wheel::new(capacity)?;
-        Ok(Wheel { wheel })
+        crate::wheels::Wheel::new(capacity).map(Wheel)
     }
 
     /// The number of indexes.
     pub fn capacity(&self) -> usize {
-        self.wheel.capacity()
+        self.0.capacity()
     }
 
     /// The tick.
     pub fn tick(&self) -> u64 {
-        self.wheel.tick()
+        self.0.tick()
     }
 
     /// The tick at which an index is filed, if it is linked.
@@ -50,7 +47,7 @@ impl Wheel {
     /// Where there is no such index.
     pub fn filed(&self, index: usize) -> Option<u64> {
         self.check(index);
-        self.wheel.filed(index)
+        self.0.filed(index)
     }
 
     /// The place of an index.
@@ -59,7 +56,7 @@ impl Wheel {
     /// Where there is no such index.
     pub fn place(&self, index: usize) -> Place {
         self.check(index);
-        self.wheel.place(index)
+        self.0.place(index)
     }
 
     /// How often an index went from a level to a lower one since it was linked.
@@ -68,7 +65,7 @@ impl Wheel {
     /// Where there is no such index.
     pub fn moves(&self, index: usize) -> u8 {
         self.check(index);
-        self.wheel.moves(index)
+        self.0.moves(index)
     }
 
     /// The occupancy map of a level, from 0 to 5: bit k is 1 exactly where its slot k isn't empty.
@@ -77,22 +74,22 @@ impl Wheel {
     /// Where there is no such level.
     pub fn occupancy(&self, level: usize) -> u64 {
         assert!(level < LEVELS, "there is no such level");
-        self.wheel.occupancy(level)
+        self.0.occupancy(level)
     }
 
     /// The moves of all indexes since the wheel was made, or the greatest `u64`.
     pub fn moved(&self) -> u64 {
-        self.wheel.moved()
+        self.0.moved()
     }
 
     /// The next wake: the tick at which the wheel has something to do, none where nothing is linked.
     pub fn next_wake(&self) -> Option<u64> {
-        self.wheel.next_wake()
+        self.0.next_wake()
     }
 
     /// A linked index that is filed least.
     pub fn least(&self) -> Option<usize> {
-        self.wheel.least()
+        self.0.least()
     }
 
     /// Files a loose index at a tick from the wheel's own on, at most [`REACH`] ticks ahead. Constant time.
@@ -105,7 +102,7 @@ impl Wheel {
         assert!(self.filed(index).is_none(), "the index is linked");
         let reached = tick..=LAST_TICK.min(tick + REACH);
         assert!(reached.contains(&filed), "the tick is out of the wheel's reach");
-        self.wheel.link(index, filed);
+        self.0.link(index, filed);
     }
 
     /// Takes a linked index out, wherever it stands. Constant time.
@@ -114,12 +111,12 @@ impl Wheel {
     /// Where there is no such index, and where it isn't linked.
     pub fn unlink(&mut self, index: usize) {
         assert!(self.filed(index).is_some(), "the index isn't linked");
-        self.wheel.unlink(index);
+        self.0.unlink(index);
     }
 
     /// Takes one index off the due list, or tells that nothing is filed at the tick.
     pub fn pop_due(&mut self) -> Option<usize> {
-        self.wheel.pop_due()
+        self.0.pop_due()
     }
 
     /// Goes on to the next wake, but not past the limit, once nothing is due. True where the wake was reached: its list
@@ -129,7 +126,7 @@ impl Wheel {
     /// Where an index is due, and where the limit lies before the tick or beyond [`LAST_TICK`].
     pub fn advance(&mut self, limit: u64) -> bool {
         self.check_way(limit);
-        self.wheel.advance(limit)
+        self.0.advance(limit)
     }
 
     /// Goes on as [`Wheel::advance`] does, in constant time: where the wake was reached each index of its slot counts
@@ -139,7 +136,7 @@ impl Wheel {
     /// As [`Wheel::advance`].
     pub fn arrive(&mut self, limit: u64) -> bool {
         self.check_way(limit);
-        self.wheel.arrive(limit)
+        self.0.arrive(limit)
     }
 
     fn check(&self, index: usize) {

@@ -32,7 +32,7 @@ use crate::locks::with_lock;
 use dropping::{go_on, lose};
 use key::{refused, Lends, Step};
 use shard::Way;
-use shared::{Asks, Shared, REFUSES};
+use shared::{Shared, REFUSES};
 use std::mem;
 use std::sync::atomic::Ordering::SeqCst;
 use std::sync::{Arc, Weak};
@@ -474,7 +474,9 @@ impl<T> DelayQueue<T> {
         let Some(removed) = due.map_err(refused)? else {
             return Ok(None);
         };
-        shard.note_left();
+        shard.counts.left -= 1;
+        let left = shard.counts.left;
+        shard.entries.note_left(left);
         shared.leave(shard, 1);
         Ok(Some(removed.value))
     }
@@ -731,8 +733,7 @@ impl<T> DelayQueue<T> {
     pub fn close(&self) {
         let common = &self.shared.common;
         common.state.fetch_or(REFUSES, SeqCst);
-        let called = common.receivers.close();
-        go_on(common.receivers.wake_each(called, common.tick_of_wake()));
+        go_on(common.end());
     }
 
     /// Closes the queue for inserts: from now on it takes no values. Its receivers get what waits as it comes due, and then none:
@@ -788,7 +789,7 @@ impl<T> DelayQueue<T> {
         // A moment that no clock reaches is waited for without end.
         let until = time.now().checked_add(timeout);
         // Whoever ends the last entry after a look finds this thread in the list, and wakes it.
-        let _asks = Asks::new(&self.shared.common);
+        let _asks = self.shared.common.ask();
         loop {
             let is_over = until.is_some_and(|until| until <= time.now());
             if self.shared.is_surely_empty() {
@@ -797,7 +798,7 @@ impl<T> DelayQueue<T> {
             if is_over {
                 return false;
             }
-            self.shared.park(until);
+            time.park(until);
         }
     }
 

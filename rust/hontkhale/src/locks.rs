@@ -6,7 +6,7 @@ pub(crate) use std::sync::MutexGuard;
 use std::sync::{PoisonError, TryLockError};
 
 /// A lock that this thread holds while a program's closure runs.
-#[derive(Clone, Copy, PartialEq, Eq)]
+#[derive(Clone, Copy, Default, PartialEq, Eq)]
 struct Lent {
     /// The address of what lies behind the lock, 0 where no closure runs.
     address: usize,
@@ -14,17 +14,67 @@ struct Lent {
     queue: usize,
 }
 
-impl Lent {
+/// What a thread is within, one thing within the other. It has no destructor, so that those of a thread's other values may call a
+/// queue.
+pub(crate) struct Within<X> {
     // Each lock asks for it: by an `Option` an insert takes a few instructions more.
-    const NOTHING: Lent = Lent { address: 0, queue: 0 };
+    innermost: Cell<X>,
+    /// What is around that.
+    around: ManuallyDrop<RefCell<Vec<X>>>,
 }
 
-// They have no destructors, so that those of a thread's other values may call a queue.
+impl<X: Copy + PartialEq + Default> Within<X> {
+    /// It is within nothing, of which the default stands.
+    pub const fn new(nothing: X) -> Within<X> {
+        Within {
+            innermost: Cell::new(nothing),
+            around: ManuallyDrop::new(RefCell::new(Vec::new())),
+        }
+    }
+
+    /// Whether the thread is within something of which that is so.
+    #[inline(always)]
+    pub fn any(&self, is_so: impl Fn(&X) -> bool) -> bool {
+        self.innermost.get() != X::default() && self.any_of_all(is_so)
+    }
+
+    #[cold]
+    fn any_of_all(&self, is_so: impl Fn(&X) -> bool) -> bool {
+        is_so(&self.innermost.get()) || self.around.borrow().iter().any(is_so)
+    }
+
+    /// Goes into one more, and gives what is around it.
+    #[inline(always)]
+    pub fn enter(&self, it: X) -> X {
+        let around = self.innermost.replace(it);
+        if around != X::default() {
+            self.around.borrow_mut().push(around);
+        }
+        around
+    }
+
+    /// Leaves the innermost, around which that is.
+    #[inline(always)]
+    pub fn leave(&self, around: X) {
+        self.innermost.set(around);
+        if around != X::default() {
+            self.leave_around();
+        }
+    }
+
+    #[cold]
+    fn leave_around(&self) {
+        let mut around = self.around.borrow_mut();
+        around.pop();
+        if around.is_empty() {
+            // Nobody drops the memory at the thread's end.
+            *around = Vec::new();
+        }
+    }
+}
+
 thread_local! {
-    /// That of the innermost closure.
-    static INNERMOST: Cell<Lent> = const { Cell::new(Lent::NOTHING) };
-    /// Those of the closures around it.
-    static AROUND: ManuallyDrop<RefCell<Vec<Lent>>> = const { ManuallyDrop::new(RefCell::new(Vec::new())) };
+    static LENT: Within<Lent> = const { Within::new(Lent { address: 0, queue: 0 }) };
 }
 
 /// Calls a program's closure with what lies behind a lock of a queue that this thread holds. If the closure waits for the lock, it
@@ -33,42 +83,17 @@ pub(crate) fn with_lock<S, R>(lent: &mut S, queue: usize, call: impl FnOnce(&mut
     struct Back(Lent);
     impl Drop for Back {
         fn drop(&mut self) {
-            INNERMOST.with(|innermost| innermost.set(self.0));
-            if self.0 != Lent::NOTHING {
-                leave_around();
-            }
+            LENT.with(|lent| lent.leave(self.0));
         }
     }
     let address = lent as *mut S as usize;
-    let around = INNERMOST.with(|innermost| innermost.replace(Lent { address, queue }));
-    if around != Lent::NOTHING {
-        AROUND.with(|all| all.borrow_mut().push(around));
-    }
-    let _back = Back(around);
+    let _back = Back(LENT.with(|within| within.enter(Lent { address, queue })));
     call(lent)
-}
-
-#[cold]
-fn leave_around() {
-    AROUND.with(|around| {
-        let mut around = around.borrow_mut();
-        around.pop();
-        if around.is_empty() {
-            // Nobody drops the memory at the thread's end.
-            *around = Vec::new();
-        }
-    });
-}
-
-/// Whether this thread runs a closure under a lock of which that is so.
-fn is_lent(is_so: impl Fn(&Lent) -> bool) -> bool {
-    let innermost = INNERMOST.with(Cell::get);
-    innermost != Lent::NOTHING && (is_so(&innermost) || AROUND.with(|around| around.borrow().iter().any(is_so)))
 }
 
 /// Whether this thread runs a closure under a lock of a queue.
 pub(crate) fn is_in_closure_of(queue: usize) -> bool {
-    is_lent(|lent| lent.queue == queue)
+    LENT.with(|within| within.any(|lent| lent.queue == queue))
 }
 
 /// How many locks this thread has taken.
@@ -92,6 +117,12 @@ pub(crate) mod taken {
     }
 }
 
+/// What lies behind a lock of std's, whatever has panicked under it.
+#[inline(always)]
+pub(crate) fn hold<T>(lock: &std::sync::Mutex<T>) -> MutexGuard<'_, T> {
+    lock.lock().unwrap_or_else(PoisonError::into_inner)
+}
+
 /// A value behind a lock.
 #[derive(Debug)]
 pub struct Mutex<T>(std::sync::Mutex<T>);
@@ -107,8 +138,9 @@ impl<T> Mutex<T> {
         #[cfg(test)]
         taken::one_more();
         let here = self as *const Mutex<T> as usize;
+        let is_here = |lent: &Lent| (here..here + size_of::<Mutex<T>>()).contains(&lent.address);
         assert!(
-            !is_lent(|lent| (here..here + size_of::<Mutex<T>>()).contains(&lent.address)),
+            !LENT.with(|within| within.any(is_here)),
             "a closure that is called under a queue's lock calls the queue"
         );
         self.0.lock().unwrap_or_else(PoisonError::into_inner)

@@ -1,8 +1,6 @@
 //! Memory that may be refused: std's collections by calls that answer so.
 
 use alloc::collections::TryReserveError;
-#[cfg(all(feature = "std", feature = "all-parts"))]
-use alloc::string::String;
 use alloc::vec::Vec;
 use core::fmt;
 
@@ -39,32 +37,6 @@ pub(crate) fn filled<T: Clone>(item: T, count: usize) -> Result<Vec<T>, AllocErr
     Ok(items)
 }
 
-/// A copy of a text.
-#[cfg(all(feature = "std", feature = "all-parts"))]
-pub(crate) fn copy_of(text: &str) -> Result<String, AllocError> {
-    let mut copy = String::new();
-    copy.try_push_str(text)?;
-    Ok(copy)
-}
-
-#[cfg(all(feature = "std", feature = "all-parts"))]
-struct Text(String);
-
-#[cfg(all(feature = "std", feature = "all-parts"))]
-impl fmt::Write for Text {
-    fn write_str(&mut self, piece: &str) -> fmt::Result {
-        self.0.try_push_str(piece).map_err(|_| fmt::Error)
-    }
-}
-
-/// The text that a format gives. What is formatted here fails for want of memory alone.
-#[cfg(all(feature = "std", feature = "all-parts"))]
-pub(crate) fn text_of(what: fmt::Arguments<'_>) -> Result<String, AllocError> {
-    let mut text = Text(String::new());
-    fmt::write(&mut text, what).map_err(|_| AllocError)?;
-    Ok(text.0)
-}
-
 /// Growth that may be refused.
 pub(crate) trait TryPush<P> {
     /// Puts a piece at the end.
@@ -79,18 +51,47 @@ impl<T> TryPush<T> for Vec<T> {
     }
 }
 
-/// A text's growth that may be refused.
 #[cfg(all(feature = "std", feature = "all-parts"))]
-pub(crate) trait TryPushStr {
-    /// Puts a text at the end.
-    fn try_push_str(&mut self, text: &str) -> Result<(), AllocError>;
-}
+pub(crate) use texts::*;
 
 #[cfg(all(feature = "std", feature = "all-parts"))]
-impl TryPushStr for String {
-    fn try_push_str(&mut self, text: &str) -> Result<(), AllocError> {
-        self.try_reserve(text.len())?;
-        self.push_str(text);
-        Ok(())
+mod texts {
+    use super::AllocError;
+    use std::fmt;
+
+    /// A text's growth that may be refused.
+    pub(crate) trait TryPushStr {
+        /// Puts a text at the end.
+        fn try_push_str(&mut self, text: &str) -> Result<(), AllocError>;
+    }
+
+    impl TryPushStr for String {
+        fn try_push_str(&mut self, text: &str) -> Result<(), AllocError> {
+            self.try_reserve(text.len())?;
+            self.push_str(text);
+            Ok(())
+        }
+    }
+
+    /// A copy of a text.
+    pub(crate) fn copy_of(text: &str) -> Result<String, AllocError> {
+        let mut copy = String::new();
+        copy.try_push_str(text)?;
+        Ok(copy)
+    }
+
+    struct Text(String);
+
+    impl fmt::Write for Text {
+        fn write_str(&mut self, piece: &str) -> fmt::Result {
+            self.0.try_push_str(piece).map_err(|_| fmt::Error)
+        }
+    }
+
+    /// The text that a format gives. What is formatted here fails for want of memory alone.
+    pub(crate) fn text_of(what: fmt::Arguments<'_>) -> Result<String, AllocError> {
+        let mut text = Text(String::new());
+        fmt::write(&mut text, what).map_err(|_| AllocError)?;
+        Ok(text.0)
     }
 }

@@ -5,12 +5,11 @@ use crate::delay_queue::dropping::DropQueue;
 use crate::delay_queue::shard::{Seen, Shard};
 use crate::delay_queue::shared::{Common, Shared, NEXT_QUEUE};
 use crate::delay_queue::time::{ManualClock, Source, Time};
-use crate::delay_queue::waking::Waiting;
+use crate::delay_queue::waking::{granted, Waiting};
 use crate::delay_queue::DelayQueue;
 use crate::locks::Mutex;
 use crate::ticks::LAST_STAMP;
 use crate::words::directory::Clerk;
-use std::alloc::{handle_alloc_error, Layout};
 use std::marker::PhantomData;
 use std::sync::atomic::{AtomicUsize, Ordering::SeqCst};
 use std::sync::Arc;
@@ -119,10 +118,8 @@ impl<T> Builder<T> {
     /// The queue, which is empty, and takes memory as entries come.
     #[must_use]
     pub fn build(self) -> DelayQueue<T> {
-        let made = Clerk::new(u32::MAX).and_then(|clerk| Ok((clerk, Waiting::new(self.shards)?)));
-        let Ok((clerk, (receivers, written, hints))) = made else {
-            handle_alloc_error(Layout::new::<Common>());
-        };
+        let clerk = granted::<Common, _>(Clerk::new(u32::MAX));
+        let (receivers, written, hints) = granted::<Common, _>(Waiting::new(self.shards));
         let common = Arc::new(Common {
             id: NEXT_QUEUE.fetch_add(1, SeqCst),
             time: Time::new(self.clock.clone(), self.start),

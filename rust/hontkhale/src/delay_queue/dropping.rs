@@ -1,19 +1,16 @@
 //! How values are dropped, of which each may call the queue: one after the other, so that no drop of a queue stands on
 //! another one's stack. Another queue's drop is made where it stands: the stack holds one for each queue. And how panics are dropped.
 
-use std::cell::{Cell, RefCell};
-use std::mem::{self, ManuallyDrop};
+use crate::locks::{hold, Within};
+use std::mem;
 use std::panic::{catch_unwind, resume_unwind, AssertUnwindSafe};
 use std::sync::atomic::{AtomicUsize, Ordering::SeqCst};
-use std::sync::{Mutex, MutexGuard, PoisonError};
+use std::sync::Mutex;
 use std::thread;
 
-// They have no destructors, so that those of a thread's other values may drop values of a queue.
 thread_local! {
-    /// The queue of this thread's innermost drop, by its address, and 0 outside of drops.
-    static INNERMOST: Cell<usize> = const { Cell::new(0) };
-    /// The other queues, of which a drop stands around that one.
-    static AROUND: ManuallyDrop<RefCell<Vec<usize>>> = const { ManuallyDrop::new(RefCell::new(Vec::new())) };
+    /// The queues of whose drops this thread is within, each by its address.
+    static DROPS: Within<usize> = const { Within::new(0) };
 }
 
 /// Held while this thread drops values of a queue. It has the queue of the drop around it, or 0.
@@ -22,24 +19,8 @@ struct Dropping(usize);
 impl Drop for Dropping {
     #[inline]
     fn drop(&mut self) {
-        INNERMOST.set(self.0);
-        if self.0 != 0 {
-            leave_around();
-        }
+        DROPS.with(|drops| drops.leave(self.0));
     }
-}
-
-/// Ends the last drop that was begun within another one.
-#[cold]
-fn leave_around() {
-    AROUND.with(|around| {
-        let mut around = around.borrow_mut();
-        around.pop();
-        if around.is_empty() {
-            // Nobody drops the memory at the thread's end.
-            *around = Vec::new();
-        }
-    });
 }
 
 /// Values of a queue that were freed within a drop of another one of its values. They are dropped after it.
@@ -57,43 +38,38 @@ impl<T> DropQueue<T> {
         }
     }
 
-    fn values(&self) -> MutexGuard<'_, Vec<T>> {
-        self.values.lock().unwrap_or_else(PoisonError::into_inner)
-    }
-
     /// Whether values of the queue wait for their drop, here or in a shard.
     #[inline]
     pub fn has_values(&self) -> bool {
         self.places.load(SeqCst) > 0
     }
 
-    /// Counts a place at which values wait for their drop.
-    pub fn count_place(&self) {
-        self.places.fetch_add(1, SeqCst);
-    }
-
-    pub fn uncount_place(&self) {
-        self.places.fetch_sub(1, SeqCst);
+    /// Counts a place where values wait for their drop from now on, or no longer.
+    pub fn note_place(&self, has_values: bool) {
+        match has_values {
+            true => self.places.fetch_add(1, SeqCst),
+            false => self.places.fetch_sub(1, SeqCst),
+        };
     }
 
     pub fn len(&self) -> usize {
-        self.values().len()
+        hold(&self.values).len()
     }
 
     fn push(&self, value: T) {
-        let mut values = self.values();
+        let mut values = hold(&self.values);
         if values.is_empty() {
-            self.count_place();
+            self.note_place(true);
         }
         values.push(value);
     }
 
     fn pop(&self) -> Option<T> {
-        let mut values = self.values();
+        let mut values = hold(&self.values);
         let value = values.pop();
         if value.is_some() && values.is_empty() {
             *values = Vec::new();
-            self.uncount_place();
+            self.note_place(false);
         }
         value
     }
@@ -103,35 +79,33 @@ impl<T> DropQueue<T> {
         self as *const DropQueue<T> as usize
     }
 
+    /// Whether there are such values, and this thread may drop them now.
+    pub fn may_drop(&self) -> bool {
+        self.has_values() && !self.is_dropping()
+    }
+
     /// Whether the thread is within a drop of the queue.
-    pub fn is_dropping(&self) -> bool {
-        let innermost = INNERMOST.get();
-        innermost == self.address() || innermost != 0 && AROUND.with(|around| around.borrow().contains(&self.address()))
+    fn is_dropping(&self) -> bool {
+        DROPS.with(|drops| drops.any(|queue| *queue == self.address()))
     }
 
     /// None within a drop of the queue.
     #[inline]
     fn begin(&self) -> Option<Dropping> {
-        if self.is_dropping() {
-            return None;
-        }
-        let around = INNERMOST.replace(self.address());
-        if around != 0 {
-            AROUND.with(|all| all.borrow_mut().push(around));
-        }
-        Some(Dropping(around))
+        let begins = || Dropping(DROPS.with(|drops| drops.enter(self.address())));
+        (!self.is_dropping()).then(begins)
     }
 
     /// Drops them, and those that are freed meanwhile. Nothing within a drop of the queue.
     pub fn drop_all(&self) {
         if let Some(dropping) = self.begin() {
-            self.drop_rest(&dropping);
+            self.drop_rest(dropping);
         }
     }
 
     /// The same where the turn is begun.
     #[inline(always)]
-    fn drop_rest(&self, _dropping: &Dropping) {
+    fn drop_rest(&self, _dropping: Dropping) {
         while self.has_values() {
             let Some(value) = self.pop() else { return };
             drop(value);
@@ -145,7 +119,7 @@ impl<T> DropQueue<T> {
             None => self.push(value),
             Some(dropping) => {
                 drop(value);
-                self.drop_rest(&dropping);
+                self.drop_rest(dropping);
             }
         }
     }
@@ -153,15 +127,14 @@ impl<T> DropQueue<T> {
 
 /// Makes all of some calls, and gives the first panic.
 pub(crate) fn first_panic(calls: impl Iterator<Item = thread::Result<()>>) -> thread::Result<()> {
-    let mut first = Ok(());
-    for called in calls {
+    let first = calls.reduce(|first, called| {
         if first.is_ok() {
-            first = called;
-        } else {
-            lose(called);
+            return called;
         }
-    }
-    first
+        lose(called);
+        first
+    });
+    first.unwrap_or(Ok(()))
 }
 
 /// Goes on with what a call panicked with, where it did.

@@ -30,9 +30,8 @@ impl<T> Shard<T> {
     /// cancelled entries: where they are the most, they are freed once there is no room.
     fn wanted(&self, cancels: u64) -> Option<usize> {
         let cancelled = cancels.saturating_sub(self.freed()) as usize;
-        let is_for_live = 2 * cancelled <= self.linked();
-        let (sizing, store) = (self.entries.sizing(), self.entries.store());
-        sizing.capacity_ahead(store).filter(|_| is_for_live)
+        let ahead = self.entries.sizing().capacity_ahead(self.entries.store());
+        ahead.filter(|_| 2 * cancelled <= self.linked())
     }
 }
 
@@ -104,12 +103,12 @@ impl<T> Shared<T> {
 
     /// Makes room in a shard for an insert, unless another thread has. `Full` where it has as many cores as it may have.
     pub fn grow(&self, at: usize) -> Result<(), InsertErrorKind> {
-        let wanted = |shard: &mut Shard<T>| match shard.entries.finds_room(false) {
-            true => Ok(None),
-            false => {
-                let capacity = shard.entries.sizing().capacity_for_insert(shard.entries.store());
-                capacity.map(Some).ok_or(InsertErrorKind::Full)
+        let wanted = |shard: &mut Shard<T>| {
+            if shard.entries.finds_room(false) {
+                return Ok(None);
             }
+            let capacity = shard.entries.sizing().capacity_for_insert(shard.entries.store());
+            capacity.map(Some).ok_or(InsertErrorKind::Full)
         };
         self.make_wanted(at, wanted).map(drop)
     }

@@ -185,8 +185,7 @@ impl<T> Shared<T> {
         };
         if matches!(step, Step::Cancel) && made.is_ok() {
             // It doesn't come out by this key any more.
-            let _ = shard.entries.reap(&entry);
-            shard.may_have_deferred = true;
+            shard.reap(&entry);
         }
         made.map_err(|_| KeyError::Ended)
     }
@@ -195,10 +194,10 @@ impl<T> Shared<T> {
     /// lock. It is inlined as the insert is.
     #[inline(always)]
     pub fn reset(&self, key: &Key, tick: u64) -> Result<Key, KeyError> {
-        match self.common.is_later(key, tick) {
-            true => Ok(*key),
-            false => self.reset_under_lock(key, tick),
+        if self.common.is_later(key, tick) {
+            return Ok(*key);
         }
+        self.reset_under_lock(key, tick)
     }
 
     fn reset_under_lock(&self, key: &Key, tick: u64) -> Result<Key, KeyError> {

@@ -119,26 +119,14 @@ impl<T> Shared<T> {
             let wakes = Wakes::Thread(thread::current());
             let (until_due, now) = (self.common.least_hint(), self.common.time.tick());
             if let Some(tick) = self.common.receivers.sleep(&mut thread.1, wakes, until_due, now) {
-                self.park(self.common.time.moment_of(tick).into_iter().chain(until).min());
+                let time = &self.common.time;
+                time.park(time.moment_of(tick).into_iter().chain(until).min());
             }
             match take() {
                 Step::Took(taken) => return Some(taken),
-                Step::Rests if self.has_no_deferred() && self.over(until).is_none() => {}
+                Step::Rests if !self.deferred.may_drop() && self.over(until).is_none() => {}
                 _ => return None,
             }
-        }
-    }
-
-    /// Sleeps until it is woken, at most until a moment.
-    pub fn park(&self, until: Option<Instant>) {
-        let Some(when) = until else {
-            return thread::park();
-        };
-        match self.common.time.sleep_until(when) {
-            Some(length) => thread::park_timeout(length),
-            // Whoever advances the clock after this look wakes all that sleep.
-            None if self.common.time.now() < when => thread::park(),
-            None => {}
         }
     }
 
@@ -199,23 +187,15 @@ impl<T> Shared<T> {
 
     /// An entry that is due, where the turns of a round find one.
     fn take_one(&self) -> Step<Expired<T>> {
-        for _ in 0..TURNS {
-            match self.try_poll(POLLED_WHOLE) {
-                Step::Works => {}
-                step => return step,
-            }
-        }
-        Step::Works
+        let mut turns = (0..TURNS).map(|_| self.try_poll(POLLED_WHOLE));
+        turns.find(|step| !matches!(step, Step::Works)).unwrap_or(Step::Works)
     }
 
     /// Takes entries that are due, at most so many, and tells how many. It ends where the turns of a round find few.
     fn take_some(&self, row: &mut Vec<Expired<T>>, most: usize) -> Step<usize> {
         let now = self.common.time.tick();
         let (before, mut turns) = (row.len(), 0);
-        while row.len() - before < most && turns < TURNS {
-            if self.common.most_due(now).is_none() {
-                break;
-            }
+        while row.len() - before < most && turns < TURNS && self.common.most_due(now).is_some() {
             let left = most - (row.len() - before);
             // What may fail for want of memory is done without a lock.
             row.reserve(TAKEN_AT_ONCE.min(left));
@@ -699,7 +679,7 @@ mod tests {
             fn drop(&mut self) {
                 assert!(self.0.try_recv().is_err() && self.0.try_recv().is_err());
                 self.0
-                    .insert(self.0.shared.has_no_deferred().to_string(), Duration::ZERO)
+                    .insert((!self.0.shared.deferred.may_drop()).to_string(), Duration::ZERO)
                     .expect("room");
             }
         }

@@ -1,13 +1,13 @@
 //! What receives in the place of a queue's clone, and how it does so in a task: a runtime polls it, and has a timer for when to
 //! poll it again. A task joins the line of receivers where it has nothing to take, and leaves it with what it takes.
 
+use crate::debug::shows;
 use crate::delay_queue::errors::{RecvTimeoutError, TryRecvError};
 use crate::delay_queue::receive::{Step, TURNS};
 use crate::delay_queue::shard::STEPS;
 use crate::delay_queue::shared::Shared;
 use crate::delay_queue::waking::{Seat, Wakes};
 use crate::delay_queue::{DelayQueue, Expired, Iter, TryIter};
-use std::fmt;
 use std::sync::Arc;
 use std::task::{Context, Poll, Waker};
 use std::time::{Duration, Instant};
@@ -195,6 +195,10 @@ impl<T> Receiver<T> {
         Poll::Pending
     }
 
+    fn len(&self) -> usize {
+        self.shared.common.waiting()
+    }
+
     /// Sleeps in line, at most until the tick that it tells; none where something came meanwhile.
     fn sleep(&mut self, waker: &Waker) -> Option<u64> {
         let common = &self.shared.common;
@@ -220,6 +224,10 @@ impl<T> Receiver<T> {
     }
 }
 
+shows! {
+    [T] Receiver<T> { .len() .wake_at }
+}
+
 impl<T> Clone for Receiver<T> {
     fn clone(&self) -> Receiver<T> {
         Receiver::new(&self.shared)
@@ -229,15 +237,6 @@ impl<T> Clone for Receiver<T> {
 impl<T> Drop for Receiver<T> {
     fn drop(&mut self) {
         self.shared.common.leave(&mut self.seat);
-    }
-}
-
-impl<T> fmt::Debug for Receiver<T> {
-    fn fmt(&self, f: &mut fmt::Formatter<'_>) -> fmt::Result {
-        f.debug_struct("Receiver")
-            .field("len", &self.shared.common.waiting())
-            .field("wake_at", &self.wake_at)
-            .finish_non_exhaustive()
     }
 }
 

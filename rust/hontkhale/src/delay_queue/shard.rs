@@ -105,13 +105,6 @@ impl<T> Shard<T> {
         Key::of(self.queue, self.at, &ticks::Key::new(entry, stamp))
     }
 
-    /// Notes that an entry left.
-    #[inline(always)]
-    pub fn note_left(&mut self) {
-        self.counts.left -= 1;
-        self.entries.note_left(self.counts.left);
-    }
-
     /// Notes that an entry left its core for another one.
     #[cold]
     fn note_moved(&mut self) {
@@ -141,7 +134,8 @@ impl<T> Shard<T> {
     #[inline(always)]
     pub fn remove(&mut self, entry: &EntryId) -> Result<Removed<T>, CoreError> {
         let removed = self.entries.remove(entry)?;
-        self.note_left();
+        self.counts.left -= 1;
+        self.entries.note_left(self.counts.left);
         Ok(removed)
     }
 
@@ -198,7 +192,8 @@ impl<T> Shard<T> {
         match piece.expect("a tick that isn't beyond the last") {
             Piece::Answer(Turn::Out(out)) => {
                 self.counts.came_out(now, out.deadline);
-                self.note_left();
+                self.counts.left -= 1;
+                self.entries.note_left(self.counts.left);
                 let entry = out.key.entry();
                 Step::Took((self.named(entry, entry.born()), out.deadline, out.value))
             }
@@ -225,11 +220,16 @@ impl<T> Shard<T> {
         match self.remove(&entry) {
             Ok(removed) => Step::Took((self.named(entry, entry.born()), removed.deadline, removed.value)),
             Err(_) => {
-                let _ = self.entries.reap(&entry);
-                self.may_have_deferred = true;
+                self.reap(&entry);
                 Step::Works
             }
         }
+    }
+
+    /// Frees an entry where it is found cancelled.
+    pub fn reap(&mut self, entry: &EntryId) {
+        let _ = self.entries.reap(entry);
+        self.may_have_deferred = true;
     }
 
     /// Frees cancelled entries at the next slots, unless each was looked at since the last of so many cancels. It tells whether
@@ -259,8 +259,7 @@ impl<T> Shard<T> {
         };
         match self.entries.deadline(&entry) {
             Err(_) => {
-                let _ = self.entries.reap(&entry);
-                self.may_have_deferred = true;
+                self.reap(&entry);
                 // A receiver is to come, and to drop the value.
                 self.entries.call_others();
                 true
@@ -297,7 +296,7 @@ impl Way {
 }
 
 /// What became of a shard's entries. One that is moved isn't counted.
-#[derive(Clone, Copy, Default)]
+#[derive(Default)]
 pub(crate) struct Counts {
     pub inserted: u64,
     pub expired: u64,
@@ -349,7 +348,7 @@ impl Counts {
 #[repr(align(128))]
 pub(crate) struct Seen {
     /// How many entries came in, less those that came out or were removed: the cancelled ones count. Where it is 0 none waits.
-    left: AtomicU64,
+    pub left: AtomicU64,
     /// The number of cancels since which a receiver that has time has nothing to do here.
     quiet_since: AtomicU64,
     /// The cancels that were accepted.
@@ -364,15 +363,6 @@ impl Seen {
     /// Whether a receiver that has time has nothing to do here.
     pub fn is_quiet(&self) -> bool {
         self.quiet_since.load(Relaxed) == self.cancels()
-    }
-
-    /// How many entries wait, and never fewer than those that stay meanwhile. `others` stands for what others do meanwhile.
-    #[inline(always)]
-    pub fn waiting(&self, others: impl FnOnce()) -> u64 {
-        // They are read first: each cancel is among what is left.
-        let cancels = self.cancels();
-        others();
-        self.left.load(Relaxed).saturating_sub(cancels)
     }
 }
 
@@ -438,10 +428,9 @@ impl<T> Locked<'_, T> {
             note_deferred(&mut shard, &shared.deferred);
         }
         let hint = shard.entries.hint();
-        let rung = if shard.hint.tick() == hint {
-            Rung::Nobody
-        } else {
-            shard.hint.set(hint)
+        let rung = match shard.hint.tick() == hint {
+            true => Rung::Nobody,
+            false => shard.hint.set(hint),
         };
         seen.left.store(shard.counts.left, Relaxed);
         let quiet_since = shard.entries.sizing().quiet_since();
@@ -456,10 +445,8 @@ impl<T> Locked<'_, T> {
 fn note_deferred<T>(shard: &mut Shard<T>, deferred: &DropQueue<T>) {
     shard.may_have_deferred = false;
     let has_deferred = shard.deferred() > 0;
-    match (mem::replace(&mut shard.has_deferred, has_deferred), has_deferred) {
-        (false, true) => deferred.count_place(),
-        (true, false) => deferred.uncount_place(),
-        _ => {}
+    if mem::replace(&mut shard.has_deferred, has_deferred) != has_deferred {
+        deferred.note_place(has_deferred);
     }
 }
 

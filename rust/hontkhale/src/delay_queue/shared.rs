@@ -21,7 +21,8 @@ use std::cell::Cell;
 use std::iter;
 use std::mem;
 use std::panic::{catch_unwind, AssertUnwindSafe};
-use std::sync::atomic::{fence, AtomicU32, AtomicUsize, Ordering::SeqCst};
+use std::sync::atomic::Ordering::{Relaxed, SeqCst};
+use std::sync::atomic::{fence, AtomicU32, AtomicUsize};
 use std::sync::Arc;
 use std::thread;
 
@@ -110,9 +111,15 @@ impl Common {
         }
     }
 
-    /// How many wait by the shards. `others` stands for what others do meanwhile.
+    /// How many wait by the shards, and never fewer than those that stay meanwhile. `others` stands for what others do meanwhile.
     pub fn waiting_while(&self, mut others: impl FnMut()) -> usize {
-        self.seen.iter().map(|seen| seen.waiting(&mut others)).sum::<u64>() as usize
+        let waits = |seen: &Seen| {
+            // They are read first: each cancel is among what is left.
+            let cancels = seen.cancels();
+            others();
+            seen.left.load(Relaxed).saturating_sub(cancels)
+        };
+        self.seen.iter().map(waits).sum::<u64>() as usize
     }
 
     /// Whether no entry waits, by the shards alone: a bound counts one that isn't in, and one that is out for a moment yet. Where
@@ -157,27 +164,33 @@ impl Common {
     /// Wakes the leader of the receivers where that was rung, and gives the panic of the clock or of a waker. No lock is held.
     #[inline(always)]
     pub fn ring(&self, rung: Rung) -> thread::Result<()> {
-        match rung {
-            Rung::Nobody => Ok(()),
-            Rung::Leader => {
-                // A program's clock that panics keeps nobody asleep.
-                let now = catch_unwind(AssertUnwindSafe(|| self.time.tick()));
-                let woken = self.receivers.ring(rung, *now.as_ref().unwrap_or(&0));
-                now.map(drop).and(woken)
-            }
+        if let Rung::Nobody = rung {
+            return Ok(());
         }
-    }
-
-    /// Wakes all who wait.
-    pub fn wake_all(&self) -> thread::Result<()> {
-        self.receivers.wake_all(self.time.tick())
+        // A program's clock that panics keeps nobody asleep.
+        let now = catch_unwind(AssertUnwindSafe(|| self.time.tick()));
+        let woken = self.receivers.ring(rung, *now.as_ref().unwrap_or(&0));
+        now.map(drop).and(woken)
     }
 
     /// Has a receiver leave the line where it is there.
     pub fn leave(&self, seat: &mut Option<Seat>) {
-        if seat.is_some() {
+        if let Some(seat) = seat.take() {
             self.receivers.leave(seat, self.tick_of_wake());
         }
+    }
+
+    /// Ends the receivers. Another thread may do so too: each that sleeps is called by one of them.
+    pub fn end(&self) -> thread::Result<()> {
+        let called = self.receivers.close();
+        self.receivers.wake_each(called, self.tick_of_wake())
+    }
+
+    /// Has this thread told when the queue is empty, as long as that is held.
+    pub fn ask(&self) -> Asks<'_> {
+        self.receivers.add_asker();
+        self.asked.fetch_add(1, SeqCst);
+        Asks(self)
     }
 
     /// The present tick, or 0 where a program's clock panics. Whoever asks has a value in hand, or others to wake.
@@ -199,7 +212,22 @@ pub(crate) struct Shared<T> {
     pub deferred: DropQueue<T>,
 }
 
-/// The shards.
+impl<T> Drop for Shared<T> {
+    fn drop(&mut self) {
+        self.common.state.fetch_or(IS_OVER, SeqCst);
+    }
+}
+
+/// Held while this thread waits until a queue is empty.
+pub(crate) struct Asks<'c>(&'c Common);
+
+impl Drop for Asks<'_> {
+    fn drop(&mut self) {
+        self.0.asked.fetch_sub(1, SeqCst);
+        self.0.receivers.remove_asker();
+    }
+}
+
 impl<T> Shared<T> {
     /// The shards, each while its lock is held.
     pub fn locked(&self) -> impl Iterator<Item = Locked<'_, T>> {
@@ -337,37 +365,9 @@ impl<T> Shared<T> {
         let drops = |value| self.deferred.drop_value(value);
         values.take(most).map(drops).count() == most
     }
-
-    /// Whether there are no such values that this thread may drop now.
-    pub fn has_no_deferred(&self) -> bool {
-        !self.deferred.has_values() || self.deferred.is_dropping()
-    }
 }
 
-impl<T> Drop for Shared<T> {
-    fn drop(&mut self) {
-        self.common.state.fetch_or(IS_OVER, SeqCst);
-    }
-}
-
-/// Held while this thread waits until a queue is empty.
-pub(crate) struct Asks<'c>(&'c Common);
-
-impl<'c> Asks<'c> {
-    pub fn new(common: &'c Common) -> Asks<'c> {
-        common.receivers.add_asker();
-        common.asked.fetch_add(1, SeqCst);
-        Asks(common)
-    }
-}
-
-impl Drop for Asks<'_> {
-    fn drop(&mut self) {
-        self.0.asked.fetch_sub(1, SeqCst);
-        self.0.receivers.remove_asker();
-    }
-}
-
+/// How it ends.
 impl<T> Shared<T> {
     /// Refuses inserts, and ends the receivers once nothing waits. A task's waker may panic.
     pub fn close_when_empty(&self) -> thread::Result<()> {
@@ -413,9 +413,7 @@ impl<T> Shared<T> {
         if is_in_closure || self.common.is_closed() || !self.is_surely_empty() {
             return Ok(());
         }
-        // Another thread may have found it empty too: each that sleeps is called by one of them.
-        let called = self.common.receivers.close();
-        self.common.receivers.wake_each(called, self.common.tick_of_wake())
+        self.common.end()
     }
 
     /// Whether no entry waits, told by the locks of all shards: each insert that takes one of them later sees what the caller did.

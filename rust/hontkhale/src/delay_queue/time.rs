@@ -2,11 +2,13 @@
 
 use crate::delay_queue::dropping::{first_panic, go_on};
 use crate::delay_queue::shared::Common;
+use crate::locks::hold;
 use crate::ticks::{rounded_up, whole, LAST_TICK};
 use std::fmt;
 use std::hash::{Hash, Hasher};
 use std::sync::atomic::{AtomicU64, Ordering::SeqCst};
-use std::sync::{Arc, Mutex, MutexGuard, PoisonError, Weak};
+use std::sync::{Arc, Mutex, Weak};
+use std::thread;
 use std::time::{Duration, Instant};
 
 /// A clock that stands still until it is advanced, for tests. A clone is the same clock.
@@ -60,20 +62,16 @@ impl ManualClock {
         let by = u64::try_from(by.as_nanos()).unwrap_or(u64::MAX);
         let passed = &self.0.passed;
         let _ = passed.fetch_update(SeqCst, SeqCst, |passed| Some(passed.saturating_add(by)));
-        let queues = self.queues().clone();
+        let queues = hold(&self.0.queues).clone();
         let left = queues.iter().filter_map(Weak::upgrade);
-        let woken = first_panic(left.map(|queue| queue.wake_all()));
-        self.queues().retain(|queue| queue.strong_count() > 0);
+        let woken = first_panic(left.map(|queue| queue.receivers.wake_all(queue.time.tick())));
+        hold(&self.0.queues).retain(|queue| queue.strong_count() > 0);
         go_on(woken);
-    }
-
-    fn queues(&self) -> MutexGuard<'_, Vec<Weak<Common>>> {
-        self.0.queues.lock().unwrap_or_else(PoisonError::into_inner)
     }
 
     /// From now on an advance wakes whoever waits for the time of that queue.
     pub(crate) fn wakes(&self, queue: &Arc<Common>) {
-        self.queues().push(Arc::downgrade(queue));
+        hold(&self.0.queues).push(Arc::downgrade(queue));
     }
 }
 
@@ -263,11 +261,14 @@ impl Time {
         (tick <= LAST_TICK).then(|| self.moment(tick))
     }
 
-    /// How long a thread may sleep at most until a moment, none where it is woken as the time comes.
-    pub fn sleep_until(&self, when: Instant) -> Option<Duration> {
-        match &self.clock {
-            Source::Manual(_) => None,
-            clock => Some(when.saturating_duration_since(clock.now())),
+    /// Puts the thread to sleep until it is woken, at most until a moment.
+    pub fn park(&self, until: Option<Instant>) {
+        let left = until.map(|when| when.saturating_duration_since(self.now()));
+        match (left, &self.clock) {
+            // Whoever advances the clock after this look wakes all that sleep.
+            (Some(Duration::ZERO), Source::Manual(_)) => {}
+            (None, _) | (_, Source::Manual(_)) => thread::park(),
+            (Some(length), _) => thread::park_timeout(length),
         }
     }
 }
@@ -282,8 +283,9 @@ fn passed_by_std(start: Instant, when: Instant) -> Duration {
 
 #[cfg(test)]
 mod tests {
-    use super::{rounded_up, ManualClock, Parts, Source, Time, LAST_TICK};
+    use super::{hold, rounded_up, ManualClock, Parts, Source, Time, LAST_TICK};
     use crate::DelayQueue;
+    use std::thread;
     use std::time::{Duration, Instant};
 
     /// From starts within a second, by the parts of moments and by std alone.
@@ -334,7 +336,10 @@ mod tests {
     fn who_waits_for_a_manual_clock_sleeps_until_it_is_advanced() {
         let clock = ManualClock::new();
         let time = Time::new(Source::Manual(clock.clone()), None);
-        assert_eq!(time.sleep_until(clock.now()), None);
+        time.park(Some(clock.now()));
+        let waits = thread::spawn(move || time.park(Some(clock.now() + Duration::from_millis(1))));
+        waits.thread().unpark();
+        waits.join().expect("it was woken");
     }
 
     #[test]
@@ -342,9 +347,9 @@ mod tests {
         let clock = ManualClock::new();
         let queues = [(); 3].map(|()| DelayQueue::<String>::builder().clock(&clock).build());
         clock.advance(Duration::ZERO);
-        assert_eq!(clock.queues().len(), 3);
+        assert_eq!(hold(&clock.0.queues).len(), 3);
         drop(queues);
         clock.advance(Duration::ZERO);
-        assert_eq!(clock.queues().len(), 0);
+        assert_eq!(hold(&clock.0.queues).len(), 0);
     }
 }

@@ -10,13 +10,14 @@
 pub(crate) use crate::bell::Seat;
 use crate::bell::{Call, Hint, Hints, Rung, Turns};
 use crate::delay_queue::dropping::{first_panic, lose};
+use crate::locks::hold;
 use crate::memory::AllocError;
 use std::alloc::{handle_alloc_error, Layout};
 use std::cell::{Cell, RefCell};
 use std::iter;
 use std::mem::ManuallyDrop;
 use std::panic::{catch_unwind, AssertUnwindSafe};
-use std::sync::{Mutex, MutexGuard, PoisonError};
+use std::sync::Mutex;
 use std::task::Waker;
 use std::thread::{self, Thread};
 
@@ -56,21 +57,21 @@ struct Waits {
     askers: Vec<Thread>,
 }
 
-/// Those who receive from a queue and wait.
+/// Those who receive from a queue and wait. Nobody's code runs while it is locked.
 pub(crate) struct Waiting(Mutex<Waits>);
 
 impl Waits {
     /// All that sleep, awake from now on.
     fn rise_all(&mut self, now: u64) -> Vec<Sleeper> {
         let mut risen = Vec::new();
-        granted(self.turns.rise_all(now, &mut risen));
+        granted::<Sleeper, _>(self.turns.rise_all(now, &mut risen));
         risen
     }
 }
 
-/// What was made of memory; the process ends where that is refused.
-fn granted<R>(made: Result<R, AllocError>) -> R {
-    made.unwrap_or_else(|_| handle_alloc_error(Layout::new::<Sleeper>()))
+/// What was made of memory for an `X`; the process ends where that is refused.
+pub(crate) fn granted<X, R>(made: Result<R, AllocError>) -> R {
+    made.unwrap_or_else(|_| handle_alloc_error(Layout::new::<X>()))
 }
 
 impl Waiting {
@@ -84,22 +85,17 @@ impl Waiting {
         Ok((Waiting(Mutex::new(waits)), written, hints))
     }
 
-    /// Nobody's code runs while it is locked.
-    fn waits(&self) -> MutexGuard<'_, Waits> {
-        self.0.lock().unwrap_or_else(PoisonError::into_inner)
-    }
-
     /// Puts a receiver to sleep, which joins the line where it has no seat there, and tells the tick at which it looks again by
     /// itself. None where it is to look again now: the queue is closed, it leads and something is due before `until`, or it has
     /// called others.
     pub fn sleep(&self, its: &mut Option<Seat>, wakes: Wakes, until: u64, now: u64) -> Option<u64> {
         let is_task = matches!(wakes, Wakes::Task(_));
-        let mut waits = self.waits();
+        let mut waits = hold(&self.0);
         // Those that follow sleep without an end, until a task has waited.
         let is_first_task = is_task && !waits.turns.has_tasks();
         let seat = match *its {
             Some(seat) if waits.turns.sits(seat) => seat,
-            _ => granted(waits.turns.join(is_task)),
+            _ => granted::<Sleeper, _>(waits.turns.join(is_task)),
         };
         let before = waits.turns.rise(seat);
         let mut called = if is_first_task { waits.rise_all(now) } else { Vec::new() };
@@ -117,8 +113,7 @@ impl Waiting {
     /// Leaves the line, and wakes the one that leads from then on. What a program's code panics with here is lost: the caller
     /// may have a value in hand. Within a waker of the line the next one is called after it: where each of many wakers drops its
     /// receiver, none is called on another one's stack.
-    pub fn leave(&self, its: &mut Option<Seat>, now: u64) {
-        let Some(seat) = its.take() else { return };
+    pub fn leave(&self, seat: Seat, now: u64) {
         let (slept, next) = self.left(seat, now);
         lose(catch_unwind(AssertUnwindSafe(|| drop(slept))));
         let is_calling = CALLING.get() == self.address();
@@ -129,31 +124,31 @@ impl Waiting {
     }
 
     fn left(&self, seat: Seat, now: u64) -> (Option<Sleeper>, Option<Sleeper>) {
-        let (slept, called) = self.waits().turns.leave(seat, now);
+        let (slept, called) = hold(&self.0).turns.leave(seat, now);
         (slept, called.map(|Call(next)| next))
     }
 
     /// Wakes the leader, which was rung.
     #[cold]
     pub fn ring(&self, rung: Rung, now: u64) -> thread::Result<()> {
-        let called = self.waits().turns.ring(rung, now);
+        let called = hold(&self.0).turns.ring(rung, now);
         self.wake_each(called.map(|Call(leader)| leader), now)
     }
 
     /// Wakes all that sleep, and those that wait until the queue is empty.
     pub fn wake_all(&self, now: u64) -> thread::Result<()> {
         self.wake_askers();
-        let all = self.waits().rise_all(now);
+        let all = hold(&self.0).rise_all(now);
         self.wake_each(all, now)
     }
 
     /// Notes that this thread waits until the queue is empty.
     pub fn add_asker(&self) {
-        self.waits().askers.push(thread::current());
+        hold(&self.0).askers.push(thread::current());
     }
 
     pub fn remove_asker(&self) {
-        let (askers, id) = (&mut self.waits().askers, thread::current().id());
+        let (askers, id) = (&mut hold(&self.0).askers, thread::current().id());
         if let Some(at) = askers.iter().position(|asker| asker.id() == id) {
             askers.swap_remove(at);
         }
@@ -161,13 +156,13 @@ impl Waiting {
 
     /// Wakes those that wait until the queue is empty: each looks whether it is.
     pub fn wake_askers(&self) {
-        self.waits().askers.iter().for_each(Thread::unpark);
+        hold(&self.0).askers.iter().for_each(Thread::unpark);
     }
 
     /// Closes for good: nobody sleeps any more. Those that are given are to be woken.
     #[must_use]
     pub fn close(&self) -> Vec<Sleeper> {
-        let mut waits = self.waits();
+        let mut waits = hold(&self.0);
         iter::from_fn(|| waits.turns.close())
             .map(|Call(sleeper)| sleeper)
             .collect()
