@@ -375,11 +375,6 @@ module _ {T W : Type 0} where
       (λ b c sweeps before. sweeps_late shared b c t before w.slot (w.slot + most) y.0.reaped sweeps.0) y.1 late)
       did.1
 
-  pub sweeps_or : (shared : Bool) (most : ℕ) (w v : Sweep) (s k : StoreState T W) (r : Bool) (t : ℕ) → (r ≡ true → SweepsNext shared most w s v k) → (r ≡ false → k ≡ s)
-      → NoneLiveIn s.cores t → NoneLiveIn k.cores t
-  sweeps_or shared most w v s k true t sweeps rests late = sweeps_for shared most w v s k t (sweeps refl) late
-  sweeps_or shared most w v s k false t sweeps rests late = same_late s.cores k.cores t (ap (λ z. z.cores) (rests refl)) late
-
   -- cores come, go and are opened
   pub opens_late : (s k : StoreState T W) (t : ℕ) → OnlyOpens s k → NoneLiveIn s.cores t → NoneLiveIn k.cores t
   opens_late s k t did late = same_late (record s.cores { opened = did.0.0 }) k.cores t did.0.1 late
@@ -394,7 +389,7 @@ module _ {T W : Type 0} where
       (at_snoc s.cores.cores c d i (subst L comes.0 at))
 
   pub brings_late : (s k : StoreState T W) (c : Core T W) (t : ℕ) (r : Result (Unit {0}) (TakeError × Core T W)) → IsLawfulCore c → OnOk r (ComesInto s c k)
-      → IfErr r (λ e. (e.1 ≡ c) × (k.cores ≡ s.cores) × (k.notes ≡ s.notes)) → NoneLiveIn s.cores t → NoneLiveIn k.cores t
+      → IfErr r (λ e. (e.1 ≡ c) × (k.cores ≡ s.cores)) → NoneLiveIn s.cores t → NoneLiveIn k.cores t
   brings_late s k c t (Ok done) lawful comes back late = comes_late s k c t lawful comes late
   brings_late s k c t (Err b) lawful comes back late = same_late s.cores k.cores t back.1 late
 
@@ -406,17 +401,5 @@ module _ {T W : Type 0} where
   given_late s k t (Some c) gives none late = were_late s k t (gives_were s k c gives) late
   given_late s k t None gives none late = same_late s k t none.1 late
 
-  -- there is one core, and it wakes then
-  pub one_late : (s : CoreRow T W) (c : Core T W) (r : Option ℕ) → length s.cores ≡ 1 → IsCoreAt s.cores 0 c → WakeBounds c r → NoneLiveIn s (unwrap_or r NEVER)
-  one_late s c r one at bounds i d there =
-      let inside = there.0 in
-      let first : i ≡ 0 = omega arith in
-      let A : ℕ → Type 0 = λ j. IsCoreAt s.cores j d in
-      let P : Core T W → Type 0 = λ k. NoneLiveBefore (machine k) (unwrap_or r NEVER) in
-      subst P (one_at s.cores 0 c d at (subst A first there)) (quiet_wake c r bounds)
-
   pub none_late : (s : CoreRow T W) (t : ℕ) → length s.cores ≡ 0 → NoneLiveIn s t
   none_late s t none i c at = let inside = at.0 in absurd (omega arith)
-
-  pub first_late : (s : CoreRow T W) → NoneLiveIn s 0
-  first_late s i c at = quiet_fresh (machine c) 0 refl

@@ -597,15 +597,6 @@ module _ {T W : Type 0} where
   opened_comes s m t c true place takes notes opens refused same = (ap (λ k. k.cores) (opens refl).1 ∙ takes.cores, same ∙ notes, takes.may, ap (λ k. k.next) (opens refl).1 ∙ takes.next, ap (λ k. k.noted) (opens refl).1 ∙ takes.noted)
   opened_comes s m t c false place takes notes opens refused same = (ap (λ k. k.cores) (refused refl).1 ∙ takes.cores, same ∙ notes, takes.may, ap (λ k. k.next) (refused refl).1 ∙ takes.next, ap (λ k. k.noted) (refused refl).1 ∙ takes.noted)
 
-  -- each core is one that was there
-  pub were_hold : (s t : StoreState T W) → AllWere s.cores t.cores → t.notes ≡ s.notes → HoldsDeadlines s t
-  were_hold s t were notes u given =
-      holds_users s t (λ q e z. let was = were z.0 z.1 z.2 in (e, (was.0, z.1, was.1, z.3), (λ d h. h))) (λ q e z. ap (λ n. user_at n q) notes) u
-
-  pub same_hold : (s t : StoreState T W) → t.cores ≡ s.cores → t.notes ≡ s.notes → HoldsDeadlines s t
-  same_hold s t cores notes u given =
-      holds_users s t (λ q. row_same s.cores t.cores q (ap (λ k. k.cores) cores)) (λ q e z. ap (λ n. user_at n q) notes) u
-
   pub given_raises : (s t : CoreRow T W) (o : Option (Core T W)) → IfSome o (λ c. GivesDrained s c t) → IfNone o (NoneDrained s × (t ≡ s)) → (q : EntryId) → RowRaises s t q
   given_raises s t (Some c) gives none q = λ e z.
       let P : CoreRow T W → Type 0 = λ r. IsCoreAt r.cores z.0 z.1 in

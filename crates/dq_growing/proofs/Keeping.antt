@@ -156,12 +156,6 @@ module _ {T W : Type 0} where
   pub then_keep_beside : (c : Core T W) (s m t : StoreState T W) → KeepsIdsBeside c s m → KeepsIds m t → KeepsIdsBeside c s t
   then_keep_beside c s m t one two u past given = let a = one u past given in then_one s m t u a (two u a.given)
 
-  -- a core that has drained comes in again
-  pub back_in_keep : (c : Core T W) (s m t : StoreState T W) → GivesDrained s.cores c m.cores → KeepsIds s m → KeepsIdsBeside c m t → KeepsIds s t
-  back_in_keep c s m t gives one two u given =
-      let a = one u given in
-      then_one s m t u a (two u (λ number. given.1 gives.place c gives.drained.0 (sym number)) a.given)
-
   pub all_keep : (s : StoreState T W) → KeepsIds s s
   all_keep s u given = record { given = given; stays = λ v z. inl z; stood = λ v z. z }
 

@@ -215,11 +215,6 @@ module _ {T W : Type 0} where
   pub takes_turn : (s : CoreRow T W) (l : Least) → IsLeastBelow s.cores (length s.cores) l → TellsDue s (In l.place l.others)
   takes_turn s l is = (is.below, (λ i c ne x. is.others i c x.0 ne x), inr (l.wake, is.core, is.at, is.wake, is.first))
 
-  -- so has a core where no other one has anything up to the noted tick
-  pub now_turn : (s : CoreRow T W) (place others : ℕ) → place < length s.cores → OthersAreQuiet s place others → s.noted < others
-      → TellsDue s (In place others)
-  now_turn s place others inside quiet before = (inside, quiet, inl before)
-
   -- and one that wakes by what the others have
   pub wakes_turn : (s : CoreRow T W) (place others : ℕ) (c : Core T W) → place < length s.cores → OthersAreQuiet s place others
       → c ≡ get_or s.cores place c → ((w : ℕ) × TellsWake c (Some w) × (w ≤ others)) → TellsDue s (In place others)

@@ -225,9 +225,6 @@ module _ {T W : Type 0} (shared : Bool) (b c : Core T W) (t : ℕ) (before : Non
   pub sweeps_late : (from upto n : ℕ) → SweepsSome shared b from upto n c → NoneLiveBefore (machine c) t
   sweeps_late from upto n r = reaps_late shared b.slots.last_stamp t (machine b) (machine c) r.reaped.2.run before
 
-  pub clears_late : (n : ℕ) → Clears shared b n c → NoneLiveBefore (machine c) t
-  clears_late n r = none_ever (machine c) t r.none
-
   pub polls_late : (tick : ℕ) (turn : Turn T) → Polls shared b tick (Ok turn) c → NoneLiveBefore (machine c) t
   unfolding IsLate
   polls_late tick turn r =

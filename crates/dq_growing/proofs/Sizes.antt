@@ -178,26 +178,11 @@ module _ {T W : Type 0} where
     here = λ c x may. let C : Core T W → ℕ = λ d. clear_slots d in let both = ap C (one_at s.cores i b c at x) in omega (arith, both, same);
   }
 
-  pub roomier_less : (s : CoreRow T W) (any : Bool) (found : Room) (i n : ℕ) (b : Core T W) → IsCoreAt s.cores i b → n ≡ clear_slots b → n ≤ found.free
-      → IsRoomier s any found i found
-  roomier_less s any found i n b at same le = record {
-    one = inl refl;
-    before = omega arith;
-    here = λ c x may. let C : Core T W → ℕ = λ d. clear_slots d in let both = ap C (one_at s.cores i b c at x) in omega (arith, both, same, le);
-  }
-
   pub roomier_shut : (s : CoreRow T W) (any : Bool) (found : Room) (i : ℕ) (b : Core T W) → IsCoreAt s.cores i b → ¬ MayOpen any b → IsRoomier s any found i found
   roomier_shut s any found i b at shut = record {
     one = inl refl;
     before = omega arith;
     here = λ c x may. let P : Core T W → Type 0 = λ d. MayOpen any d in absurd (shut (subst P (sym (one_at s.cores i b c at x)) may));
-  }
-
-  pub roomier_none : (s : CoreRow T W) (any : Bool) (found : Room) (i : ℕ) → length s.cores ≤ i → IsRoomier s any found i found
-  roomier_none s any found i past = record {
-    one = inl refl;
-    before = omega arith;
-    here = λ c x may. let inside = x.0 in absurd (omega (arith, past, inside));
   }
 
   pub roomiest_first : (s : CoreRow T W) (any : Bool) → IsRoomiest s 0 any (record { place = 0; free = 0 })
@@ -283,9 +268,6 @@ module _ {T W : Type 0} where
   pub same_open : (s t : CoreRow T W) → t ≡ s → StaysOpen s t
   same_open s t same = let P : CoreRow T W → Type 0 = λ k. StaysOpen s k in subst P (sym same) (λ c at. at)
 
-  pub then_open : (s m t : CoreRow T W) → StaysOpen s m → StaysOpen m t → StaysOpen s t
-  then_open s m t x y = λ c at. y c (x c at)
-
   pub opens_as : (b d : Bool) (s t : CoreRow T W) → b ≡ d → OpensIf d s t → OpensIf b s t
   opens_as b d s t same is = let P : Bool → Type 0 = λ k. OpensIf k s t in subst P (sym same) is
 
@@ -349,18 +331,12 @@ module _ {T W : Type 0} where
       let e : i + 1 ≡ gives.place = law.apart (i + 1) gives.place d c y.1 gives.drained.0 same in absurd (omega (arith, more, e)))
       (removed_at s.cores gives.place i d gives.drained.0.0 (subst P gives.rest at))
 
-  pub still_gone : (m t : CoreRow T W) (n : ℕ) → t ≡ m → HasNo m.cores n → HasNo t.cores n
-  still_gone m t n same none = let P : CoreRow T W → Type 0 = λ k. HasNo k.cores n in subst P (sym same) none
-
   -- which cores there were
   pub was_beside : (s t : CoreRow T W) (c : Core T W) → GivesDrained s c t → WasBeside s c
   was_beside s t c gives = (gives.place, gives.drained.1, gives.drained.0)
 
   pub all_were : (s t : CoreRow T W) → t ≡ s → AllWere s t
   all_were s t same = let P : CoreRow T W → Type 0 = λ k. AllWere s k in subst P (sym same) (λ i c at. (i, at))
-
-  pub then_were : (s m t : CoreRow T W) → AllWere s m → AllWere m t → AllWere s t
-  then_were s m t x y = λ i c at. let j = y i c at in x j.0 c j.1
 
   pub gives_were : (s t : CoreRow T W) (c : Core T W) → GivesDrained s c t → AllWere s t
   gives_were s t c gives =
@@ -372,41 +348,8 @@ module _ {T W : Type 0} where
       (λ (y : (i ≤ k) × IsCoreAt s.cores (k + 1) d). (k + 1, y.1))
       (removed_at s.cores i k d gives.drained.0.0 x))
 
-  pub comes_were : (s m t : CoreRow T W) (c : Core T W) → WasBeside s c → AllWere s m → t.cores ≡ m.cores ++ c ∷ [] → AllWere s t
-  comes_were s m t c beside were comes =
-      let P : List (Core T W) → Type 0 = λ l. (i : ℕ) (d : Core T W) → IsCoreAt l i d → (j : ℕ) × IsCoreAt s.cores j d in
-      subst P (sym comes) (λ i d at.
-      ⊎_elim
-      (λ (y : IsCoreAt m.cores i d). were i d y)
-      (λ (y : (i ≡ length m.cores) × (c ≡ d)). let Q : Core T W → Type 0 = λ x. IsCoreAt s.cores beside.0 x in (beside.0, subst Q y.1 beside.2))
-      (at_snoc m.cores c d i at))
-
-  pub beside_before : (s m : CoreRow T W) (c : Core T W) → AreCores m → AllWere s m → StaysOpen s m → WasBeside m c → WasBeside s c
-  beside_before s m c law were stays beside =
-      let j = were beside.0 c beside.2 in
-      let N : ℕ → Type 0 = λ n. IsCoreAt s.cores n c in
-      (j.0, (λ e. beside.1 (law.apart beside.0 m.opened c c beside.2 (stays c (subst N e j.1)) refl)), j.1)
-
-  -- the noted tick, and the number above each core
-  pub same_tick : (s t : CoreRow T W) → t ≡ s → KeepsTick s t
-  same_tick s t same = (ap (λ k. k.next) same, ap (λ k. k.noted) same)
-
-  pub then_tick : (s m t : CoreRow T W) → KeepsTick s m → KeepsTick m t → KeepsTick s t
-  then_tick s m t x y = (y.0 ∙ x.0, y.1 ∙ x.1)
-
   pub gives_tick : (s t : CoreRow T W) (c : Core T W) → GivesDrained s c t → KeepsTick s t
   gives_tick s t c gives = (ap (λ k. k.next) gives.rest, ap (λ k. k.noted) gives.rest)
-
-  pub back_tick : (s m : CoreRow T W) (n t : StoreState T W) (c : Core T W) → AreCores s → GivesDrained s c m → n.cores ≡ m → ComesInto n c t → KeepsTick s t.cores
-  back_tick s m n t c law gives is comes =
-      let gone = then_tick s m n.cores (gives_tick s m c gives) (same_tick m n.cores is) in
-      let next = gone.0 in
-      let noted = gone.1 in
-      let below = law.below gives.place c gives.drained.0 in
-      let behind = law.behind gives.place c gives.drained.0 in
-      let comes-next = comes.3 in
-      let comes-noted = comes.4 in
-      (omega (arith, next, below, comes-next), omega (arith, noted, behind, comes-noted))
 
   -- which entry a core names that is nearly drained
   none_least : (c : Core T W) (k : Option Key) → TellsLeast c k → None ≡ entry_told k → NoneLinked (machine c)
@@ -430,61 +373,13 @@ module _ {T W : Type 0} where
   tells_straggler s i None is tells = λ c near. none_first s i tells c near.0
   tells_straggler s i (Some u) is tells = (is, tells)
 
-  pub no_straggler_next : (s : StoreState T W) (n : ℕ) → NoStraggler s n → TellsStraggler s n None → NoStraggler s (n + 1)
-  no_straggler_next s n all here i below =
-      ⊎_elim
-      (λ (e : i ≡ n). let P : ℕ → Type 0 = λ k. TellsStraggler s k None in subst P (sym e) here)
-      (λ (ne : i ≢ n). all i (omega (arith, below, ne)))
-      (cases_eq i n)
-
   -- how many slots there are
   abbrev pub slots_below : CoreRow T W → ℕ → ℕ
   slots_below s i = min (sum_by (λ c. length c.slots.rows) (take i s.cores)) (2 ^ 64 - 1)
 
-  pub slots_more : (s : CoreRow T W) (i n k : ℕ) (c : Core T W) → IsCoreAt s.cores i c → k ≡ length c.slots.rows → n ≡ slots_below s i
-      → min (n + k) (2 ^ 64 - 1) ≡ slots_below s (i + 1)
-  slots_more s i n k c at size is =
-      let F : Core T W → ℕ = λ d. length d.slots.rows in
-      let more = sum_by_more F s.cores i c at.0 in
-      let here = ap F at.1 in
-      omega (arith, more, here, size, is)
-
-  pub slots_all : (s : CoreRow T W) (i n : ℕ) → i ≡ length s.cores → n ≡ slots_below s i → n ≡ slots_in s
-  slots_all s i n all is =
-      let F : List (Core T W) → ℕ = λ l. min (sum_by (λ c. length c.slots.rows) l) (2 ^ 64 - 1) in
-      is ∙ ap F (take_all i s.cores (omega (arith, all)))
-
   -- how many entries are linked
   abbrev pub linked_below : CoreRow T W → ℕ → ℕ
   linked_below s i = min (sum_by (λ c. linked_in c) (take i s.cores)) (2 ^ 64 - 1)
-
-  pub linked_more : (s : CoreRow T W) (i n k : ℕ) (c : Core T W) → IsCoreAt s.cores i c → k ≡ linked_in c → n ≡ linked_below s i
-      → min (n + k) (2 ^ 64 - 1) ≡ linked_below s (i + 1)
-  linked_more s i n k c at size is =
-      let F : Core T W → ℕ = λ d. linked_in d in
-      let more = sum_by_more F s.cores i c at.0 in
-      let here = ap F at.1 in
-      omega (arith, more, here, size, is)
-
-  pub linked_all : (s : CoreRow T W) (i n : ℕ) → i ≡ length s.cores → n ≡ linked_below s i → n ≡ linked_of s
-  linked_all s i n all is =
-      let F : List (Core T W) → ℕ = λ l. min (sum_by (λ c. linked_in c) l) (2 ^ 64 - 1) in
-      is ∙ ap F (take_all i s.cores (omega (arith, all)))
-
-  -- what the next core is to have
-  pub next_size : (z : Sizing) (s : CoreRow T W) (linked twice power n : ℕ) → linked ≡ linked_of s → twice ≡ min (min (linked * 2) (2 ^ 64 - 1)) CAPACITY_LIMIT
-      → IsNextPowerOfTwo twice power → n ≡ min (max power z.least) CAPACITY_LIMIT → IsNextSize z s n
-  next_size z s linked twice power n all is next size =
-      let P : ℕ → Type 0 = λ k. IsNextPowerOfTwo k power in
-      let same : twice ≡ min (linked_of s * 2) CAPACITY_LIMIT = omega (arith, all, is) in
-      (power, subst P same next, size)
-
-  pub next_bounds : (z : Sizing) (s : CoreRow T W) (n : ℕ) → IsNextSize z s n → MayHaveSlots z n
-  next_bounds z s n next =
-      let pos = pow_pos next.1.0.0 in
-      let power = next.1.0.1 in
-      let is = next.2 in
-      (omega (arith, pos, power, is), omega (arith, is), omega (arith, is))
 
   pub one_size : (z : Sizing) (s : CoreRow T W) (n m : ℕ) → IsNextSize z s n → IsNextSize z s m → n ≡ m
   one_size z s n m x y =
@@ -496,12 +391,6 @@ module _ {T W : Type 0} where
       let F : Core T W → ℕ = λ d. length d.slots.rows in
       size ∙ sym (get_or-map F s.cores i c 0 at.0 ∙ ap F at.1)
 
-  pub no_slots : (s : CoreRow T W) (i : ℕ) → length s.cores ≤ i → 0 ≡ slots_at s i
-  no_slots s i past =
-      let F : Core T W → ℕ = λ d. length d.slots.rows in
-      let long = length-map s.cores F in
-      sym (get_or_past (map F s.cores) i 0 (omega (arith, long, past)))
-
   -- whether the open core is too large
   pub not_large : (z : Sizing) (s : CoreRow T W) (c : Core T W) (n : ℕ) → IsCoreAt s.cores s.opened c → IsNextSize z s n → length c.slots.rows / 4 < n → ¬ IsTooLarge z s
   not_large z s c n at next more x =
@@ -510,28 +399,6 @@ module _ {T W : Type 0} where
       let same = one_size z s n x.1 next x.5 in
       let few = x.6 in
       omega (arith, here, same, few)
-
-  pub not_small : (z : Sizing) (s : CoreRow T W) (c : Core T W) → IsCoreAt s.cores s.opened c → ¬ IsSmall c → ¬ IsTooLarge z s
-  not_small z s c at not x =
-      let P : Core T W → Type 0 = λ d. IsSmall d in
-      not (subst P (sym (one_at s.cores s.opened c x.0 at x.2)) x.3)
-
-  pub not_kept : (z : Sizing) (s : CoreRow T W) → 0 < z.kept → ¬ IsTooLarge z s
-  not_kept z s some x = let none = x.4 in omega (arith, some, none)
-
-  pub no_open : (z : Sizing) (s : CoreRow T W) → length s.cores ≤ s.opened → ¬ IsTooLarge z s
-  no_open z s past x = let inside = x.2.0 in omega (arith, past, inside)
-
-  -- whether a core is needed
-  pub needed_kept : (z : Sizing) (s : CoreRow T W) (c : Core T W) → ¬ IsWorn c → 0 < z.kept → slots_in s - length c.slots.rows < z.kept → ¬ IsNeedless z s c
-  needed_kept z s c fresh some less x =
-      ⊎_elim fresh
-      (λ (y : IsSpare z s c).
-      ⊎_elim
-      (λ (w : (0 < z.kept) × (z.kept ≤ slots_in s - length c.slots.rows)). let le = w.1 in omega (arith, less, le))
-      (λ (w : (z.kept ≡ 0) × (IsOpenHalfFree s ⊎ ((n : ℕ) × IsNextSize z s n × (¬ WillDo n c)))). let none = w.0 in omega (arith, some, none))
-      y)
-      x
 
   pub needed_next : (z : Sizing) (s : CoreRow T W) (c : Core T W) (n : ℕ) → ¬ IsWorn c → z.kept ≤ 0 → IsNextSize z s n → WillDo n c → ¬ IsOpenHalfFree s → ¬ IsNeedless z s c
   needed_next z s c n fresh none next will full x =
@@ -614,18 +481,8 @@ module _ {T W : Type 0} where
   pub looks_on : (z y : Sizing) (s : StoreState T W) (k : CoreRow T W) → k ≡ s.cores → ¬ IsToShrink z k → EndsQuiet z s y → LooksAfter z s y
   looks_on z y s k same not ends = let P : CoreRow T W → Type 0 = λ r. ¬ IsToShrink z r in inr (subst P same not, ends)
 
-  -- a way by the cancels that are told
-  pub begins_anew : (s : CoreRow T W) (w : Sweep) (cancels n : ℕ) → w.cancels ≢ cancels → n ≡ slots_in s → record w { cancels = cancels; left = n } ≡ way_for w cancels s
-  begins_anew s w cancels n ne is =
-      let with : ℕ → Sweep = λ k. record w { cancels = cancels; left = k } in
-      let P : Bool → Type 0 = λ b. with n ≡ with (if b then w.left else slots_in s) in
-      subst P (sym (ne_eqb w.cancels cancels ne)) (ap with is)
-
-  pub stays_way : (s : CoreRow T W) (w : Sweep) (cancels : ℕ) → w.cancels ≡ cancels → w ≡ way_for w cancels s
-  stays_way s w cancels same =
-      let with : ℕ → ℕ → Sweep = λ k n. record w { cancels = k; left = n } in
-      let P : Bool → Type 0 = λ b. with w.cancels w.left ≡ with cancels (if b then w.left else slots_in s) in
-      subst P (sym (eq-eqb w.cancels cancels same)) (ap (λ k. with k w.left) same)
+  pub way_is : (k s : CoreRow T W) (w v : Sweep) (cancels : ℕ) → k ≡ s → v ≡ way_for w cancels k → v ≡ way_for w cancels s
+  way_is k s w v cancels same is = let P : CoreRow T W → Type 0 = λ r. v ≡ way_for w cancels r in subst P same is
 
   -- the next slots are swept
   pub goes_behind : (s : CoreRow T W) (w v : Sweep) (next told : Option ℕ) (n k : ℕ) → next ≡ told → n ≡ length s.cores → k ≡ slots_at s w.place
@@ -646,12 +503,6 @@ module _ {T W : Type 0} where
       (notes, inl ((λ c at. let inside = at.0 in let past = did.0 in absurd (omega (arith, inside, past))), did.1, goes_behind s.cores w v next None n k told many size goes off))
   sweeps_next shared s t w v (Some swept) next n k did told notes many size goes off =
       (notes, inr (swept, did, goes_behind s.cores w v next swept.next n k told many size goes off))
-
-  -- a core that came in, and may be open
-  pub comes_into : (s m t : StoreState T W) (c : Core T W) → TakesIn s.cores c m.cores → m.notes ≡ s.notes → OnlyOpens m t → ComesInto s c t
-  comes_into s m t c takes notes opens =
-      let C : CoreRow T W → List (Core T W) = λ k. k.cores in
-      (ap C opens.0.1 ∙ takes.cores, opens.1 ∙ notes, takes.may, ap (λ k. k.next) opens.0.1 ∙ takes.next, ap (λ k. k.noted) opens.0.1 ∙ takes.noted)
 
   pub comes_same : (s m t : StoreState T W) (c : Core T W) → IsLawfulCore c → TakesIn s.cores c m.cores → m.notes ≡ s.notes → OnlyOpens m t → SameStand (StandsFor s) (StandsFor t)
   comes_same s m t c lawful takes notes opens = then_stand (StandsFor s) (StandsFor m) (StandsFor t) (takes_same s m c lawful takes notes) (opens_same m t opens)

@@ -46,7 +46,7 @@ pub struct Sizing {
     // For how many entries memory is kept for good.
     kept: usize,
     // Whether there may be something to do.
-    has_work: bool,
+    pub(crate) has_work: bool,
     // The number of cancels since which there is nothing to do, and else `NEVER`.
     pub(crate) quiet_since: u64,
     pub(crate) sweep: Sweep,
@@ -321,7 +321,10 @@ impl Sizing {
     }
 
     // Whether the open core is to be exchanged though it isn't full.
-    fn is_to_be_exchanged<T, W: Words, A: Allocator>(&self, cores: &Cores<T, W, A>) -> bool {
+    pub(crate) fn is_to_be_exchanged<T, W: Words, A: Allocator>(
+        &self,
+        cores: &Cores<T, W, A>,
+    ) -> bool {
         let Some(open) = cores.get(cores.opened()) else {
             return false;
         };
@@ -357,40 +360,6 @@ impl Sizing {
             return None;
         }
         self.capacity_for_insert(store)
-    }
-
-    /// Takes a core in that was made: it is open from now on where the open one is to be exchanged or has no room, and
-    /// waits else until it is needed.
-    ///
-    /// # Errors
-    /// The core comes back, and nothing changes, as [`Store::take_in`] tells.
-    pub fn bring<T, W: Words, A: Allocator + Clone>(
-        &mut self,
-        store: &mut Store<T, W, A>,
-        core: DelayCore<T, W, A>,
-    ) -> Result<(), (TakeError, DelayCore<T, W, A>)>
-        ensures comes { OnOk result (ComesInto store.old core store.new) }
-        ensures refused { IfErr result (λ e. TakeRefusedFor store.old core e.0) }
-
-        // It is open where the open one has no free slot; else it is, or the one that was still is.
-        ensures opens { OnOk result (OpensWanted store.old.cores store.new.cores) }
-        ensures stands { SameStand (StandsFor store.old) (StandsFor store.new) }
-
-        // No id is given anew but those that the core gives anew, and no deadline falls.
-        ensures keeps { KeepsIdsBeside core store.old store.new }
-        ensures holds { HoldsDeadlines store.old store.new }
-        ensures back { IfErr result (λ e. (e.1 ≡ core) × (store.new.cores ≡ store.old.cores)
-            × (store.new.notes ≡ store.old.notes)) }
-
-        // The way of the sweeps begins anew, and it is noted that there may be something to do.
-        ensures notes { self.new
-            ≡ with_work (record self.old { sweep = anew self.old.sweep store.new.cores }) }
-    {
-        let is_needed = !has_open_room(store.cores()) || self.is_to_be_exchanged(store.cores());
-        let taken = take_in(store, core, is_needed);
-        self.sweep.restart(slots(store.cores()));
-        self.note_work();
-        taken
     }
 
     // Whether an empty core isn't needed soon: it is worn, or there is memory enough without it.
@@ -430,7 +399,10 @@ impl Sizing {
     }
 
     // The place of such a core.
-    fn needless<T, W: Words, A: Allocator>(&self, cores: &Cores<T, W, A>) -> Option<usize>
+    pub(crate) fn needless<T, W: Words, A: Allocator>(
+        &self,
+        cores: &Cores<T, W, A>,
+    ) -> Option<usize>
         ensures found { IfSome result (λ i. (c : Core T W) × IsNeedlessAt self.now cores.now i c) }
         ensures none { IfNone result (NoneNeedless self.now cores.now (length cores.now.cores)) }
     {
@@ -460,45 +432,6 @@ impl Sizing {
         ensures no { result ≡ false → ¬ IsToShrink self.now cores.now }
     {
         self.is_too_large(cores) || self.has_needless(cores)
-    }
-
-    /// Takes a core out that has drained and isn't needed soon. Folded, it keeps its words alone.
-    pub fn take_needless<T, W: Words, A: Allocator + Clone>(
-        &mut self,
-        store: &mut Store<T, W, A>,
-    ) -> Option<DelayCore<T, W, A>>
-        // It was a core that isn't open. That one stays open. None of its number is there any more.
-        ensures drained { IfSome result (λ c. IsFoldable c × WasBeside store.old.cores c) }
-        ensures needless { IfSome result (IsNeedless self.old store.old.cores) }
-        ensures gone { IfSome result (λ c. HasNo store.new.cores.cores c.shard) }
-        ensures opens { StaysOpen store.old.cores store.new.cores }
-        ensures were { AllWere store.old.cores store.new.cores }
-        ensures notes { store.new.notes ≡ store.old.notes }
-        ensures stands { SameStand (StandsFor store.old) (StandsFor store.new) }
-
-        // No id is given anew, no deadline falls, and no tick is noted.
-        ensures keeps { KeepsIds store.old store.new }
-        ensures holds { HoldsDeadlines store.old store.new }
-        ensures tick { KeepsTick store.old.cores store.new.cores }
-
-        // The way of the sweeps begins anew. If each core is needed, that stays, and the store does. No
-        // work is noted any more.
-        ensures anew { OnSome result (self.new.sweep ≡ anew self.old.sweep store.old.cores) }
-        ensures stays { IfNone result ((self.new.sweep ≡ self.old.sweep) × (store.new ≡ store.old)) }
-        ensures none { IfNone result
-            (NoneNeedless self.old store.old.cores (length store.old.cores.cores)) }
-        ensures work { self.new ≡ record self.old { has_work = false; sweep = self.new.sweep } }
-    {
-        self.has_work = false;
-        store.law();
-        let Some(at) = self.needless(store.cores()) else {
-            return None;
-        };
-        // The cores get other places.
-        self.sweep.restart(slots(store.cores()));
-        let core = store.take_at(at);
-        core.law();
-        Some(core)
     }
 
     /// Returns an entry that may be moved into the open core, so that its own one drains: the one that is scheduled
@@ -543,26 +476,8 @@ impl Sizing {
         self.has_needless(store.cores())
     }
 
-    /// Notes that an entry left its core, and that so many are left.
-    #[inline(always)]
-    pub fn note_left<T, W: Words, A: Allocator + Clone>(
-        &mut self,
-        store: &Store<T, W, A>,
-        left: u64,
-    )
-        ensures { NotesLeft left self.old store.now self.new }
-    {
-        if !is_look(left) {
-            return;
-        }
-        if !may_shrink(store.cores()) {
-            return;
-        }
-        self.look_after(store);
-    }
-
     #[cold]
-    fn look_after<T, W: Words, A: Allocator + Clone>(&mut self, store: &Store<T, W, A>)
+    pub(crate) fn look_after<T, W: Words, A: Allocator + Clone>(&mut self, store: &Store<T, W, A>)
         ensures { LooksAfter self.old store.now self.new }
     {
         if self.is_to_shrink(store.cores()) {
@@ -595,7 +510,7 @@ impl Sizing {
 
 // Whether it is looked at the cores as an entry left, and so many are left.
 #[inline(always)]
-fn is_look(left: u64) -> bool
+pub(crate) fn is_look(left: u64) -> bool
     ensures yes { result ≡ true → IsTimeToLook left }
     ensures no { result ≡ false → ¬ IsTimeToLook left }
 {
@@ -604,7 +519,7 @@ fn is_look(left: u64) -> bool
 
 // Whether there may be less to keep: there are several cores, or an eighth of the one is used at most.
 #[inline(always)]
-fn may_shrink<T, W: Words, A: Allocator>(cores: &Cores<T, W, A>) -> bool
+pub(crate) fn may_shrink<T, W: Words, A: Allocator>(cores: &Cores<T, W, A>) -> bool
     ensures yes { result ≡ true → MayShrink cores.now }
     ensures no { result ≡ false → ¬ MayShrink cores.now }
 {
@@ -615,31 +530,4 @@ fn may_shrink<T, W: Words, A: Allocator>(cores: &Cores<T, W, A>) -> bool
         return false;
     };
     is_small(open)
-}
-
-// Takes a core in. It is open where it is needed.
-fn take_in<T, W: Words, A: Allocator + Clone>(
-    store: &mut Store<T, W, A>,
-    core: DelayCore<T, W, A>,
-    is_needed: bool,
-) -> Result<(), (TakeError, DelayCore<T, W, A>)>
-    ensures comes { OnOk result (ComesInto store.old core store.new) }
-    ensures refused { IfErr result (λ e. TakeRefusedFor store.old core e.0) }
-    ensures opens { OnOk result (OpensIf is_needed store.old.cores store.new.cores) }
-    ensures notes { store.new.notes ≡ store.old.notes }
-    ensures stands { SameStand (StandsFor store.old) (StandsFor store.new) }
-    ensures keeps { KeepsIdsBeside core store.old store.new }
-    ensures holds { HoldsDeadlines store.old store.new }
-    ensures back { IfErr result (λ e. (e.1 ≡ core) × (store.new.cores ≡ store.old.cores)) }
-{
-    core.law();
-    let opened = store.cores().opened();
-    if let Err(refused) = store.take_in(core) {
-        return Err(refused);
-    }
-    if is_needed {
-        return Ok(());
-    }
-    let _ = store.open(opened);
-    Ok(())
 }

@@ -20,13 +20,13 @@ ghost use Rattle.dq_growing.specs.Notes.{HasNoteRoom, AllArePast, user_at, with_
 ghost use Rattle.std.specs.Fn.{FnOnceReturnsAtMut};
 ghost use Rattle.dq_core.specs.Folds.{IsFoldable};
 ghost use Rattle.dq_growing.specs.Sized.{hint_after, hint_asked, KeepsHint, NotesNext};
-ghost use Rattle.dq_growing.specs.Sizing.{anew, fresh_sizing, way_for, with_work, AllWere, ComesInto, FoundElsewhere, HasClearAt, HasNoRoom, IsNeedless, KeepsTick, NoneNeedless, NotesLeft, NotesWorkIf, OnlyOpens, OpensOne, OpensWanted, StaysOpen, SweepsNext, TellsQuiet, WasBeside};
+ghost use Rattle.dq_growing.specs.Sizing.{anew, fresh_sizing, way_for, with_work, AllWere, ComesInto, FoundElsewhere, HasClearAt, HasNoRoom, IsNeedless, KeepsTick, NoneNeedless, NotesLeft, NotesWorkIf, OnlyOpens, OpensIf, OpensOne, OpensWanted, StaysOpen, SweepsNext, TellsQuiet, WasBeside};
 
 use crate::NEVER;
 use crate::cores::{Cores, TakeError, missing_at, wake_of};
 use crate::moving::{Moved, NextDeadline};
 use crate::notes::Notes;
-use crate::sizing::{Sizing, has_open_room, slots};
+use crate::sizing::{Sizing, has_open_room, is_look, may_shrink, slots};
 use dq_core::{CoreError, DelayCore, Expired, Piece, ReapError, Removed, Swept, Turn, Words};
 use dq_ticks::{EntryId, Key};
 use std::alloc::{AllocError, Allocator, Global};
@@ -211,7 +211,7 @@ impl<T, W: Words, A: Allocator + Clone> Store<T, W, A> {
     /// - `StillLinked` if an entry is linked in the core.
     /// - `UsedNumber` if a core of the store has its number, or it is the last one of all.
     /// - `NoMemory` if memory is refused.
-    pub fn take_in(
+    pub(crate) fn take_in(
         &mut self,
         core: DelayCore<T, W, A>,
     ) -> Result<(), (TakeError, DelayCore<T, W, A>)>
@@ -326,7 +326,7 @@ impl<T, W: Words, A: Allocator + Clone> Store<T, W, A> {
     }
 
     /// Opens the core at a place, so that inserts go there from now on. It returns whether there is such a place.
-    pub fn open(&mut self, place: usize) -> bool
+    pub(crate) fn open(&mut self, place: usize) -> bool
         ensures opens { result ≡ true → (place < length self.old.cores.cores)
             × (self.new.cores ≡ record self.old.cores { opened = place }) }
         ensures refused { result ≡ false → (length self.old.cores.cores ≤ place)
@@ -339,27 +339,10 @@ impl<T, W: Words, A: Allocator + Clone> Store<T, W, A> {
         opens
     }
 
-    /// Takes memory for `cores` more in the list of cores, and for one note.
-    ///
-    /// # Errors
-    /// If memory is refused.
-    pub fn reserve(&mut self, cores: usize) -> Result<(), AllocError>
-        ensures cores { self.new.cores ≡ self.old.cores }
-        ensures notes { SameNotes self.old.notes self.new.notes }
-        ensures room { OnOk result (HasNoteRoom self.new.notes) }
-        ensures keeps { KeepsIds self.old self.new }
-        ensures holds { HoldsDeadlines self.old self.new }
-    {
-        self.cores.reserve(cores)?;
-        let reserved = self.notes.reserve();
-        self.notes.law();
-        reserved
-    }
-
     /// Reaps each linked entry that is found cancelled at `count` slots from `from` on of the core at a place, and
     /// tells the slot to go on from. It returns none where there is no such place. No value is dropped: each waits
     /// until it is taken out. The notes stay.
-    pub fn sweep_some(&mut self, place: usize, from: usize, count: usize) -> Option<Swept>
+    pub(crate) fn sweep_some(&mut self, place: usize, from: usize, count: usize) -> Option<Swept>
         ensures sweeps { MatchOption result
             ((length self.old.cores.cores ≤ place) × (self.new.cores ≡ self.old.cores))
             (λ swept. OnCoreAt place
@@ -963,6 +946,33 @@ impl<T, W: Words, A: Allocator + Clone> SizedStore<T, W, A> {
     }
 }
 
+// Takes a core in. It is open where it is needed.
+fn take_in<T, W: Words, A: Allocator + Clone>(
+    store: &mut Store<T, W, A>,
+    core: DelayCore<T, W, A>,
+    is_needed: bool,
+) -> Result<(), (TakeError, DelayCore<T, W, A>)>
+    ensures comes { OnOk result (ComesInto store.old core store.new) }
+    ensures refused { IfErr result (λ e. TakeRefusedFor store.old core e.0) }
+    ensures opens { OnOk result (OpensIf is_needed store.old.cores store.new.cores) }
+    ensures notes { store.new.notes ≡ store.old.notes }
+    ensures stands { SameStand (StandsFor store.old) (StandsFor store.new) }
+    ensures keeps { KeepsIdsBeside core store.old store.new }
+    ensures holds { HoldsDeadlines store.old store.new }
+    ensures back { IfErr result (λ e. (e.1 ≡ core) × (store.new.cores ≡ store.old.cores)) }
+{
+    core.law();
+    let opened = store.cores().opened();
+    if let Err(refused) = store.take_in(core) {
+        return Err(refused);
+    }
+    if is_needed {
+        return Ok(());
+    }
+    let _ = store.open(opened);
+    Ok(())
+}
+
 // Its size.
 impl<T, W: Words, A: Allocator + Clone> SizedStore<T, W, A> {
     /// Whether a slot is free for an insert: in the open core, or in another one of which half is free, or, where any
@@ -1015,7 +1025,9 @@ impl<T, W: Words, A: Allocator + Clone> SizedStore<T, W, A> {
         ensures holds { HoldsDeadlines self.old.store self.new.store }
         ensures rest { KeepsHint self.old self.new }
     {
-        let reserved = self.store.reserve(cores);
+        self.store.cores.reserve(cores)?;
+        let reserved = self.store.notes.reserve();
+        self.store.notes.law();
         reserved
     }
 
@@ -1031,30 +1043,48 @@ impl<T, W: Words, A: Allocator + Clone> SizedStore<T, W, A> {
         self.store.cores.close();
     }
 
-    /// Takes a core in that was made, as [`Sizing::bring`] tells.
+    /// Takes a core in that was made: it is open from now on where the open one is to be exchanged or has no room, and
+    /// waits else until it is needed.
     ///
     /// # Errors
-    /// The core comes back, and nothing changes in the store.
+    /// The core comes back, and nothing changes in the store. In this order:
+    /// - `UsedNumber` if a moved entry is known by an id of that number with a stamp that the core may give anew.
+    /// - `StillLinked` if an entry is linked in the core.
+    /// - `UsedNumber` if a core of the store has its number, or it is the last one of all.
+    /// - `NoMemory` if memory is refused.
     pub fn bring(&mut self, core: DelayCore<T, W, A>) -> Result<(), (TakeError, DelayCore<T, W, A>)>
         ensures comes { OnOk result (ComesInto self.old.store core self.new.store) }
         ensures refused { IfErr result (λ e. TakeRefusedFor self.old.store core e.0) }
+
+        // It is open where the open one has no free slot; else it is, or the one that was still is.
         ensures opens { OnOk result (OpensWanted self.old.store.cores self.new.store.cores) }
         ensures stands { SameStand (StandsFor self.old.store) (StandsFor self.new.store) }
+
+        // No id is given anew but those that the core gives anew, and no deadline falls.
         ensures keeps { KeepsIdsBeside core self.old.store self.new.store }
         ensures holds { HoldsDeadlines self.old.store self.new.store }
         ensures back { IfErr result (λ e. (e.1 ≡ core)
             × (self.new.store.cores ≡ self.old.store.cores)
             × (self.new.store.notes ≡ self.old.store.notes)) }
+
+        // The way of the sweeps begins anew, and it is noted that there may be something to do.
         ensures notes { self.new.sizing ≡ with_work
             (record self.old.sizing { sweep = anew self.old.sizing.sweep self.new.store.cores }) }
         ensures hint { self.new.hint ≡ self.old.hint }
     {
         core.law();
-        self.sizing.bring(&mut self.store, core)
+        let is_needed = !has_open_room(self.store.cores())
+            || self.sizing.is_to_be_exchanged(self.store.cores());
+        let taken = take_in(&mut self.store, core, is_needed);
+        let all = slots(self.store.cores());
+        self.sizing.sweep.restart(all);
+        self.sizing.note_work();
+        taken
     }
 
-    /// Takes a core out that has drained and isn't needed soon, as [`Sizing::take_needless`] tells.
+    /// Takes a core out that has drained and isn't needed soon. Folded, it keeps its words alone.
     pub fn take_needless(&mut self) -> Option<DelayCore<T, W, A>>
+        // It was a core that isn't open. That one stays open. None of its number is there any more.
         ensures drained { IfSome result (λ c. IsFoldable c × WasBeside self.old.store.cores c) }
         ensures needless { IfSome result (IsNeedless self.old.sizing self.old.store.cores) }
         ensures gone { IfSome result (λ c. HasNo self.new.store.cores.cores c.shard) }
@@ -1062,9 +1092,14 @@ impl<T, W: Words, A: Allocator + Clone> SizedStore<T, W, A> {
         ensures were { AllWere self.old.store.cores self.new.store.cores }
         ensures notes { self.new.store.notes ≡ self.old.store.notes }
         ensures stands { SameStand (StandsFor self.old.store) (StandsFor self.new.store) }
+
+        // No id is given anew, no deadline falls, and no tick is noted.
         ensures keeps { KeepsIds self.old.store self.new.store }
         ensures holds { HoldsDeadlines self.old.store self.new.store }
         ensures tick { KeepsTick self.old.store.cores self.new.store.cores }
+
+        // The way of the sweeps begins anew. If each core is needed, that stays, and the store does. No
+        // work is noted any more.
         ensures anew { OnSome result
             (self.new.sizing.sweep ≡ anew self.old.sizing.sweep self.old.store.cores) }
         ensures stays { IfNone result ((self.new.sizing.sweep ≡ self.old.sizing.sweep)
@@ -1075,7 +1110,17 @@ impl<T, W: Words, A: Allocator + Clone> SizedStore<T, W, A> {
             ≡ record self.old.sizing { has_work = false; sweep = self.new.sizing.sweep } }
         ensures hint { self.new.hint ≡ self.old.hint }
     {
-        self.sizing.take_needless(&mut self.store)
+        self.sizing.has_work = false;
+        self.store.law();
+        let Some(at) = self.sizing.needless(self.store.cores()) else {
+            return None;
+        };
+        // The cores get other places.
+        let all = slots(self.store.cores());
+        self.sizing.sweep.restart(all);
+        let core = self.store.take_at(at);
+        core.law();
+        Some(core)
     }
 
     /// Takes a core out that has drained: it isn't the open one, and holds nothing, not even a value that waits for its
@@ -1106,20 +1151,29 @@ impl<T, W: Words, A: Allocator + Clone> SizedStore<T, W, A> {
         core
     }
 
-    /// Frees cancelled entries at the next slots, as [`Sizing::sweep`] tells.
+    /// Frees cancelled entries at the next slots, 256 at most, unless each was looked at since the last of so many
+    /// cancels. It tells whether it looked at some. No value is dropped: each waits until it is taken out.
     pub fn sweep(&mut self, cancels: u64) -> bool
+        // The next slots of its way are swept, and it goes on behind them. If other cancels are told than
+        // before, all slots are on it again.
         ensures sweeps { result ≡ true → SweepsNext W.shared 256
             (way_for self.old.sizing.sweep cancels self.old.store.cores)
             self.old.store self.new.sizing.sweep self.new.store }
+
+        // Else nothing changes: that is exactly if no slot is left on the way.
         ensures rests { result ≡ false → self.new.store ≡ self.old.store }
         ensures stays { result ≡ false → self.new.sizing.sweep
             ≡ way_for self.old.sizing.sweep cancels self.old.store.cores }
         ensures left { IsTrue result
             ↔ (0 < (way_for self.old.sizing.sweep cancels self.old.store.cores).left) }
         ensures noted { self.new.sizing.sweep.cancels ≡ cancels }
+
+        // No id is given anew, and no deadline falls.
         ensures keeps { KeepsIds self.old.store self.new.store }
         ensures holds { HoldsDeadlines self.old.store self.new.store }
         ensures words { KeepsWords W.origin W.begun self.old.store.cores self.new.store.cores }
+
+        // If there is quiet since these cancels, no slot is left and there is no work.
         ensures quiet { TellsQuiet self.new.sizing cancels self.new.store }
         ensures rest { self.new.sizing ≡ record self.old.sizing {
           quiet_since = self.new.sizing.quiet_since;
@@ -1127,7 +1181,14 @@ impl<T, W: Words, A: Allocator + Clone> SizedStore<T, W, A> {
         } }
         ensures hint { self.new.hint ≡ self.old.hint }
     {
-        self.sizing.sweep(&mut self.store, cancels)
+        self.sizing.begin_way(self.store.cores(), cancels);
+        if self.sizing.sweep.left == 0 {
+            self.sizing.note_swept(&self.store, cancels);
+            return false;
+        }
+        self.sizing.sweep_some(&mut self.store);
+        self.sizing.note_swept(&self.store, cancels);
+        true
     }
 
     /// Notes that an entry left its core, and that so many are left.
@@ -1136,6 +1197,12 @@ impl<T, W: Words, A: Allocator + Clone> SizedStore<T, W, A> {
         ensures notes { NotesLeft left self.old.sizing self.old.store self.new.sizing }
         ensures rest { self.new ≡ record self.old { sizing = self.new.sizing } }
     {
-        self.sizing.note_left(&self.store, left);
+        if !is_look(left) {
+            return;
+        }
+        if !may_shrink(self.store.cores()) {
+            return;
+        }
+        self.sizing.look_after(&self.store);
     }
 }

@@ -6,6 +6,7 @@ ghost use Rattle.dq_growing.specs.Sizing.{IsQuiet, WayGoesOn, TakesOff, SweepsNe
 ghost use Rattle.dq_growing.specs.Stands.{KeepsWords};
 
 use crate::NEVER;
+use crate::cores::Cores;
 use crate::sizing::{Sizing, slots};
 use crate::store::Store;
 use dq_core::{Swept, Words};
@@ -21,7 +22,7 @@ pub(crate) struct Sweep {
     slot: usize,
     // The accepted cancels as the way began, and how many slots are left on it.
     cancels: u64,
-    left: usize,
+    pub(crate) left: usize,
 }
 
 // The slot to go on from, none where the core is done.
@@ -74,50 +75,22 @@ impl Sweep {
 }
 
 impl Sizing {
-    /// Frees cancelled entries at the next slots, 256 at most, unless each was looked at since the last of so many
-    /// cancels. It tells whether it looked at some. No value is dropped: each waits until it is taken out.
-    pub fn sweep<T, W: Words, A: Allocator + Clone>(
+    // Begins the way anew where other cancels are told than before: all slots are on it again.
+    pub(crate) fn begin_way<T, W: Words, A: Allocator>(
         &mut self,
-        store: &mut Store<T, W, A>,
+        cores: &Cores<T, W, A>,
         cancels: u64,
-    ) -> bool
-        // The next slots of its way are swept, and it goes on behind them. If other cancels are told than
-        // before, all slots are on it again.
-        ensures sweeps { result ≡ true → SweepsNext W.shared 256
-            (way_for self.old.sweep cancels store.old.cores) store.old self.new.sweep store.new }
-
-        // Else nothing changes: that is exactly if no slot is left on the way.
-        ensures rests { result ≡ false → store.new ≡ store.old }
-        ensures stays { result ≡ false
-            → self.new.sweep ≡ way_for self.old.sweep cancels store.old.cores }
-        ensures left { IsTrue result ↔ (0 < (way_for self.old.sweep cancels store.old.cores).left) }
-        ensures noted { self.new.sweep.cancels ≡ cancels }
-
-        // No id is given anew, and no deadline falls.
-        ensures keeps { KeepsIds store.old store.new }
-        ensures holds { HoldsDeadlines store.old store.new }
-        ensures words { KeepsWords W.origin W.begun store.old.cores store.new.cores }
-
-        // If there is quiet since these cancels, no slot is left and there is no work.
-        ensures quiet { TellsQuiet self.new cancels store.new }
-        ensures rest { self.new
-            ≡ record self.old { quiet_since = self.new.quiet_since; sweep = self.new.sweep } }
+    )
+        ensures { self.new ≡ record self.old { sweep = way_for self.old.sweep cancels cores.now } }
     {
         if self.sweep.cancels != cancels {
             self.sweep.cancels = cancels;
-            self.sweep.left = slots(store.cores());
+            self.sweep.left = slots(cores);
         }
-        if self.sweep.left == 0 {
-            self.note_swept(store, cancels);
-            return false;
-        }
-        self.sweep_some(store);
-        self.note_swept(store, cancels);
-        true
     }
 
     // Notes whether there is nothing more to do since so many cancels.
-    fn note_swept<T, W: Words, A: Allocator + Clone>(
+    pub(crate) fn note_swept<T, W: Words, A: Allocator + Clone>(
         &mut self,
         store: &Store<T, W, A>,
         cancels: u64,
@@ -135,7 +108,11 @@ impl Sizing {
         self.sweep.left == 0 && !self.is_busy(store)
     }
 
-    fn sweep_some<T, W: Words, A: Allocator + Clone>(&mut self, store: &mut Store<T, W, A>)
+    // Sweeps the next slots of the way.
+    pub(crate) fn sweep_some<T, W: Words, A: Allocator + Clone>(
+        &mut self,
+        store: &mut Store<T, W, A>,
+    )
         ensures sweeps { SweepsNext W.shared 256
             self.old.sweep store.old self.new.sweep store.new }
         ensures keeps { KeepsIds store.old store.new }

@@ -9,7 +9,7 @@
 //! The numbers here are a policy: any others would keep what the calls of a [`Store`] promise.
 
 use crate::core::{DelayCore, Words};
-use crate::growing::cores::{is_foldable, Cores, TakeError};
+use crate::growing::cores::{is_foldable, Cores};
 use crate::growing::store::Store;
 use crate::growing::sweeping::Sweep;
 use crate::growing::NEVER;
@@ -32,7 +32,7 @@ pub struct Sizing {
     // For how many entries memory is kept for good.
     kept: usize,
     // Whether there may be something to do.
-    has_work: bool,
+    pub(crate) has_work: bool,
     // The number of cancels since which there is nothing to do, and else `NEVER`.
     pub(crate) quiet_since: u64,
     pub(crate) sweep: Sweep,
@@ -233,7 +233,7 @@ impl Sizing {
     }
 
     // Whether the open core is to be exchanged though it isn't full.
-    fn is_to_be_exchanged<T, W: Words>(&self, cores: &Cores<T, W>) -> bool {
+    pub(crate) fn is_to_be_exchanged<T, W: Words>(&self, cores: &Cores<T, W>) -> bool {
         let Some(open) = cores.get(cores.opened()) else {
             return false;
         };
@@ -260,24 +260,6 @@ impl Sizing {
         self.capacity_for_insert(store)
     }
 
-    /// Takes a core in that was made: it is open from now on where the open one is to be exchanged or has no room, and
-    /// waits else until it is needed.
-    ///
-    /// # Errors
-    /// The core comes back, and nothing changes, as [`Store::take_in`] tells.
-    #[allow(clippy::result_large_err)]
-    pub fn bring<T, W: Words>(
-        &mut self,
-        store: &mut Store<T, W>,
-        core: DelayCore<T, W>,
-    ) -> Result<(), (TakeError, DelayCore<T, W>)> {
-        let is_needed = !has_open_room(store.cores()) || self.is_to_be_exchanged(store.cores());
-        let taken = take_in(store, core, is_needed);
-        self.sweep.restart(slots(store.cores()));
-        self.note_work();
-        taken
-    }
-
     // Whether an empty core isn't needed soon: it is worn, or there is memory enough without it.
     fn is_needless<T, W: Words>(&self, cores: &Cores<T, W>, core: &DelayCore<T, W>) -> bool {
         if is_worn(core) {
@@ -301,7 +283,7 @@ impl Sizing {
     }
 
     // The place of such a core.
-    fn needless<T, W: Words>(&self, cores: &Cores<T, W>) -> Option<usize> {
+    pub(crate) fn needless<T, W: Words>(&self, cores: &Cores<T, W>) -> Option<usize> {
         for at in 0..cores.count() {
             if self.is_needless_at(cores, at) {
                 return Some(at);
@@ -321,16 +303,6 @@ impl Sizing {
     // Whether the open core is too large, or some core isn't needed.
     fn is_to_shrink<T, W: Words>(&self, cores: &Cores<T, W>) -> bool {
         self.is_too_large(cores) || self.has_needless(cores)
-    }
-
-    /// Takes a core out that has drained and isn't needed soon. Folded, it keeps its words alone.
-    pub fn take_needless<T, W: Words>(&mut self, store: &mut Store<T, W>) -> Option<DelayCore<T, W>> {
-        self.has_work = false;
-        let at = self.needless(store.cores())?;
-        // The cores get other places.
-        self.sweep.restart(slots(store.cores()));
-        let core = store.take_at(at);
-        Some(core)
     }
 
     /// Returns an entry that may be moved into the open core, so that its own one drains: the one that is scheduled
@@ -363,20 +335,8 @@ impl Sizing {
         self.has_needless(store.cores())
     }
 
-    /// Notes that an entry left its core, and that so many are left.
-    #[inline(always)]
-    pub fn note_left<T, W: Words>(&mut self, store: &Store<T, W>, left: u64) {
-        if !is_look(left) {
-            return;
-        }
-        if !may_shrink(store.cores()) {
-            return;
-        }
-        self.look_after(store);
-    }
-
     #[cold]
-    fn look_after<T, W: Words>(&mut self, store: &Store<T, W>) {
+    pub(crate) fn look_after<T, W: Words>(&mut self, store: &Store<T, W>) {
         if self.is_to_shrink(store.cores()) {
             self.note_work();
             return;
@@ -403,13 +363,13 @@ impl Sizing {
 
 // Whether it is looked at the cores as an entry left, and so many are left.
 #[inline(always)]
-fn is_look(left: u64) -> bool {
+pub(crate) fn is_look(left: u64) -> bool {
     left < LAST || left % LOOKS == 0
 }
 
 // Whether there may be less to keep: there are several cores, or an eighth of the one is used at most.
 #[inline(always)]
-fn may_shrink<T, W: Words>(cores: &Cores<T, W>) -> bool {
+pub(crate) fn may_shrink<T, W: Words>(cores: &Cores<T, W>) -> bool {
     if cores.count() > 1 {
         return true;
     }
@@ -417,22 +377,4 @@ fn may_shrink<T, W: Words>(cores: &Cores<T, W>) -> bool {
         return false;
     };
     is_small(open)
-}
-
-// Takes a core in. It is open where it is needed.
-#[allow(clippy::result_large_err)]
-fn take_in<T, W: Words>(
-    store: &mut Store<T, W>,
-    core: DelayCore<T, W>,
-    is_needed: bool,
-) -> Result<(), (TakeError, DelayCore<T, W>)> {
-    let opened = store.cores().opened();
-    if let Err(refused) = store.take_in(core) {
-        return Err(refused);
-    }
-    if is_needed {
-        return Ok(());
-    }
-    let _ = store.open(opened);
-    Ok(())
 }

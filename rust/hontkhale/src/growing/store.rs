@@ -9,7 +9,7 @@ use crate::core::{CoreError, DelayCore, Expired, Piece, ReapError, Removed, Swep
 use crate::growing::cores::{missing_at, wake_of, Cores, TakeError};
 use crate::growing::moving::{Moved, NextDeadline};
 use crate::growing::notes::Notes;
-use crate::growing::sizing::{has_open_room, slots, Sizing};
+use crate::growing::sizing::{has_open_room, is_look, may_shrink, slots, Sizing};
 use crate::growing::NEVER;
 use crate::memory::AllocError;
 use crate::ticks::{EntryId, Key};
@@ -135,7 +135,7 @@ impl<T, W: Words> Store<T, W> {
     /// - `UsedNumber` if a core of the store has its number, or it is the last one of all.
     /// - `NoMemory` if memory is refused.
     #[allow(clippy::result_large_err)]
-    pub fn take_in(&mut self, core: DelayCore<T, W>) -> Result<(), (TakeError, DelayCore<T, W>)> {
+    pub(crate) fn take_in(&mut self, core: DelayCore<T, W>) -> Result<(), (TakeError, DelayCore<T, W>)> {
         if !self.notes.are_past_in(&core) {
             return Err((TakeError::UsedNumber, core));
         }
@@ -196,23 +196,14 @@ impl<T, W: Words> Store<T, W> {
     }
 
     /// Opens the core at a place, so that inserts go there from now on. It returns whether there is such a place.
-    pub fn open(&mut self, place: usize) -> bool {
+    pub(crate) fn open(&mut self, place: usize) -> bool {
         self.cores.open(place)
-    }
-
-    /// Takes memory for `cores` more in the list of cores, and for one note.
-    ///
-    /// # Errors
-    /// If memory is refused.
-    pub fn reserve(&mut self, cores: usize) -> Result<(), AllocError> {
-        self.cores.reserve(cores)?;
-        self.notes.reserve()
     }
 
     /// Reaps each linked entry that is found cancelled at `count` slots from `from` on of the core at a place, and
     /// tells the slot to go on from. It returns none where there is no such place. No value is dropped: each waits
     /// until it is taken out. The notes stay.
-    pub fn sweep_some(&mut self, place: usize, from: usize, count: usize) -> Option<Swept> {
+    pub(crate) fn sweep_some(&mut self, place: usize, from: usize, count: usize) -> Option<Swept> {
         self.cores.sweep_some(place, from, count)
     }
 }
@@ -524,6 +515,24 @@ impl<T, W: Words> SizedStore<T, W> {
     }
 }
 
+// Takes a core in. It is open where it is needed.
+#[allow(clippy::result_large_err)]
+fn take_in<T, W: Words>(
+    store: &mut Store<T, W>,
+    core: DelayCore<T, W>,
+    is_needed: bool,
+) -> Result<(), (TakeError, DelayCore<T, W>)> {
+    let opened = store.cores().opened();
+    if let Err(refused) = store.take_in(core) {
+        return Err(refused);
+    }
+    if is_needed {
+        return Ok(());
+    }
+    let _ = store.open(opened);
+    Ok(())
+}
+
 // Its size.
 impl<T, W: Words> SizedStore<T, W> {
     /// Whether a slot is free for an insert: in the open core, or in another one of which half is free, or, where any
@@ -541,7 +550,8 @@ impl<T, W: Words> SizedStore<T, W> {
     /// # Errors
     /// If memory is refused.
     pub fn reserve(&mut self, cores: usize) -> Result<(), AllocError> {
-        self.store.reserve(cores)
+        self.store.cores.reserve(cores)?;
+        self.store.notes.reserve()
     }
 
     /// Closes the open core: inserts are refused until `finds_room` opens one, or one comes in.
@@ -549,18 +559,34 @@ impl<T, W: Words> SizedStore<T, W> {
         self.store.cores.close();
     }
 
-    /// Takes a core in that was made, as [`Sizing::bring`] tells.
+    /// Takes a core in that was made: it is open from now on where the open one is to be exchanged or has no room, and
+    /// waits else until it is needed.
     ///
     /// # Errors
-    /// The core comes back, and nothing changes in the store.
+    /// The core comes back, and nothing changes in the store. In this order:
+    /// - `UsedNumber` if a moved entry is known by an id of that number with a stamp that the core may give anew.
+    /// - `StillLinked` if an entry is linked in the core.
+    /// - `UsedNumber` if a core of the store has its number, or it is the last one of all.
+    /// - `NoMemory` if memory is refused.
     #[allow(clippy::result_large_err)]
     pub fn bring(&mut self, core: DelayCore<T, W>) -> Result<(), (TakeError, DelayCore<T, W>)> {
-        self.sizing.bring(&mut self.store, core)
+        let is_needed = !has_open_room(self.store.cores()) || self.sizing.is_to_be_exchanged(self.store.cores());
+        let taken = take_in(&mut self.store, core, is_needed);
+        let all = slots(self.store.cores());
+        self.sizing.sweep.restart(all);
+        self.sizing.note_work();
+        taken
     }
 
-    /// Takes a core out that has drained and isn't needed soon, as [`Sizing::take_needless`] tells.
+    /// Takes a core out that has drained and isn't needed soon. Folded, it keeps its words alone.
     pub fn take_needless(&mut self) -> Option<DelayCore<T, W>> {
-        self.sizing.take_needless(&mut self.store)
+        self.sizing.has_work = false;
+        let at = self.sizing.needless(self.store.cores())?;
+        // The cores get other places.
+        let all = slots(self.store.cores());
+        self.sizing.sweep.restart(all);
+        let core = self.store.take_at(at);
+        Some(core)
     }
 
     /// Takes a core out that has drained: it isn't the open one, and holds nothing, not even a value that waits for its
@@ -574,14 +600,28 @@ impl<T, W: Words> SizedStore<T, W> {
         core
     }
 
-    /// Frees cancelled entries at the next slots, as [`Sizing::sweep`] tells.
+    /// Frees cancelled entries at the next slots, 256 at most, unless each was looked at since the last of so many
+    /// cancels. It tells whether it looked at some. No value is dropped: each waits until it is taken out.
     pub fn sweep(&mut self, cancels: u64) -> bool {
-        self.sizing.sweep(&mut self.store, cancels)
+        self.sizing.begin_way(self.store.cores(), cancels);
+        if self.sizing.sweep.left == 0 {
+            self.sizing.note_swept(&self.store, cancels);
+            return false;
+        }
+        self.sizing.sweep_some(&mut self.store);
+        self.sizing.note_swept(&self.store, cancels);
+        true
     }
 
     /// Notes that an entry left its core, and that so many are left.
     #[inline(always)]
     pub fn note_left(&mut self, left: u64) {
-        self.sizing.note_left(&self.store, left);
+        if !is_look(left) {
+            return;
+        }
+        if !may_shrink(self.store.cores()) {
+            return;
+        }
+        self.sizing.look_after(&self.store);
     }
 }

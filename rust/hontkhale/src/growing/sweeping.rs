@@ -1,6 +1,7 @@
 //! How cancelled entries are freed where there is time: a few slots of a core at once, round and round.
 
 use crate::core::{Swept, Words};
+use crate::growing::cores::Cores;
 use crate::growing::sizing::{slots, Sizing};
 use crate::growing::store::Store;
 use crate::growing::NEVER;
@@ -15,7 +16,7 @@ pub(crate) struct Sweep {
     slot: usize,
     // The accepted cancels as the way began, and how many slots are left on it.
     cancels: u64,
-    left: usize,
+    pub(crate) left: usize,
 }
 
 // The slot to go on from, none where the core is done.
@@ -57,24 +58,16 @@ impl Sweep {
 }
 
 impl Sizing {
-    /// Frees cancelled entries at the next slots, 256 at most, unless each was looked at since the last of so many
-    /// cancels. It tells whether it looked at some. No value is dropped: each waits until it is taken out.
-    pub fn sweep<T, W: Words>(&mut self, store: &mut Store<T, W>, cancels: u64) -> bool {
+    // Begins the way anew where other cancels are told than before: all slots are on it again.
+    pub(crate) fn begin_way<T, W: Words>(&mut self, cores: &Cores<T, W>, cancels: u64) {
         if self.sweep.cancels != cancels {
             self.sweep.cancels = cancels;
-            self.sweep.left = slots(store.cores());
+            self.sweep.left = slots(cores);
         }
-        if self.sweep.left == 0 {
-            self.note_swept(store, cancels);
-            return false;
-        }
-        self.sweep_some(store);
-        self.note_swept(store, cancels);
-        true
     }
 
     // Notes whether there is nothing more to do since so many cancels.
-    fn note_swept<T, W: Words>(&mut self, store: &Store<T, W>, cancels: u64) {
+    pub(crate) fn note_swept<T, W: Words>(&mut self, store: &Store<T, W>, cancels: u64) {
         self.quiet_since = if self.is_quiet(store) { cancels } else { NEVER };
     }
 
@@ -82,7 +75,8 @@ impl Sizing {
         self.sweep.left == 0 && !self.is_busy(store)
     }
 
-    fn sweep_some<T, W: Words>(&mut self, store: &mut Store<T, W>) {
+    // Sweeps the next slots of the way.
+    pub(crate) fn sweep_some<T, W: Words>(&mut self, store: &mut Store<T, W>) {
         let cores = store.cores().count();
         let Some(core) = store.cores().get(self.sweep.place) else {
             self.sweep.go_on(None, 0, cores);

@@ -2,7 +2,7 @@ use Rattle.std.proofs.Common.{◌≡◌, false, true, rules}
 use Rattle.dq_growing.proofs.Sizes.{stays, takes_same, comes_same, opens_as, opens_only, stays_open}
 use Rattle.dq_growing.proofs.Keeping.{then_keep_beside}
 use Rattle.dq_growing.proofs.Holding.{comes_hold, opened_comes}
-use Rattle.dq_growing.proofs.sizing.take_in.Goals as goal
+use Rattle.dq_growing.proofs.store.take_in.Goals as goal
 
 pub returns-in-Err-clause-stands : goal.returns-in-Err-clause-stands
 returns-in-Err-clause-stands g c = stays c.args.store.now c.take_in.new.self c.in-Err.ensures.back.1 c.in-Err.ensures.notes
