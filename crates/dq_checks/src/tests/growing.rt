@@ -74,6 +74,80 @@ fn comes_out<A: Allocator + Clone>(
     same(rt, "poll", answer, Some((*entry, value)));
 }
 
+// Brings an empty core of a number, of two slots, each of which has one stamp.
+fn brings<A: Allocator + Clone>(
+    store: &mut Kept<A>,
+    heap: &A,
+    shard: u32,
+) -> Result<Result<(), TakeError>, CoreError> {
+    let core = core_of(heap, shard, 1)?;
+    Ok(store.bring(core).map_err(|refused| refused.0))
+}
+
+fn has_place<A: Allocator + Clone>(
+    rt: &impl Abort,
+    store: &Kept<A>,
+    entry: &EntryId,
+    place: Option<EntryId>,
+) {
+    same(rt, "place", store.store().place(entry), place);
+}
+
+fn has_deadline<A: Allocator + Clone>(
+    rt: &impl Abort,
+    store: &mut Kept<A>,
+    entry: &EntryId,
+    deadline: Result<u64, CoreError>,
+) {
+    same(rt, "deadline", store.deadline(entry), deadline);
+}
+
+// It is known by its own id alone, wherever it is.
+fn goes_on<A: Allocator + Clone>(rt: &impl Abort, store: &mut Kept<A>, entry: &EntryId) {
+    moves(rt, store, entry, NextDeadline::Same, 5);
+    has_deadline(rt, store, entry, Ok(5));
+    let there = EntryId::new(1, 0, 1);
+    has_deadline(rt, store, &there, Err(CoreError::Missing));
+    has_place(rt, store, entry, Some(there));
+    has_place(rt, store, &there, None);
+}
+
+// The slot has no stamp left, so the entry goes on in the open core.
+fn is_reset<A: Allocator + Clone>(rt: &impl Abort, store: &mut Kept<A>, entry: &EntryId) {
+    let reset = store.reset(entry, 3).0.map(|key| key.entry());
+    same(rt, "reset", reset, Ok(*entry));
+    comes_out(rt, store, 3, entry, 'b');
+    has_deadline(rt, store, entry, Err(CoreError::Missing));
+}
+
+fn is_removed<A: Allocator + Clone>(rt: &impl Abort, store: &mut Kept<A>, entry: &EntryId) {
+    let removed = store
+        .remove(entry)
+        .map(|removed| (removed.key.entry(), removed.value));
+    same(rt, "remove", removed, Ok((*entry, 'a')));
+    has_place(rt, store, entry, Some(*entry));
+}
+
+// A number is taken while a moved entry is known by it, and free once that has left.
+fn number_comes_back<A: Allocator + Clone>(
+    rt: &impl Abort,
+    store: &mut Kept<A>,
+    heap: &A,
+    entry: &EntryId,
+) -> Result<(), CoreError> {
+    let drained = store.take_needless().map(|core| core.shard());
+    same(rt, "drained", drained, Some(0));
+    same(
+        rt,
+        "a noted number",
+        brings(store, heap, 0)?,
+        Err(TakeError::UsedNumber),
+    );
+    is_removed(rt, store, entry);
+    same(rt, "a free number", brings(store, heap, 0)?, Ok(()));
+    Ok(())
+}
+
 fn keeps_ids<A: Allocator + Clone>(rt: &impl Abort, heap: &A) -> Result<(), Fail> {
     let Ok(alloc) = heap.clone() else {
         return Ok(());
@@ -81,60 +155,14 @@ fn keeps_ids<A: Allocator + Clone>(rt: &impl Abort, heap: &A) -> Result<(), Fail
     let Ok(mut store) = SizedStore::new(alloc, 1) else {
         return Ok(());
     };
-    let _ = store.bring(core_of(heap, 0, 1)?);
+    same(rt, "a first core", brings(&mut store, heap, 0)?, Ok(()));
     let first = inserted(&mut store, 'a', 5)?.entry();
     let second = inserted(&mut store, 'b', 9)?.entry();
     // The open core has no free slot, so the next one is open.
-    let _ = store.bring(core_of(heap, 1, 1)?);
-
-    moves(rt, &mut store, &first, NextDeadline::Same, 5);
-    same(rt, "deadline", store.deadline(&first), Ok(5));
-    let there = EntryId::new(1, 0, 1);
-    same(
-        rt,
-        "the place's own id",
-        store.deadline(&there),
-        Err(CoreError::Missing),
-    );
-    same(rt, "place", store.store().place(&first), Some(there));
-    same(rt, "another's place", store.store().place(&there), None);
-
-    // The slot of the second has no stamp left, so it goes on in the open core.
-    let reset = store.reset(&second, 3).0.map(|key| key.entry());
-    same(rt, "reset", reset, Ok(second));
-    comes_out(rt, &mut store, 3, &second, 'b');
-    same(rt, "gone", store.deadline(&second), Err(CoreError::Missing));
-
-    same(
-        rt,
-        "drained",
-        store.take_needless().map(|core| core.shard()),
-        Some(0),
-    );
-    same(
-        rt,
-        "a noted number",
-        store
-            .bring(core_of(heap, 0, 1)?)
-            .map_err(|refused| refused.0),
-        Err(TakeError::UsedNumber),
-    );
-    let removed = store
-        .remove(&first)
-        .map(|removed| (removed.key.entry(), removed.value));
-    same(rt, "remove", removed, Ok((first, 'a')));
-    same(
-        rt,
-        "no place but its own",
-        store.store().place(&first),
-        Some(first),
-    );
-    same(
-        rt,
-        "a free number",
-        store.bring(core_of(heap, 0, 1)?).is_ok(),
-        true,
-    );
+    same(rt, "a second core", brings(&mut store, heap, 1)?, Ok(()));
+    goes_on(rt, &mut store, &first);
+    is_reset(rt, &mut store, &second);
+    number_comes_back(rt, &mut store, heap, &first)?;
     Ok(())
 }
 
