@@ -34,9 +34,6 @@ module _ {K V : Type 0} {eq : K → K → Bool} (laws : IsEquivalence eq) (es : 
         ap (λ z. z.stamp) f.2,
       )
 
-  pub names_timer : (q : K) (s : Kept V) → lookup (eq q) es ≡ Some s → IsTimer t.slots s.key
-  names_timer q s at = let f = found laws es t.slots stock.tied q s at in (f.0, s.deadline, f.1)
-
   -- one that is kept is in the map
   pub in_map : (q : K) (i : ℕ) (x : Item K V) → (slot_at c.slots i).item ≡ Some x → eq q x.key ≡ true → (s : Kept V) × (lookup (eq q) es ≡ Some s) × (x.deadline ≡ s.deadline)
   in_map q i x is same =

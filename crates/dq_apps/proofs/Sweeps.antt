@@ -120,9 +120,6 @@ module _ {K V : Type 0} where
       let none = rest_count b c d in
       (omega (arith, count, none), rest_purged b c d ∙ all)
 
-  pub count_bound : (m : ℕ) (ss : List (CacheSlot K V)) → due_count m ss ≤ length ss
-  count_bound m ss = count_by-le-length (λ s. is_due m s.item) ss
-
   -- what is kept was kept, or was due
   kept_by : (m : ℕ) (o : Option (Item K V)) → cond (is_some (left_at m o)) 1 0 + cond (is_due m o) 1 0 ≡ cond (is_some o) 1 0
   kept_by m None = refl

@@ -1,10 +1,10 @@
 -- Somebody leads wherever anybody sleeps, and the lead is handed on.
 
 use Rattle.std.proofs.Common.{◌≡◌, ◌≢◌, ◌⊎◌, ℕ, zero, suc, ◌+◌, ◌<◌, ◌≤◌, ◌==◌, if◌then◌else◌, Bool, true, false, Option, None, Some, List, [], ◌∷◌, get_or, set, true≢false, length, refl, sym, ap, ◌∙◌, subst, inl, inr, arith}
-use Rattle.std.proofs.lemmas.List.{get_or-set_other, length-set}
-use Rattle.dq_bell.specs.Seats.{LeaderSeat, CloserSeat, AtSameBell}
+use Rattle.std.proofs.lemmas.List.{get_or-set_other, get_or-set_same, length-set}
+use Rattle.dq_bell.specs.Seats.{HintSeat, LeaderSeat, CloserSeat, AtSameBell, IsFreshLeader, DealsHint}
 use Rattle.dq_bell.specs.Rolls.{RollState, StandsInLine, first_in, LeavesRoll, HandsLead}
-use Rattle.dq_bell.specs.Lines.{LineState, SleepsAt, IsAwakeAt, HasLooked, IsLine, LeavesLine}
+use Rattle.dq_bell.specs.Lines.{LineState, SleepsAt, IsAwakeAt, HasLooked, IsLine, LeavesLine, FallsAsleep, StaysAwake, MayNotSleep, IsFreshLine}
 
 first_of : (count x : ℕ) → 0 < count → (f : ℕ) × ((if count == 0 then None else Some x) ≡ Some f)
 first_of count x h = (x, grind arith)
@@ -79,3 +79,121 @@ all_awake l l2 c r s s2 line bell awake size = record {
   room = λ o. (let a = line.room o in omega arith);
   bell = (line.bell.0 ∙ sym bell.0, line.bell.1 ∙ sym bell.1, line.bell.2);
 }
+
+-- one that is awake falls asleep, or may not
+module _ (l l2 : LeaderSeat) (c : CloserSeat) (r : RollState) (s : List Bool) (i until : ℕ) (old : LineState)
+    (view : line_of l c r s ≡ old) (line : IsLine l c r s) where
+  pub refused : MayNotSleep (line_of l c r s) i (line_of l c r s) → StaysAwake old i old
+  refused reason =
+      let P : LineState → Type 0 = λ o. StaysAwake o i o in
+      subst P view (record {
+        stays = record { bell = (refl, refl, refl); closer = refl; roll = refl };
+        sleeps = refl;
+        follows = λ _. refl;
+        reason = reason;
+      })
+
+  pub found_earlier : AtSameBell l l2 → first_in r ≡ Some i → l2.found ≡ true → StaysAwake old i (line_of l2 c r s)
+  found_earlier bell first found =
+      let P : LineState → Type 0 = λ o. StaysAwake o i (line_of l2 c r s) in
+      subst P view (record {
+        stays = record { bell = bell; closer = refl; roll = refl };
+        sleeps = refl;
+        follows = λ ne. absurd (ne first);
+        reason = inr (inr (inr (first, found)));
+      })
+
+  -- where it led, it leads on awake
+  pub leads_awake : AtSameBell l l2 → first_in r ≡ Some i → IsAwakeAt s i → IsLine l2 c r s
+  leads_awake bell first awake = record {
+    in_line = line.in_line;
+    led = λ j h on.
+        let e : i ≡ j = same i j first h in
+        let P : ℕ → Type 0 = λ a. IsAwakeAt s a in
+        absurd (true≢false (sym on ∙ subst P e awake));
+    room = line.room;
+    bell = (line.bell.0 ∙ sym bell.0, line.bell.1 ∙ sym bell.1, line.bell.2);
+  }
+
+  -- it is in line, awake, and the bell is open
+  module _ (is_open : c.is_closed ≡ false) (stands : StandsInLine r i) (awake : IsAwakeAt s i) where
+    others_on : (j : ℕ) → j ≢ i → get_or (set s i true) j false ≡ get_or s j false
+    others_on j ne = get_or-set_other s i j true false ne
+
+    sleeps_in_line : (j : ℕ) → SleepsAt (set s i true) j → StandsInLine r j
+    sleeps_in_line j h = elim (one_or_not j i) [
+      | inl e ↦ let P : ℕ → Type 0 = λ a. StandsInLine r a in subst P (sym e) stands
+      | inr n ↦ line.in_line j (sym (others_on j n) ∙ h)
+    ]
+
+    roomy : c.is_closed ≡ false → length r.places ≤ length (set s i true)
+    roomy o = let a = line.room o in let d = length-set s i true in omega arith
+
+    falls : AtSameBell l l2 → (first_in r ≡ Some i → (l2.until ≡ until) × HasLooked l2) → (first_in r ≢ Some i → l2 ≡ l)
+        → FallsAsleep old i until (line_of l2 c r (set s i true))
+    falls bell leads follows =
+        let P : LineState → Type 0 = λ o. FallsAsleep o i until (line_of l2 c r (set s i true)) in
+        subst P view (record {
+          stays = record { bell = bell; closer = refl; roll = refl };
+          is_open = is_open;
+          was_awake = awake;
+          sleeps = get_or-set_same s i true false (let a = line.room is_open in let b = stands.0 in omega arith);
+          others = others_on;
+          leads = leads;
+          follows = follows;
+        })
+
+    pub leader_falls : AtSameBell l l2 → first_in r ≡ Some i → (l2.until ≡ until) × HasLooked l2 → FallsAsleep old i until (line_of l2 c r (set s i true))
+    leader_falls bell first looked = falls bell (λ _. looked) (λ ne. absurd (ne first))
+
+    pub follower_falls : l2 ≡ l → first_in r ≢ Some i → FallsAsleep old i until (line_of l2 c r (set s i true))
+    follower_falls e ne =
+        falls (ap (λ (a : LeaderSeat). a.table) e, ap (λ (a : LeaderSeat). a.places) e, ap (λ (a : LeaderSeat). a.dealt) e) (λ first. absurd (ne first)) (λ _. e)
+
+    pub leader_line : AtSameBell l l2 → HasLooked l2 → IsLine l2 c r (set s i true)
+    leader_line bell looked = record {
+      in_line = sleeps_in_line;
+      led = λ _ _ _. looked;
+      room = roomy;
+      bell = (line.bell.0 ∙ sym bell.0, line.bell.1 ∙ sym bell.1, line.bell.2);
+    }
+
+    pub follower_line : first_in r ≢ Some i → IsLine l c r (set s i true)
+    follower_line ne = record {
+      in_line = sleeps_in_line;
+      led = λ j first h. elim (one_or_not j i) [
+        | inl e ↦ absurd (ne (first ∙ ap (λ (a : ℕ). Some a) e))
+        | inr n ↦ line.led j first (sym (others_on j n) ∙ h)
+      ];
+      room = roomy;
+      bell = line.bell;
+    }
+
+-- nobody sleeps where there is no room
+empty_awake : (s : List Bool) (i : ℕ) → length s ≡ 0 → IsAwakeAt s i
+empty_awake [] i e = refl
+empty_awake (b ∷ s) i e = absurd (omega (arith, e))
+
+-- a line of a fresh bell, whose first hint is that of the closing
+module _ (n : ℕ) (l l2 : LeaderSeat) (h : HintSeat) (c : CloserSeat) (r : RollState) (s : List Bool) (fresh : IsFreshLeader (n + 1) l) (deals : DealsHint l l2 h)
+    (is_open : c.is_closed ≡ false) (hint : c.hint ≡ h) (nobody : (r.count ≡ 0) × (length r.places ≡ 0)) where
+  pub fresh_line : IsFreshLine n (line_of l2 c r s)
+  fresh_line = record {
+    places_is = ap (λ (a : LeaderSeat). a.places) deals.0 ∙ fresh.0;
+    dealt = ap (λ (a : LeaderSeat). a.dealt) deals.0 ∙ ap (λ k. k + 1) fresh.1;
+    nobody = nobody.0;
+    empty = nobody.1;
+    is_open = is_open;
+  }
+
+  pub fresh_is_line : length s ≡ 0 → IsLine l2 c r s
+  fresh_is_line none = record {
+    in_line = λ j on. absurd (true≢false (sym on ∙ empty_awake s j none));
+    led = λ j first on. absurd (true≢false (sym on ∙ empty_awake s j none));
+    room = λ _. let a = nobody.1 in omega (arith, a);
+    bell = (
+      ap (λ (a : HintSeat). a.table) hint ∙ (deals.1 ∙ sym (ap (λ (a : LeaderSeat). a.table) deals.0)),
+      ap (λ (a : HintSeat). a.places) hint ∙ (deals.2 ∙ sym (ap (λ (a : LeaderSeat). a.places) deals.0)),
+      ap (λ (a : HintSeat). a.place) hint ∙ (deals.3 ∙ fresh.1),
+    );
+  }

@@ -144,12 +144,6 @@ key_refused b k Unknown shard r = inr r
 key_refused b k (Stale seen) shard r = (shard, r)
 key_refused b k (Ended how) shard r = (shard, r)
 
-looking_refused : {T : Type 0} (b : Core T WordRow) (k : Key) (e : CallError) → k.entry.shard ≡ b.shard → LookRefused b.known k e → LookingRefused b k e
-looking_refused b k (TooFar limit) shard r = absurd r
-looking_refused b k Unknown shard r = inr r
-looking_refused b k (Stale seen) shard r = (shard, r)
-looking_refused b k (Ended how) shard r = absurd r
-
 -- a call by key on the words is one on the queue
 module _ {T : Type 0} (shard noted : ℕ) (wheel : WheelState) (slots : SlotState T) (old new : WordRow) (k : Key) (l : IsLawful noted wheel.filing (shown slots) old.known old.counts) (here : k.entry.shard ≡ shard) where
   pub extends_by : (when : ℕ) (r : Result ℕ CallError) → when ≤ LAST_TICK → IsExtend old k when r new → Extends (core_of shard noted wheel slots old.known old.counts old) k when r (core_of shard noted wheel slots new.known new.counts new)
@@ -184,11 +178,3 @@ module _ {T : Type 0} (shard noted : ℕ) (wheel : WheelState) (slots : SlotStat
 pub extended_counts : (old new : WordRow) (k : Key) (when : ℕ) (r : Result ℕ CallError) → IsExtend old k when r new → new.counts ≡ old.counts
 extended_counts old new k when (Ok d) p = ap (λ w. w.counts) p.3
 extended_counts old new k when (Err e) p = ap (λ w. w.counts) p.1
-
-pub cancelled_counts : (old new : WordRow) (k : Key) (r : Result ℕ CallError) → IsCancel old k r new → new.counts ≡ old.counts
-cancelled_counts old new k (Ok d) p = ap (λ w. w.counts) p.2
-cancelled_counts old new k (Err e) p = ap (λ w. w.counts) p.1
-
-pub shows_by : {T : Type 0} (b : Core T WordRow) (k : Key) (r : Result Look CallError) → k.entry.shard ≡ b.shard → IsLook b.known k r → Shows b k r
-shows_by b k (Ok look) here p = (here, p)
-shows_by b k (Err e) here p = looking_refused b k e here p

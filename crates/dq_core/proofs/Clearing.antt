@@ -3,18 +3,19 @@ use Rattle.std.proofs.Common.{◌≡◌, ◌≢◌, ℕ, ◌+◌, ◌<◌, ◌�
 use Rattle.std.specs.List.{AllByRecursion}
 use Rattle.std.proofs.lemmas.List.{get_or_past}
 use Rattle.std.proofs.lemmas.Bool.{cases_eq, cases_lt, false≢true}
+use Rattle.dq_ticks.specs.declared.words.Mark.TheVariants.{CancelledMark, RemovedMark}
 use Rattle.dq_ticks.specs.declared.words.Parts.{Parts}
 use Rattle.dq_wheel.specs.State.{unlinked}
 use Rattle.dq_core.specs.declared.slots.Held.{Held}
 use Rattle.dq_core.specs.Words.{Counts, word_at, Learned, IsChanged, live, cancelled, removed, finished_counts}
 use Rattle.dq_core.specs.Slots.{Row, unused, row_at, is_held, vacated}
 use Rattle.dq_core.specs.Machine.{Machine, Event, Note, Pass, Insert, Reset, Extend, Cancel, Remove, Reap, Expire, Step, Callers, IsCallers, IsClearing, removes}
-use Rattle.dq_core.specs.Core.{Core, machine, entry_of, table_of, IsLawfulCore}
+use Rattle.dq_core.specs.Core.{Core, machine, entry_of, table_of, IsLawful, IsLawfulCore}
 use Rattle.dq_core.specs.Calls.{SameCore}
 use Rattle.dq_core.specs.Sweeps.{removed_counts, RunOfClear, IsCleared, AreEnded, IsEmptied, Clears}
-use Rattle.dq_core.proofs.Law.{Filed}
+use Rattle.dq_core.proofs.Law.{Filed, law_vacated}
 use Rattle.dq_core.proofs.Ways.{run_more, all_more, all_into, of_callers, callers_clearing}
-use Rattle.dq_core.proofs.Leaving.{IsGone, gone, out_more, out_none, out_one, vacated_here, row_other, word_other, past_table, same_more}
+use Rattle.dq_core.proofs.Leaving.{IsGone, gone, out_more, out_none, out_one, vacated_here, not_held, row_other, word_other, past_table, same_more}
 
 -- how many of two lists of events are removals
 removes_more : {T : Type 0} (es fs : List (Event T)) → removes (es ++ fs) ≡ removes es + removes fs
@@ -97,6 +98,22 @@ module _ {T W : Type 0} (shared : Bool) (b c : Core T W) (l : IsLawfulCore b) (i
       let none : c.counts ≡ removed_counts b.counts 0 = ec ∙ ap (λ n. let x : Counts = record { begins = b.counts.begins; expiries = b.counts.expiries; removals = n } in x) (omega arith) in
       emptied_by false v (Reap i at.held.born) None g tt (record { born = at.held.born; value = at.held.value; due = None }, g.has, refl, refl, g.put) refl none changed
 
+  -- the law holds on
+  pub law_emptied : (o : Option ℕ) → IsChanged shared stamp (removed stamp) (word_at b.known i) o (word_at c.known i) → c.counts ≡ finished_counts b.counts o
+      → IsLawful b.noted c.wheel.filing c.slots c.known c.counts
+  law_emptied (Some d) changed ec =
+      let mark : (word_at c.known i).mark ≡ RemovedMark = ap (λ p. p.mark) changed.1 in
+      let begins : c.counts.begins ≡ b.counts.begins = ap (λ n. n.begins) ec in
+      let expiries : c.counts.expiries ≡ b.counts.expiries = ap (λ n. n.expiries) ec in
+      let removals : c.counts.removals ≡ b.counts.removals + 1 = ap (λ n. n.removals) ec in
+      law_vacated l i f (word_at c.known i) at ew eh ek (ap (λ p. p.stamp) changed.1 ∙ es) (λ e. cc) (λ e. absurd (cc)) begins (omega (arith, expiries, removals))
+  law_emptied None changed ec =
+      let mark : (word_at c.known i).mark ≡ CancelledMark = ap (λ p. p.mark) changed.1 in
+      let begins : c.counts.begins ≡ b.counts.begins = ap (λ n. n.begins) ec in
+      let expiries : c.counts.expiries ≡ b.counts.expiries = ap (λ n. n.expiries) ec in
+      let removals : c.counts.removals ≡ b.counts.removals = ap (λ n. n.removals) ec in
+      law_vacated l i f (word_at c.known i) at ew eh ek (ap (λ p. p.stamp) changed.1 ∙ es) (λ e. cc) (λ e. absurd (cc)) begins (omega (arith, expiries, removals))
+
 -- a clear that has come to slot i, and has ended n entries as removed
 pub record IsOnClear {T W : Type 0} (shared : Bool) (b : Core T W) (i n : ℕ) (c : Core T W) : Type 0 where
   pub same : SameCore b c
@@ -122,6 +139,16 @@ clear_from shared b =
       words = λ j less. absurd (omega arith);
       none = λ j less. absurd (omega arith);
       rest = λ j more. (refl, refl);
+    }
+
+-- where the slot holds nothing
+pub emptied_none : {T W : Type 0} (shared : Bool) (b : Core T W) (i : ℕ) → false ≡ is_held (row_at b.slots.rows i) → IsEmptied shared b i false b
+emptied_none shared b i is =
+    record {
+      ended = (clear_from shared b).ended;
+      here = not_held (row_at b.slots.rows i) is;
+      word = (λ yes. absurd (false≢true (is ∙ yes)), λ _. refl);
+      other = λ j ne. (refl, refl);
     }
 
 ended_more : {T W : Type 0} (shared : Bool) (a b c : Core T W) (is js : List ℕ) (n m k : ℕ) → SameCore a b → AreEnded shared a is n b → AreEnded shared b js m c → k ≡ n + m → AreEnded shared a (is ++ js) k c

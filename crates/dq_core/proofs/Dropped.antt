@@ -72,9 +72,6 @@ module _ {T W : Type 0} (shared : Bool) (b c : Core T W) (a : DeferredValues T) 
   ended_dropped : (is : List ℕ) (n : ℕ) → AreEnded shared b is n c → AreEnded shared b is n (with_deferred_values c a)
   ended_dropped is n x = record { run = x.run; few = x.few; out = out_dropped is x.out; counts = x.counts }
 
-  pub swept_dropped : (i : ℕ) (found : Bool) → IsSwept shared b i found c → IsSwept shared b i found (with_deferred_values c a)
-  swept_dropped i found x = record { reaped = reaped_dropped _ x.reaped; here = x.here; other = x.other }
-
   pub sweeps_dropped : (n : ℕ) → Sweeps shared b n c → Sweeps shared b n (with_deferred_values c a)
   sweeps_dropped n x = record { reaped = (x.reaped.0, x.reaped.1, reaped_dropped _ x.reaped.2); none = x.none }
 

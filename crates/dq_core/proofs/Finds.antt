@@ -34,9 +34,6 @@ missing_by b l id none shard e is =
     let at = entry_held (row_at b.slots.rows id.index).held (word_at b.known id.index) e (sym (ap (λ s. s.entry) (table_row_is b.slots.rows b.known l.as_known id.index)) ∙ is) in
     λ born. none at.0 at.1 (at.2 ∙ born)
 
-pub missing_shard : {T W : Type 0} (b : Core T W) (id : EntryId) → id.shard ≢ b.shard → IsMissing b id
-missing_shard b id other shard e is = absurd (other shard)
-
 pub missing_past : {T W : Type 0} (b : Core T W) → IsLawfulCore b → (id : EntryId) → length b.slots.rows ≤ id.index → IsMissing b id
 missing_past b l id past =
     missing_by b l id (λ h e.

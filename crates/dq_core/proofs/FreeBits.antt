@@ -123,29 +123,6 @@ none_in words g zeros w w_in one =
     let bit : bit_of words w ≡ 0 = ap (λ v. bit_at v (w % 64)) none ∙ bit_at-zero (w % 64) in
     omega arith
 
--- a word with a bit in the summary is one of the words
-pub summed_word : (bits summary : List ℕ) (w : ℕ) → IsSummed bits summary → bit_of summary w ≡ 1 → (w < length bits) × (0 < get_or bits w 0)
-summed_word bits summary w summed one =
-    let some : 0 < get_or bits w 0 = (summed w).0 one in
-    (⊎_elim (λ inside. inside) (λ past. let none : get_or bits w 0 ≡ 0 = get_or_past bits w 0 past in absurd (omega arith)) (cases_lt w (length bits)), some)
-
--- where the summary has no bit, all words are 0
-pub none_summed : (bits summary : List ℕ) → length bits ≤ 1024 → IsSummed bits summary → ((w : ℕ) → w < 1024 → bit_of summary w ≢ 1) → (w : ℕ) → get_or bits w 0 ≡ 0
-none_summed bits summary size summed none w =
-    ⊎_elim
-    (λ inside. ⊎_elim (λ e. e) (λ d. absurd (none w (omega arith) ((summed w).1 (omega arith)))) (cases_eq (get_or bits w 0) 0))
-    (λ past. get_or_past bits w 0 past)
-    (cases_lt w (length bits))
-
--- an index comes on the stack, or leaves it
-pub stack_given : (stack bits : List ℕ) (i : ℕ) → GivesBack (record { recent = stack; bits = bits }) i (record { recent = stack ++ i ∷ []; bits = bits })
-stack_given stack bits i =
-    record {
-      one_more = ap (λ n. n + bit_of bits i) (sum_by_push (λ k. cond (eqb k i) 1 0) stack i ∙ ap (λ b. times i stack + cond b 1 0) (eq-eqb i i refl)) ∙ omega arith;
-      others = λ j d. ap (λ n. n + bit_of bits j) (sum_by_push (λ k. cond (eqb k j) 1 0) stack i ∙ ap (λ b. times j stack + cond b 1 0) (ne_eqb i j (λ e. d (sym e))) ∙ omega arith);
-      room = refl;
-    }
-
 -- the bit of an index is set, or cleared
 pub bit_given : (stack bits after : List ℕ) (i : ℕ) → bit_of bits i ≡ 0 → bit_of after i ≡ 1 → ((j : ℕ) → j ≢ i → bit_of after j ≡ bit_of bits j) → length after ≡ length bits →
     GivesBack (record { recent = stack; bits = bits }) i (record { recent = stack; bits = after })

@@ -181,30 +181,3 @@ law_learned {T} {noted} {wheel} {slots} {known} {known'} {counts} l shared i f w
     let force = force_learned shared (row_at slots.rows i).stamp f (word_at known i) w at.in_force learned in
     let filed : wheel.filed ≡ set wheel.filed i (Some f) = sym (set-get_or wheel.filed i None) ∙ ap (λ o. set wheel.filed i o) at.is_filed in
     law_kept l i f f at.held (row_at slots.rows i) w at refl filed refl (sym (set-get_or slots.rows i unused)) ek refl (omega arith) at.bound (force_stamp (row_at slots.rows i).stamp f w force) force at.ahead at.near
-
-placed_later : {T : Type 0} (tick later noted stamp : ℕ) (o : Option (Held T)) (w : Parts) (ff : Option ℕ) → tick ≤ later → IsPlaced tick noted stamp o w ff → ((f : ℕ) → ff ≡ Some f → later ≤ f) → IsPlaced later noted stamp o w ff
-placed_later tick later noted stamp None w None up p h = p
-placed_later tick later noted stamp None w (Some f) up p h = p
-placed_later tick later noted stamp (Some x) w None up p h = p
-placed_later tick later noted stamp (Some x) w (Some f) up p h =
-    let near = p.2 in
-    (p.0, h f refl, omega (arith, near), p.3)
-
--- the law at a later tick
-pub law_advanced : {T : Type 0} {noted : ℕ} {wheel wheel' : Filing} {slots : SlotRows T} {known : List Parts} {counts : Counts} → IsLawful noted wheel slots known counts → wheel'.filed ≡ wheel.filed → wheel.tick ≤ wheel'.tick → wheel'.tick ≤ noted → ((i f : ℕ) → filed_at wheel'.filed i ≡ Some f → wheel'.tick ≤ f) → IsLawful noted wheel' slots known counts
-law_advanced {T} {noted} {wheel} {wheel'} {slots} {known} {counts} l ef up tick before =
-    record {
-      as_filed = ap length ef ∙ l.as_filed;
-      as_known = l.as_known;
-      capacity = l.capacity;
-      last_bound = l.last_bound;
-      tick = tick;
-      noted_bound = l.noted_bound;
-      each = λ i inside.
-          let s = l.each i inside in
-          let at : filed_at wheel'.filed i ≡ filed_at wheel.filed i = ap (λ xs. filed_at xs i) ef in
-          let P : Option ℕ → Type 0 = λ o. IsPlaced wheel.tick noted (row_at slots.rows i).stamp (row_at slots.rows i).held (word_at known i) o in
-          record { stamp = s.stamp; bound = s.bound; placed = placed_later wheel.tick wheel'.tick noted (row_at slots.rows i).stamp (row_at slots.rows i).held (word_at known i) (filed_at wheel'.filed i) up (subst P (sym at) s.placed) (λ f e. before i f e) };
-      stamps = l.stamps;
-      balance = l.balance;
-    }

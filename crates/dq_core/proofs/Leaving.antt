@@ -120,20 +120,8 @@ module _ {T W : Type 0} (shared : Bool) (b c : Core T W) (l : IsLawfulCore b) (i
   pub held_stamp : (v : Parts) → Learned shared (word_at b.known i) v → v.stamp ≡ (row_at b.slots.rows i).stamp
   held_stamp v learned = force_stamp (row_at b.slots.rows i).stamp f v (force_learned shared (row_at b.slots.rows i).stamp f (word_at b.known i) v at.in_force learned)
 
-  pub held_cancelled : (v : Parts) → Learned shared (word_at b.known i) v → v.mark ≡ CancelledMark → v ≡ cancelled (row_at b.slots.rows i).stamp
-  held_cancelled v learned = as_cancelled (row_at b.slots.rows i).stamp f v (force_learned shared (row_at b.slots.rows i).stamp f (word_at b.known i) v at.in_force learned)
-
   pub held_live : (v : Parts) → Learned shared (word_at b.known i) v → v.mark ≢ CancelledMark → v.mark ≡ LiveMark
   held_live v learned = as_live (row_at b.slots.rows i).stamp f v (force_learned shared (row_at b.slots.rows i).stamp f (word_at b.known i) v at.in_force learned)
-
-  -- its word is in force, and it is filed
-  pub held_force : (stamp : ℕ) → stamp ≡ (row_at b.slots.rows i).stamp → IsInForce stamp 0 (word_at b.known i)
-  held_force stamp e =
-      let P : ℕ → Type 0 = λ s. IsInForce s 0 (word_at b.known i) in
-      subst P (sym e) (force_low (row_at b.slots.rows i).stamp f 0 (word_at b.known i) (omega arith) at.in_force)
-
-  pub held_linked : filed_at b.wheel.filing.filed i ≢ None
-  held_linked e = not_none f (sym e ∙ at.is_filed)
 
   lea : (v : Parts) → Learned shared (word_at b.known i) v → Learning shared b.slots.last_stamp b.wheel.filing.tick b.noted b.slots.rows b.known i at.held v
   lea v learned = learning shared b.slots.last_stamp b.wheel.filing.tick b.noted b.slots.rows b.known i at.held v l.as_known inside at.is_held at.stamp (held_stamp v learned) learned

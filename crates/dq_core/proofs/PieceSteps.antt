@@ -355,51 +355,12 @@ pub both_expired : {T W : Type 0} (shared : Bool) (b c : Core T W) (i : ℕ) {x 
     IsAnswered shared b (Out x) c × IsAnsweredBy shared 1 b (Out x) c
 both_expired shared b c i {x} due ew ans = (ans, answered_by shared b c (Out x) (inl (i, due, ew)) ans)
 
--- the shard law where indexes are filed earlier
-force_earlier : (s f g : ℕ) (w : Parts) → g ≤ f → IsInForce s f w → IsInForce s g w
-force_earlier s f g w le (pos, inl (is, before, small)) = (pos, inl (is, omega arith, small))
-force_earlier s f g w le (pos, inr is) = (pos, inr is)
-
-placed_earlier : {T : Type 0} (tick later noted stamp : ℕ) (held : Option (Held T)) (w : Parts) (o p : Option ℕ) → tick ≤ later → ((g : ℕ) → p ≡ Some g → later ≤ g) →
-    MatchOption o (p ≡ None) (λ f. (g : ℕ) × (p ≡ Some g) × (g ≤ f)) → IsPlaced tick noted stamp held w o → IsPlaced later noted stamp held w p
-placed_earlier {T} tick later noted stamp None w None p up before now placed = let P : Option ℕ → Type 0 = λ x. IsPlaced {T = T} later noted stamp None w x in subst P (sym now) placed
-placed_earlier tick later noted stamp None w (Some f) p up before now placed = absurd placed
-placed_earlier tick later noted stamp (Some h) w None p up before now placed = absurd placed
-placed_earlier {T} tick later noted stamp (Some h) w (Some f) p up before now placed =
-    let P : Option ℕ → Type 0 = λ x. IsPlaced {T = T} later noted stamp (Some h) w x in
-    let le : later ≤ now.0 = before now.0 now.1 in
-    let small : now.0 ≤ f = now.2 in
-    let near : f < tick + lap = placed.2 in
-    subst P (sym now.1) (force_earlier stamp f now.0 w small placed.0, le, omega arith, placed.3)
-
 module _ {T W : Type 0} (shared : Bool) (b c : Core T W) (l : IsLawfulCore b) (on : ArrivesOn b.noted b.wheel.filing c.wheel.filing)
     (earlier : AreFiledByThen b.wheel.filing.filed c.wheel.filing.filed) (small : c.wheel.filing.tick ≤ b.noted) (up : b.wheel.filing.tick < c.wheel.filing.tick)
     (before : (i f : ℕ) → filed_at c.wheel.filing.filed i ≡ Some f → c.wheel.filing.tick ≤ f)
     (es : c.slots ≡ b.slots) (ek : c.known ≡ b.known) (ec : c.counts ≡ b.counts) (en : c.noted ≡ b.noted) where
   size : length c.wheel.filing.filed ≡ length b.wheel.filing.filed
   size = arrived_size b.noted b.wheel.filing c.wheel.filing on.2
-
-  pub arrived_lawful : IsLawfulCore c
-  arrived_lawful =
-      let filed = l.as_filed in
-      rw (es, ek, ec, en) (record {
-        as_filed = size ∙ l.as_filed;
-        as_known = l.as_known;
-        capacity = l.capacity;
-        last_bound = l.last_bound;
-        tick = small;
-        noted_bound = l.noted_bound;
-        each = λ i inside.
-            let s = l.each i inside in
-            record {
-              stamp = s.stamp;
-              bound = s.bound;
-              placed = placed_earlier b.wheel.filing.tick c.wheel.filing.tick b.noted (row_at b.slots.rows i).stamp (row_at b.slots.rows i).held (word_at b.known i)
-                  (filed_at b.wheel.filing.filed i) (filed_at c.wheel.filing.filed i) (omega (arith, up)) (before i) (earlier i) s.placed;
-            };
-        stamps = l.stamps;
-        balance = l.balance;
-      })
 
   late_of : (o : Option ℕ) (i f : ℕ) → o ≡ Some f → MatchOption o (filed_at c.wheel.filing.filed i ≡ None) (λ f. (g : ℕ) × (filed_at c.wheel.filing.filed i ≡ Some g) × (g ≤ f)) →
       c.wheel.filing.tick ≤ f
@@ -453,12 +414,6 @@ pub piece_init : {T W : Type 0} (shared : Bool) (b n : Core T W) (t : ℕ) → t
 piece_init {T} {W} shared b n t small is =
     let P : Core T W → Type 0 = λ m. IsOnPiece shared b t 0 m in
     subst P (sym is) (small, (refl, refl, refl), refl, coming_none shared (noting b t), omega arith)
-
--- a piece that ends its steps
-pub piece_working : {T W : Type 0} (shared : Bool) (b cur : Core T W) (t turns most : ℕ) → IsOnPiece shared b t turns cur → most ≤ turns → turns ≤ most → IsPolledSome shared b t most Working cur
-piece_working shared b cur t turns most on all few =
-    let left : steps_left cur + turns ≤ steps_left (noting b t) = on.4 in
-    (on.0, refl, (coming_fewer shared turns most (noting b t) cur few on.3, omega arith), on.2)
 
 -- a piece that takes an entry out
 pub piece_out : {T W : Type 0} (shared : Bool) (b cur c : Core T W) (t turns most : ℕ) (x : Expired T) → IsOnPiece shared b t turns cur → IsAnsweredBy shared 1 cur (Out x) c → c.noted ≡ cur.noted → turns < most →
@@ -562,12 +517,6 @@ coming_beside shared b c w x = record { way = x.way; looks = x.looks; wheel = x.
 answered_beside : {T W : Type 0} (shared : Bool) (b c : Core T W) (turn : Turn T) (w : W) → IsAnsweredBy shared 1 (record b { words = w }) turn c → IsAnsweredBy shared 1 b turn c
 answered_beside shared b c turn w x = record { run = x.run; row = x.row; wheel = x.wheel; ticks = x.ticks; filed = x.filed; counts = x.counts }
 
--- a step, as one of so many over the words
-pub piece_by_one : {T W : Type 0} (shared : Bool) (b : Core T W) (made : Progress T) (c : Core T W) → IsPieceStep shared b made c → IsPieceBy shared b 1 made c
-piece_by_one shared b (Gave x) c step = step
-piece_by_one shared b Went c step = (step.0, step.1.0)
-piece_by_one shared b Rests c step = step
-
 -- a step after a look that learned nothing of a due index
 piece_beside : {T W : Type 0} (shared : Bool) (b : Core T W) (w : W) (i : ℕ) (made : Progress T) (c : Core T W) → filed_at b.wheel.filing.filed i ≡ Some b.wheel.filing.tick →
     IsPieceStep shared (record b { words = w }) made c → IsPieceBy shared b 2 made c
@@ -611,9 +560,6 @@ looks_on shared b cur c made on same noted way =
       coming_more shared made 1 b cur c on.0.1 on.1 on.2 way.0,
       omega arith,
     )
-
-pub looks_done : {T W : Type 0} (shared : Bool) (b cur : Core T W) (made : ℕ) → IsOnLooks shared b made cur → LooksOn shared b made cur
-looks_done shared b cur made on = let left : steps_left cur + 2 * made ≤ steps_left b = on.3 in (on.2, omega arith)
 
 -- the last one settles none
 coming_looked : {T W : Type 0} (shared : Bool) (n : ℕ) (b c : Core T W) (w : W) → IsComing shared n b c → IsComing shared n b (record c { words = w })

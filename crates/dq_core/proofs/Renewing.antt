@@ -117,33 +117,6 @@ pub none_counted : (T : Type 0) (n : ℕ) → count_by is_held (replicate n (unu
 none_counted T zero = refl
 none_counted T (suc n) = let s = sum_by-cons (λ x. one (is_held x)) (unused {T = T}) (replicate n unused) in let k = none_counted T n in omega arith
 
--- the law, where nothing is linked and the words are fresh
-pub law_renewed : {T : Type 0} {noted : ℕ} {wheel : Filing} {slots slots' : SlotRows T} {known known' : List Parts} {counts counts' : Counts} → IsLawful noted wheel slots known counts → count_by is_held slots.rows ≡ 0 → slots' ≡ never_used slots → AreFresh known' counts' → length known' ≡ length slots.rows → IsLawful noted wheel slots' known' counts'
-law_renewed {T} {noted} {wheel} {slots} {slots'} {known} {known'} {counts} {counts'} l none es fresh size =
-    let n = length slots.rows in
-    let N : List (Row T) = replicate n unused in
-    let ks : known' ≡ replicate n never = fresh.0 ∙ ap (λ m. replicate m never) size in
-    let slot_is : (i : ℕ) → i < n → IsSlot wheel.tick noted slots.last_stamp (row_at N i) (word_at (replicate n never) i) (filed_at wheel.filed i) =
-    λ i inside.
-    let gone = loose_is l i inside (is_none_of (row_at slots.rows i).held (none_held_at slots.rows none i)) in
-    rw (get_or-replicate n i (unused {T = T}) unused inside, get_or-replicate n i never never inside, gone.0)
-    (record { stamp = refl; bound = omega arith; placed = (inl refl, λ e. cc) }) in
-    let stamps : 0 ≤ sum_by (λ r. r.stamp) N = omega arith in
-    let held : count_by is_held N ≡ 0 = none_counted T n in
-    let as_filed = l.as_filed in
-    rw (es, ks, fresh.1)
-    (record {
-      as_filed = rw (length-replicate n (unused {T = T})) l.as_filed;
-      as_known = length-replicate n never ∙ sym (length-replicate n (unused {T = T}));
-      capacity = rw (length-replicate n (unused {T = T})) l.capacity;
-      last_bound = l.last_bound;
-      tick = l.tick;
-      noted_bound = l.noted_bound;
-      each = λ i inside. slot_is i (rw (length-replicate n (unused {T = T})) at inside);
-      stamps = stamps;
-      balance = omega (arith, held);
-    })
-
 -- the table of slots and words that were never used
 table_unused : {T : Type 0} (n : ℕ) → table_of (replicate n (unused {T = T})) (replicate n never) ≡ replicate n (record { stamp = 0; entry = None })
 table_unused zero = refl
@@ -159,10 +132,6 @@ renewed_machine {T} {W} b slots known sizes es ek size =
     let back : length (table_of b.slots.rows b.known) ≡ n = length-table b.slots.rows b.known sizes in
     let M : List (TableRow T) → Machine T = λ ts. record { tick = b.wheel.filing.tick; noted = b.noted; table = ts } in
     ap M (t ∙ ap (λ m. replicate m (record { stamp = 0; entry = None })) (sym back))
-
--- an entry whose number is lower is missing
-pub old_missing : {T W : Type 0} (b c : Core T W) → b.shard < c.shard → OldAreMissing b c
-old_missing b c higher id low same = absurd (omega arith)
 
 -- nothing is filed where nothing is held
 pub none_filed : {T : Type 0} {noted : ℕ} {wheel : Filing} {slots : SlotRows T} {known : List Parts} {counts : Counts} → IsLawful noted wheel slots known counts → count_by is_held slots.rows ≡ 0 → (i f : ℕ) → filed_at wheel.filed i ≡ Some f → ⊥

@@ -80,9 +80,6 @@ some_not_none (Some x) e = refl
 held_not_free : {T : Type 0} (last : ℕ) (r : Row T) → is_held r ≡ true → is_free last r ≡ false
 held_not_free last r is = and_left _ _ (some_not_none r.held is)
 
-none_not_some : {A : Type 0} (o : Option A) → o ≡ None → is_some o ≡ false
-none_not_some o e = ap is_some e
-
 -- a held slot is one of the row
 pub held_inside : {T : Type 0} (rows : List (Row T)) (i : ℕ) → is_held (row_at rows i) ≡ true → i < length rows
 held_inside [] i is = cc
@@ -259,16 +256,6 @@ gives_free free more waiting i g =
       waits_room = refl;
     }
 
--- so may a slot whose value waits from now on
-pub gives_waiting : (free : FreeIndexes) (waiting more : Deferred) (i : ℕ) → deferred_at waiting i ≡ 0 → Defers waiting i more → GivesSlot free waiting i free more
-gives_waiting free waiting more i none d =
-    record {
-      one_more = omega (arith, d.0, none);
-      others = λ j ne. ap (λ n. free_times free j + n) (d.2.1 j ne);
-      room = refl;
-      waits_room = d.2.0;
-    }
-
 -- what is taken for a fill was one that may be
 pub takes_given : (free rest : FreeIndexes) (waiting ready : Deferred) (i : ℕ) → TakesSlot free waiting (Some i) rest ready → GivesSlot rest ready i free waiting
 takes_given free rest waiting ready i =
@@ -306,10 +293,6 @@ moved_is {last = last} {rows = rows} {free = free} {waiting = waiting} s more re
       counted = s.counted;
       room = omega (arith, s.room, g.room);
     }
-
--- what was read at an index is the slot there
-pub read_is : {T : Type 0} (rows : List (Row T)) (i : ℕ) (r : Row T) → i < length rows → r ≡ get_or rows i r → row_at rows i ≡ r
-read_is rows i r inside read = get_or_default rows i unused r inside ∙ sym read
 
 -- the indexes below n are free, and no others
 abbrev pub AreFirstFree : ℕ → FreeIndexes → Type 0

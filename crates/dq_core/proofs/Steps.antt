@@ -61,10 +61,6 @@ under_way_more shared a b c last noted x y =
       counts = y.counts ∙ x.counts;
     }
 
-pub under_way_none : {T W : Type 0} (shared : Bool) (b : Core T W) → IsUnderWay shared b b
-under_way_none shared b =
-    record { way = run_of_none (IsOnTheWay shared) b.slots.last_stamp (machine b) (machine b) refl; looks = looks_none shared b.known; wheel = goes_none shared b.known b.noted b.wheel.filing; ticks = omega arith; filed = λ i. inl (refl, refl); counts = refl }
-
 -- how the indexes are filed where one index changes
 filed_one : (v w : Filing) (old new : List Parts) (i : ℕ) (o : Option ℕ) (p : Parts) → w.filed ≡ set v.filed i o → new ≡ set old i p → IsFiledOver v old w new i → (j : ℕ) → IsFiledOver v old w new j
 filed_one v w old new i o p ef ek here j =
@@ -318,25 +314,6 @@ placed_noted tick noted later stamp None w None up p = (p.0, λ e. let low = p.1
 placed_noted tick noted later stamp None w (Some f) up p = p
 placed_noted tick noted later stamp (Some h) w None up p = p
 placed_noted tick noted later stamp (Some h) w (Some f) up p = p
-
--- a tick is noted
-pub law_noted : {T : Type 0} {noted : ℕ} {wheel : Filing} {slots : SlotRows T} {known : List Parts} {counts : Counts} → IsLawful noted wheel slots known counts → (t later : ℕ) → t ≤ LAST_TICK → later ≡ max noted t → IsLawful later wheel slots known counts
-law_noted {T} {noted} {wheel} {slots} {known} {counts} l t later small e =
-    let tick = l.tick in
-    let bound = l.noted_bound in
-    record {
-      as_filed = l.as_filed;
-      as_known = l.as_known;
-      capacity = l.capacity;
-      last_bound = l.last_bound;
-      tick = omega arith;
-      noted_bound = omega arith;
-      each = λ i inside.
-          let s = l.each i inside in
-          record { stamp = s.stamp; bound = s.bound; placed = placed_noted wheel.tick noted later (row_at slots.rows i).stamp (row_at slots.rows i).held (word_at known i) (filed_at wheel.filed i) (omega arith) s.placed };
-      stamps = l.stamps;
-      balance = l.balance;
-    }
 
 -- a way and then an answer
 answered_more : {T W : Type 0} (shared : Bool) (a b c : Core T W) (x : Expired T) → SameCore a b → b.noted ≡ a.noted → IsUnderWay shared a b → IsAnswered shared b (Out x) c → IsAnswered shared a (Out x) c

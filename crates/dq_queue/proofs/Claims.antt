@@ -192,12 +192,6 @@ module _ {T : Type 0} where
       let b = brings i c at.0 in
       b.4 ∙ its b.0 b.1 (b.2, sym b.3 ∙ at.1)
 
-  -- a promise is of the words of the core of its number
-  pub its_words : (rows : List Named) (s : StoreState T Sat) (claims : List (Claimed Open)) (p : PromiseView) → AreClaimed s.cores.cores claims → AgreeWith claims p.claim → IsPromiseOf rows p → IsOfItsWords s p
-  its_words rows s claims p claimed agree of i c at =
-      let k = claimed i c at.0 in
-      sym k.3.1 ∙ (ap (λ (o : Open). o.table) (agree k.0 k.1 k.2 (k.3.0 ∙ at.1)) ∙ sym of.1)
-
   pub same_cores : (s t : StoreState T Sat) → t.cores ≡ s.cores → BringsNoCore s t
   same_cores s t e i c at = let P : CoreRow T Sat → Type 0 = λ r. IsCoreAt r.cores i c in (i, c, subst P e at, refl, refl)
 

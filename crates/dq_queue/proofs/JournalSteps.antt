@@ -27,9 +27,6 @@ module _ {E : Type 0} where
   pub continues_more : (log seen : List (Entry E)) (e : Entry E) → Continues log seen → Continues (e ∷ log) seen
   continues_more log seen e s = (e ∷ s.0, ap (λ l. e ∷ l) s.1)
 
-  pub continues_all : (log : List (Entry E)) → Continues log log
-  continues_all log = ([], refl)
-
   pub continues_none : (log : List (Entry E)) → Continues log []
   continues_none log = (log, sym (append-nil log))
 

@@ -73,29 +73,6 @@ module _ {T : Type 0} where
   still_itself : (c : Core T Sat) → IsStill c c.shard c.words.table (machine c)
   still_itself c = record { same = (refl, refl); past = λ u p. p }
 
-  pub still_lent : (v : View (Core T Sat)) (n m : ℕ) (t o : TableId) (a b : Machine T) → IsLent v n t a → m ≡ n → o ≡ t
-      → ((i : ℕ) → (table_at b i).stamp ≡ (table_at a i).stamp) → IsLent v m o b
-  still_lent v n m t o a b lent number words stamps =
-      let still = lent.1.2 in (
-        lent.0,
-        (
-          lent.1.0,
-          lent.1.1,
-          record {
-            same = (number ∙ still.same.0, words ∙ still.same.1);
-            past = λ u p same. let P : ℕ → Type 0 = λ k. u.born ≤ k in subst P (sym (stamps u.index)) (still.past u p (same ∙ number));
-          },
-        ),
-      )
-
-  pub same_lent : (v : View (Core T Sat)) (n m : ℕ) (t o : TableId) (a b : Machine T) → IsLent v n t a → m ≡ n → o ≡ t → b ≡ a → IsLent v m o b
-  same_lent v n m t o a b lent number words machines = still_lent v n m t o a b lent number words (λ i. ap (λ (x : Machine T). (table_at x i).stamp) machines)
-
-  pub comes_to_lent : (v : View (Core T Sat)) (f g : FoldedCore Sat) (tick : ℕ) → IsLentFold v f → g ≡ at_tick f tick → IsLentFold v g
-  comes_to_lent v f g tick lent is =
-      let P : FoldedCore Sat → Type 0 = λ x. IsLentFold v x in
-      subst P (sym is) (still_lent v f.shard f.shard f.words.table f.words.table (folded_machine f) (folded_machine (at_tick f tick)) lent refl refl (λ i. refl))
-
   -- an entry of a loan, and the register before and after
   module _ (h v w : View (Core T Sat)) (x : Core T Sat) (enters : EntersOnce h v (Some x) w) (now : List (Entry (Core T Sat))) (is : now ≡ w.log) where
     all : now ≡ entry v.number (Some x) ∷ h.log

@@ -217,20 +217,6 @@ cleared_shown b c given n same cl =
 
 -- polls
 
-pub rest_tied : {W : Type 0} (b c : Core (List ℕ) W) (t : NameTable) (given now : ℕ) → AreLeases b t given → IsResting b now c → AreLeases c t given
-rest_tied b c t given now l r = record {
-  last = r.same.last ∙ l.last;
-  keyed = subst (λ s. AreKeyed s (machine c) (found_in t)) (sym r.same.shard) (r.kept.keyed (found_in t) l.keyed);
-  count = l.count ∙ ap length (sym r.kept.live);
-  stamps = λ i. subst (λ s. s ≤ given) (sym (r.kept.stamps i)) (l.stamps i);
-}
-
-pub rest_shown : {W : Type 0} (b c : Core (List ℕ) W) (given now : ℕ) → IsResting b now c → ExpiresLease (leases_state b given) now None (leases_state c given)
-rest_shown b c given now r = (
-  leases_path c given (record { capacity = length b.slots.rows; tick = now; noted = now; given = given; live = live_of (machine b).table }) r.same.rows r.tick r.noted refl r.kept.live,
-  subst (NoLeaseDue now) r.kept.live r.none_due,
-)
-
 module _ {W : Type 0} (b c : Core (List ℕ) W) (t : NameTable) (given now : ℕ) (x : Lease) (l : AreLeases b t given) (gone : IsLeaseOut b now x c) where
   gone_keyed : AreKeyed b.shard gone.way.0 (found_in t)
   gone_keyed = gone.way.3.keyed (found_in t) l.keyed

@@ -25,9 +25,5 @@ digits_stop token n i within (inr large) =
       | false ↦ refl
     ])
 
-pub digits_more : (token : List ℕ) (n i : ℕ) → i < length token → is_ascii_digit (get_or token i 0) ≡ true
-    → digits_behind n (drop i token) ≡ digits_behind (10 * n + (get_or token i 0 - 48)) (drop (i + 1) token)
-digits_more token n i within digit = rw (drop-cons token i 0 within, digit, add-one) refl
-
 pub digits_end : (token : List ℕ) (n i : ℕ) → length token ≤ i → n < 2 ^ 64 → digits_behind n (drop i token) ≡ Some n
 digits_end token n i past small = rw (drop_all i token past, lt-ltb n (2 ^ 64) small) refl

@@ -12,10 +12,6 @@ use Rattle.dq_replay.proofs.LiveSlots.{put_here, put_there, name_is, name_same}
 no_lease : (born : ℕ) (name : List ℕ) (d : ℕ) → ◌≡◌ {A = Option Lease} (lease_of (Some (live_lease born name d))) None → ⊥
 no_lease born name d e = cc
 
--- two keys of one name stand at one slot
-key_place : (o : Option KeyName) (a b : KeyName) → o ≡ Some a → o ≡ Some b → a.entry.index ≡ b.entry.index
-key_place o a b p q = let same : Some a ≡ Some b = sym p ∙ q in let twin : a ≡ b = cc in ap (λ k. k.entry.index) twin
-
 -- what stands at a slot that is put, for the name n: nothing live and no key, or the name live under its key
 abbrev pub IsPut : ℕ → Machine (List ℕ) → ℕ → List ℕ → Option (Entry (List ℕ)) → Option KeyName → Type 0
 IsPut shard m i n e key =

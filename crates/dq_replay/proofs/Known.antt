@@ -15,12 +15,6 @@ appends_two (Some w) None c xs ys p q = absurd p
 appends_two (Some w) (Some v) None xs ys p q = absurd q
 appends_two (Some w) (Some v) (Some u) xs ys p q = q ∙ ap (λ v. v ++ ys) p ∙ append_assoc w xs ys
 
-pub appends_kept : (a b c : Option (List ℕ)) (xs : List ℕ) → Appends a b xs → Keeps b c → Appends a c xs
-appends_kept None b c xs p q = tt
-appends_kept (Some w) None c xs p q = absurd p
-appends_kept (Some w) (Some v) None xs p q = absurd q
-appends_kept (Some w) (Some v) (Some u) xs p q = q ∙ p
-
 pub consumes_none : (a : Option (List ℕ)) → Consumes a a []
 consumes_none None = tt
 consumes_none (Some xs) = refl

@@ -14,14 +14,6 @@ use Rattle.dq_replay.proofs.Ordered.{with_commutes, any-with_lease, filter-with_
 
 -- slots
 
-length-put : (m : Machine (List ℕ)) (i s : ℕ) (e : Option (Entry (List ℕ))) → length (put m i s e).table ≡ length m.table
-length-put m i s e = length-set m.table i (record { stamp = s; entry = e })
-  where
-    length-set : {A : Type 0} (xs : List A) (j : ℕ) (x : A) → length (set xs j x) ≡ length xs
-    length-set [] j x = refl
-    length-set (y ∷ ys) zero x = refl
-    length-set (y ∷ ys) (suc j) x = ap suc (length-set ys j x)
-
 pub put_here : (m : Machine (List ℕ)) (i s : ℕ) (e : Option (Entry (List ℕ))) → i < length m.table → table_at (put m i s e) i ≡ record { stamp = s; entry = e }
 put_here m i s e h = get_or-set_same m.table i (record { stamp = s; entry = e }) (record { stamp = 0; entry = None }) h
 

@@ -19,9 +19,6 @@ abbrev taken_out : Lease → List Lease → List Lease
 taken_out e [] = []
 taken_out e (x ∷ xs) = cond (same e x) xs (x ∷ taken_out e xs)
 
-same_itself : (e : Lease) → same e e ≡ true
-same_itself e = rw (not_before_itself e) refl
-
 taken_out-with_lease : (e : Lease) (xs : List Lease) → IsLined xs → taken_out e (with_lease e xs) ≡ xs
 taken_out-with_lease e [] o = rw (not_before_itself e) refl
 taken_out-with_lease e (x ∷ xs) o = elim (cases_Bool (comes_before e x)) [

@@ -12,11 +12,3 @@ pub tick_is : (s : State) (to now : ℕ) (live : List Lease) (text : List ℕ) �
     → text ≡ flat_map expired_line (filter (λ e. nat_le e.deadline now) s.live) ++ tick_line now
     → tick_in s to ≡ (record { capacity = s.capacity; limit = s.limit; live = live; noted = now }, text)
 tick_is s to now live text within same kept told = rw (le-ltb s.limit to within, ← same, kept, told) refl
-
--- the first line, where it names an edition
-pub header_line : (s : State) (number limit : ℕ) (text : List ℕ) → number ≡ 1 → length text ≤ LINE_LIMIT → Some limit ≡ limit_of text
-    → line_does number s text ≡ Ok (record s { limit = limit }, [])
-header_line s number limit text first short names = rw (first, le-ltb LINE_LIMIT (length text) short, ← names) refl
-
-pub header_fault : (s : State) (number : ℕ) (text : List ℕ) → number ≡ 1 → length text ≤ LINE_LIMIT → None ≡ limit_of text → line_does number s text ≡ Err BadHeader
-header_fault s number text first short names = rw (first, le-ltb LINE_LIMIT (length text) short, ← names) refl

@@ -162,14 +162,6 @@ ran_to_fault had mid left held midst holds capacity number s new BadConfig stand
 pub ran_unstarted : (had held : Option (List ℕ)) (capacity : ℕ) → Ran {T = Unit {0}} had had held held 1 (first_state capacity) (Err NoMemory)
 ran_unstarted had held capacity = ([], [], consumes_none had, appends_none held, inl (nothing_in_line 1 (first_state capacity)))
 
--- no line answers a bad capacity
-pub no_config : (had left held holds : Option (List ℕ)) (number : ℕ) (old new : State) (fault : ReplayFault) → LineRan had left held holds number old new (Err fault) → fault ≡ BadConfig → ⊥
-no_config had left held holds number old new BadConfig ran is = ran.4
-no_config had left held holds number old new NoMemory ran is = cc
-no_config had left held holds number old new (Script line kind) ran is = cc
-no_config had left held holds number old new Read ran is = cc
-no_config had left held holds number old new Write ran is = cc
-
 -- behind the last line that a script may have
 pub ran_past : (had mid left held holds : Option (List ℕ)) (capacity number : ℕ) (s : State) → LAST_LINE < number → Stands had mid held holds capacity number s
     → TakesByte mid left (Ok None) → Ran had left held holds 1 (first_state capacity) (Ok (tt {0}))

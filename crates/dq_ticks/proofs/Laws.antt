@@ -82,9 +82,6 @@ module _ (e f : ℕ) (a : IsAhead e f) where
   pub at_level : IsLevel e f (level e f)
   at_level = at_level_of e f a
 
-  pub level_below : level e f < 6
-  level_below = level_small e f
-
   pub start_floor : start_for e f ≡ f / 64 ^ level e f * 64 ^ level e f
   start_floor = start_floor_of e f a
 

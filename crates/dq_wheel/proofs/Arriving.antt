@@ -146,9 +146,6 @@ still_at : (o : Option ℕ) → MatchOption o (o ≡ None) (λ f. (g : ℕ) × (
 still_at None = refl
 still_at (Some f) = (f, refl, omega arith)
 
-pub filed_still : (filed : List (Option ℕ)) → AreFiledByThen filed filed
-filed_still filed i = still_at (filed_at filed i)
-
 -- the wheel comes to the start of the first list
 module _ (e : ℕ) (numbers moves homes : List ℕ) (ok : IsLawfulFiling e (filed_ticks numbers) moves homes) (list : ℕ) (list_in : list < LISTS)
     (filled : IsListFilled homes list) (first : (p : ℕ) → p < LISTS → IsListFilled homes p → IsEarlier (digit_of e 5) list p)
@@ -310,9 +307,6 @@ module _ (e : ℕ) (numbers moves homes : List ℕ) (ok : IsLawfulFiling e (file
 
   pub no_due_list : IsListEmpty homes 0
   no_due_list = free_list e (filed_ticks numbers) moves homes ok none_yet
-
-  pub stays_filed : AreFiledByThen now.filed (filed_ticks numbers)
-  stays_filed = rw (← ap (λ w. w.filed) now_is) (filed_still (filed_ticks numbers))
 
   module _ (own list at : ℕ) (own_is : own ≡ digit_of e 5) (first : IsFirstFilled own homes list)
       (at_is : at ≡ start e (list / 64) (list % 64)) where

@@ -88,13 +88,6 @@ circles_detach cap next prev homes p i after r p_in i_is i_in after_is =
     let follows : get_or prev i 0 ≡ cap + p = rw i_is (first_follows cap next prev homes r p p_in) in
     circles_unlink cap next prev homes i (cap + p) after r i_in (omega arith) (sym follows) after_is
 
--- what callers see of a row of which one home was written
-pub home_written : (cap i v : ℕ) (rows old new filled : List Row) (now : List ℕ) → take cap (homes rows) ≡ now → i < length now →
-    filled ≡ new → homes new ≡ set (homes old) i v → old ≡ rows → take cap (homes filled) ≡ set now i v
-home_written cap i v rows old new filled now now_is i_in filled_is new_is old_is =
-    let i_cap : i < min cap (length (homes rows)) = rw (← length-take cap (homes rows), now_is) i_in in
-    rw (filled_is, new_is, old_is, ← now_is) (take-set-lt cap (homes rows) i v (omega arith))
-
 -- what callers see of a row of which one tick or one count of moves was written
 module _ (cap i v : ℕ) (rows old new filled : List Row) (now_homes now : List ℕ) (homes_is : take cap (homes rows) ≡ now_homes) (i_in : i < length now_homes)
     (filled_is : filled ≡ new) (old_is : old ≡ rows) where
@@ -183,22 +176,11 @@ moves_alone cap rows len alone =
     let size = length-map rows (λ r. r.moves) ∙ len in
     same_of cap 0 (moves_made rows) (omega arith) (λ x x_in. alone.moves x (omega arith))
 
--- what follows the head of list p, by what callers see
-pub seen_first : (cap : ℕ) (next prev homes now_homes now_next : List ℕ) (p i : ℕ) → IsCircles cap next prev homes → take cap homes ≡ now_homes →
-    next ≡ now_next → i ≡ get_or now_next (length now_homes + p) 0 → i ≡ get_or next (cap + p) 0
-seen_first cap next prev homes now_homes now_next p i r homes_is next_is i_is =
-    let len : length now_homes ≡ cap = capacity_is cap homes now_homes (omega (arith, r.homes_len)) homes_is in
-    rw (next_is, ← len) i_is
-
 -- an index that callers see is an entry
 pub stands_seen : (cap : ℕ) (next prev homes now : List ℕ) (i : ℕ) → IsCircles cap next prev homes → take cap homes ≡ now → i < length now → i < cap
 stands_seen cap next prev homes now i r now_is i_in =
     let len : length now ≡ cap = capacity_is cap homes now (omega (arith, r.homes_len)) now_is in
     omega arith
-
--- an index that callers see stands in one of the lists, or in none
-pub home_small : (cap : ℕ) (next prev homes now : List ℕ) (i : ℕ) → IsCircles cap next prev homes → take cap homes ≡ now → i < length now → get_or homes i 0 ≤ LISTS
-home_small cap next prev homes now i r now_is i_in = r.circle.home_le i (stands_seen cap next prev homes now i r now_is i_in)
 
 -- one element is replaced, one by one that f can't tell from it, and one more
 pub set_kept_set : {A : Type 0} (f : A → ℕ) (xs : List A) (i j k v : ℕ) (a b x d : A) → f b ≡ f (get_or (set xs i a) j d) → v ≡ f a

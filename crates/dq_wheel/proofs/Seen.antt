@@ -35,15 +35,6 @@ pub other_number : (o : Option ℕ) (t p f : ℕ) → o ≢ Some p → number_se
 other_number None t p f d = refl
 other_number (Some q) t p f d = number_elsewhere q t (p + 1) f (λ e. d (ap Some (omega arith)))
 
--- what is seen as loose is so
-pub seen_loose : (o : Option ℕ) (h : ℕ) → home_seen o h ≡ 0 → h ≡ 0
-seen_loose None h is = is
-seen_loose (Some p) h is =
-    elim (same_or_not h (p + 1)) [
-      | inl there ↦ absurd (omega (arith, home_there p h there))
-      | inr other ↦ sym (home_elsewhere p h other) ∙ is
-    ]
-
 pub seen_linked : (o : Option ℕ) (h : ℕ) → 0 < home_seen o h → 0 < h
 seen_linked o h on =
     elim (same_or_not h 0) [

@@ -25,32 +25,12 @@ module _ (cap : ℕ) (o : Option ℕ) (old : List Row) (r : AreSeenCircles cap o
   numbers_are : length (filed_numbers old) ≡ length (homes old)
   numbers_are = length-map old (λ w. w.filed) ∙ sym (length-map old (λ w. w.home))
 
-  shown_are : (t : ℕ) → length (shown_numbers o t old) ≡ cap + LISTS
-  shown_are t = numbers_length o t (homes old) (filed_numbers old) numbers_are ∙ homes_are
-
-  pub entry_in : (i : ℕ) → i < cap → i < length old
-  entry_in i i_in = omega (arith, rows_are)
-
   pub head_in : (p : ℕ) → p < LISTS → cap + p < length old
   head_in p p_in = omega (arith, rows_are)
-
-  pub rows_small : length old ≤ 65536 + LISTS
-  rows_small = omega (arith, rows_are, r.small)
 
   node_at : (x : ℕ) → x < cap + LISTS → 0 < get_or (homes_seen cap o (homes old)) x 0 →
       Node (cap + LISTS) (λ y. get_or (nexts old) y 0) (λ y. get_or (prevs old) y 0) (λ y. get_or (homes_seen cap o (homes old)) y 0) x
   node_at x x_in on = r.circle.node x x_in on
-
-  -- the neighbours of an entry that is linked
-  pub has_neighbours : (i : ℕ) → i < cap → 0 < get_or (homes_seen cap o (homes old)) i 0 → HasNeighbours old i
-  has_neighbours i i_in on =
-      let node = node_at i (omega arith) on in
-      record {
-        next_in = rw rows_are node.next_in;
-        prev_in = rw rows_are node.prev_in;
-        back = node.back;
-        forth = node.forth;
-      }
 
   -- what follows an entry in its list, as callers see it
   pub after_seen : (i x : ℕ) (now : List ℕ) → take cap (homes_seen cap o (homes old)) ≡ now → i < length now → 0 < get_or now i 0 →
@@ -300,13 +280,6 @@ module _ (cap : ℕ) (o : Option ℕ) (t : ℕ) (old : List Row) (r : AreSeenCir
   home_few i h v i_in h_is v_is =
       let le : get_or (homes_seen cap o (homes old)) i 0 ≤ LISTS = r.circle.home_le i (inside i i_in) in
       omega (arith, home_told i h v i_in h_is v_is, home_now i (inside i i_in))
-
-  -- the number that a caller is told
-  pub number_told : (i v : ℕ) → i < length now.homes → v ≡ get_or (shown_numbers o t old) i 0 → v ≡ get_or now.filed i 0
-  number_told i v i_in v_is = v_is ∙ rw (← filed_now) (sym (get_or-take cap (shown_numbers o t old) i 0 (inside i i_in)))
-
-  pub near_now : (i : ℕ) → i < length now.homes → 0 < get_or now.homes i 0 → HasNeighbours old i
-  near_now i i_in on = has_neighbours cap o old r i (inside i i_in) (rw (home_now i (inside i i_in)) at on)
 
   -- the opening ends
   module _ (empty : IsListEmpty now.homes 0) where

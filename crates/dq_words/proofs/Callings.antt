@@ -14,13 +14,14 @@ use Rattle.dq_words.specs.Plays.{Covers, NoneBeyond, Fair, CallerLoads, LiveFor,
 use Rattle.dq_words.specs.CallerCalls.{Reads, seen_at, IsForged, Refuses, IsRefused, IsAccepted, CallerExtends, CallerCancels}
 
 -- the view v after a call that saw n
-abbrev seeing : View → ℕ → ℕ → List StepKind → List Call → View
+abbrev pub seeing : View → ℕ → ℕ → List StepKind → List Call → View
 seeing v i n steps calls = record v { seen = set v.seen i n; steps = steps; calls = calls }
 
-seen_now : (v w : View) (i n : ℕ) (steps : List StepKind) (calls : List Call) → i < length v.seen → w ≡ seeing v i n steps calls → seen_at w i ≡ n
+pub seen_now : (v w : View) (i n : ℕ) (steps : List StepKind) (calls : List Call) → i < length v.seen → w ≡ seeing v i n steps calls → seen_at w i ≡ n
 seen_now v w i n steps calls inside is = ap (λ (u : View). get_or u.seen i 0) is ∙ get_or-set_same v.seen i n 0 inside
 
-reads_by : (v w : View) (i n : ℕ) (steps : List StepKind) (calls : List Call) → i < length v.seen → w ≡ seeing v i n steps calls → length v.steps < length steps → get_or v.seen i 0 ≤ n → Reads v w i
+pub reads_by : (v w : View) (i n : ℕ) (steps : List StepKind) (calls : List Call) → i < length v.seen → w ≡ seeing v i n steps calls → length v.steps < length steps → get_or v.seen i 0 ≤ n
+    → Reads v w i
 reads_by v w i n steps calls inside is more low =
     let here = seen_now v w i n steps calls inside is in
     let s : w.steps ≡ steps = ap (λ (u : View). u.steps) is in
@@ -36,7 +37,7 @@ reads_by v w i n steps calls inside is more low =
 seen_twice : (v : View) (i m n : ℕ) (steps : List StepKind) (calls : List Call) → seeing (seeing v i m (CallerLoad ∷ v.steps) v.calls) i n steps calls ≡ seeing v i n steps calls
 seen_twice v i m n steps calls = λ q. record v { seen = set-set v.seen i m n q; steps = steps; calls = calls }
 
-not_forged : (v : View) (k : KeyName) → k.entry.index < length v.seen → 0 < k.stamp → ¬ IsForged v k
+pub not_forged : (v : View) (k : KeyName) → k.entry.index < length v.seen → 0 < k.stamp → ¬ IsForged v k
 not_forged v k inside pos h = ⊎_elim (λ (far : length v.seen ≤ k.entry.index). omega arith) (λ (z : k.stamp ≡ 0). omega arith) h
 
 -- a word that is live not beyond d agrees with the calls that it was fair to

@@ -1,11 +1,13 @@
 pub mod Accounts
 pub mod Advances
+pub mod Answered
 pub mod Begun
 pub mod Births
 pub mod Bridge
 pub mod Callings
 pub mod Cancels
 pub mod DirectoryPlaces
+pub mod Ended
 pub mod Ends
 pub mod Extends
 pub mod Gathers
@@ -20,5 +22,6 @@ pub mod Starts
 pub mod Steps
 pub mod Tallies
 pub mod Together
+pub mod Tries
 pub mod Trying
 pub mod Writes

@@ -7,7 +7,6 @@ use Rattle.atomic_table.specs.Table.{State, step, stepped, Allows, Enters}
 use Rattle.atomic_table.proofs.Lists.{at_snoc}
 use Rattle.dq_ticks.specs.Keys.{KeyName}
 use Rattle.dq_ticks.specs.Word.{word, stamp_of, mark_of, field_of}
-use Rattle.dq_core.specs.declared.words.Look.{Look}
 use Rattle.dq_core.specs.declared.words.CallError.{CallError}
 use Rattle.dq_core.specs.declared.words.CallError.TheVariants.{TooFar, Unknown, Stale, Ended}
 use Rattle.dq_words.specs.declared.views.Call.{Call}
@@ -16,10 +15,10 @@ use Rattle.dq_words.specs.declared.views.View.{View}
 use Rattle.dq_words.specs.declared.views.StepKind.{StepKind}
 use Rattle.dq_words.specs.declared.views.StepKind.TheVariants.{CallerLoad}
 use Rattle.dq_words.specs.AtTheCall.{word_seen}
-use Rattle.dq_words.specs.CallerCalls.{Refuses, ExtendAccepted, CancelAccepted, CallerExtends, IsForged, IsRefused, WordRefuses, look_of}
+use Rattle.dq_words.specs.CallerCalls.{Refuses, ExtendAccepted, CancelAccepted, CallerExtends, IsForged, IsRefused, WordRefuses}
 use Rattle.dq_words.specs.Counts.{begins_in, expiries_in, removals_in, total, goes, gone_cancels, made_cancels, issued_in, returns_in, given_in, InOrder, passes_of, reaped_in, cancels_in, most_begins}
 use Rattle.dq_words.specs.Files.{File, file, keeper_writes, bases_at, ends_at, extends_at, cancels_at}
-use Rattle.dq_words.specs.OpenCalls.{Open, HasSlot, SawPresent, IsReceipt, ShowsExtend, ShowsCancel, ShowsLook, RefusedBy, OpenRefused, OpenExtendRefused, PasserLoads, passer_loaded, passer_extended, passer_cancelled}
+use Rattle.dq_words.specs.OpenCalls.{Open, HasSlot, SawPresent, IsReceipt, ShowsExtend, ShowsCancel, RefusedBy, OpenRefused, OpenExtendRefused, PasserLoads, passer_loaded, passer_extended, passer_cancelled}
 use Rattle.dq_words.specs.Places.{views_in, seats_of, AreShown, Placed, PlaceMe, InPlace, placed}
 use Rattle.dq_words.specs.Plays.{WordMe, CallerLoads, ExtendStep, LiveFor, MissedStep, Knowing, extend_made, stepping, extending, CancelStep, cancel_made, cancelling}
 use Rattle.dq_words.specs.Seats.{Sat}
@@ -326,13 +325,11 @@ module _ (o : Open) (r : Sat) (k : KeyName) (i asked m : ℕ) (slot : (i ≡ k.e
   loaded : IsReceipt o k r
   loaded = is_receipt o r k i slot.0 table row now
 
-  pub load_refused : (e : CallError) → Refuses m asked e → RefusedBy o k (CallerLoad ∷ []) e (Some r)
-  load_refused e refuses =
-      let P : ℕ × ℕ → Type 0 = λ x. Refuses x.0 x.1 e in
-      (slot.1, (loaded, subst P (λ q. (sym saw q, stamped q)) refuses, ap (λ (x : View). x.steps) loads.0, ap (λ (x : View). x.calls) loads.0))
-
-  pub load_shown : (how : Look) → stamp_of m ≡ asked → how ≡ look_of m → ShowsLook o k how r
-  load_shown how same shows = (loaded, (ap stamp_of saw ∙ same ∙ stamped, shows ∙ ap look_of (sym saw)), ap (λ (x : View). x.steps) loads.0, ap (λ (x : View). x.calls) loads.0)
+  pub not_asked : (shown : ℕ) → shown ≡ stamp_of m → shown < asked → OpenRefused o k Unknown (Some r)
+  not_asked shown is_shown below =
+      let low : stamp_of m < k.stamp = omega (arith, stamped, is_shown, below) in
+      let P : ℕ → Type 0 = λ x. stamp_of x < k.stamp in
+      (slot.1, (loaded, subst P (sym saw) low, ap (λ (x : View). x.steps) loads.0, ap (λ (x : View). x.calls) loads.0))
 
 -- the same of a cancel
 saw_cancelled : (v w : View) (i k n : ℕ) → i < length v.seen → k ≡ word (stamp_of k) 1 0 → stamp_of k ≤ stamp_of (get_or v.seen i 0) → CancelStep v w i k n → get_or w.seen i 0 ≡ max n k

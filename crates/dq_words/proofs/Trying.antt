@@ -1,5 +1,5 @@
 -- What the keeper's tries leave of its view.
-use Rattle.std.proofs.Common.{◌≡◌, ◌≢◌, ◌∷◌, ℕ, suc, ◌<◌, ◌≤◌, length, get_or, ap, ◌∙◌, subst, ⊎_elim, get_or-set_same, set-set, arith}
+use Rattle.std.proofs.Common.{◌≡◌, ◌≢◌, ◌∷◌, ℕ, suc, ◌<◌, length, get_or, ap, ◌∙◌, subst, ⊎_elim, get_or-set_same, set-set, arith}
 use Rattle.dq_words.specs.declared.views.View.{View}
 use Rattle.dq_words.specs.declared.views.StepKind.TheVariants.{KeeperLoad, FailedExchange}
 use Rattle.dq_words.specs.Keeping.{IsOpen}

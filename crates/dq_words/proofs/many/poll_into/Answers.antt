@@ -31,3 +31,45 @@ loop-place-preserved g c =
       poll.origin ∙ before.6,
       λ i s d h. poll.begun i s d (before.7 i s d h),
     )
+
+pub returns-in-Ok-Waiting-clause-same : goal.returns-in-Ok-Waiting-clause-same
+returns-in-Ok-Waiting-clause-same g c =
+    let before = c.loop-place.invariant in
+    let poll = c.poll_deferring.ensures in
+    (poll.same.0 ∙ before.5.0, poll.same.1 ∙ before.5.1, poll.same.2 ∙ before.5.2)
+
+pub returns-in-Ok-Waiting-clause-origin : goal.returns-in-Ok-Waiting-clause-origin
+returns-in-Ok-Waiting-clause-origin g c = c.poll_deferring.ensures.origin ∙ c.loop-place.invariant.6
+
+pub returns-in-Ok-Waiting-clause-begun : goal.returns-in-Ok-Waiting-clause-begun
+returns-in-Ok-Waiting-clause-begun g c = λ i s d h. c.poll_deferring.ensures.begun i s d (c.loop-place.invariant.7 i s d h)
+
+pub returns-in-Ok-Waiting-clause-room : goal.returns-in-Ok-Waiting-clause-room
+returns-in-Ok-Waiting-clause-room g c = c.loop-place.invariant.2
+
+pub returns-in-Ok-Idle-clause-same : goal.returns-in-Ok-Idle-clause-same
+returns-in-Ok-Idle-clause-same g c =
+    let before = c.loop-place.invariant in
+    let poll = c.poll_deferring.ensures in
+    (poll.same.0 ∙ before.5.0, poll.same.1 ∙ before.5.1, poll.same.2 ∙ before.5.2)
+
+pub returns-in-Ok-Idle-clause-origin : goal.returns-in-Ok-Idle-clause-origin
+returns-in-Ok-Idle-clause-origin g c = c.poll_deferring.ensures.origin ∙ c.loop-place.invariant.6
+
+pub returns-in-Ok-Idle-clause-begun : goal.returns-in-Ok-Idle-clause-begun
+returns-in-Ok-Idle-clause-begun g c = λ i s d h. c.poll_deferring.ensures.begun i s d (c.loop-place.invariant.7 i s d h)
+
+pub returns-in-Ok-Idle-clause-room : goal.returns-in-Ok-Idle-clause-room
+returns-in-Ok-Idle-clause-room g c = c.loop-place.invariant.2
+
+pub returns-clause-same : goal.returns-clause-same
+returns-clause-same g c = c.loop-place.invariant.5
+
+pub returns-clause-origin : goal.returns-clause-origin
+returns-clause-origin g c = c.loop-place.invariant.6
+
+pub returns-clause-begun : goal.returns-clause-begun
+returns-clause-begun g c = c.loop-place.invariant.7
+
+pub returns-clause-room : goal.returns-clause-room
+returns-clause-room g c = c.loop-place.invariant.2

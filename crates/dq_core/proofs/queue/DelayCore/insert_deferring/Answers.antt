@@ -1,4 +1,5 @@
-use Rattle.std.proofs.Common.{ap, ◌∙◌, refl, arith}
+use Rattle.std.proofs.Common.{ap, ◌∙◌, refl, arith, length}
+use Rattle.std.proofs.lemmas.List.{length-set}
 use Rattle.dq_core.specs.Words.{begun_counts}
 use Rattle.dq_core.specs.Slots.{shown}
 use Rattle.dq_core.proofs.Law.{few}
@@ -33,3 +34,36 @@ returns-in-Ok-clause-others g c = inserted_others (returns-in-Ok-clause-inserts 
 pub returns-in-Ok-clause-room : goal.returns-in-Ok-clause-room
 returns-in-Ok-clause-room g c =
     rw (← c.self.view_is) (room _ _ c.in-Ok.index c.args.value c.in-Ok.ensures.filled.0 c.in-Ok.ensures.filled.1)
+
+pub returns-in-Ok-clause-same : goal.returns-in-Ok-clause-same
+returns-in-Ok-clause-same g c =
+    let v = c.in-Ok.ensures.filled.2 in
+    rw (← c.self.view_is) (refl, ap (λ x. x.last_stamp) v, ap (λ x. length x.rows) v ∙ length-set _ _ _)
+
+pub returns-in-Ok-clause-origin : goal.returns-in-Ok-clause-origin
+returns-in-Ok-clause-origin g c = rw (← c.self.view_is) c.begin.ensures.origin
+
+pub returns-in-Ok-clause-begun : goal.returns-in-Ok-clause-begun
+returns-in-Ok-clause-begun g c = rw (← c.self.view_is) c.begin.ensures.begun
+
+pub returns-in-Ok-clause-displaced : goal.returns-in-Ok-clause-displaced
+returns-in-Ok-clause-displaced g c = rw (← c.self.view_is) c.in-Ok.ensures.displaced
+
+pub returns-in-Ok-clause-beside : goal.returns-in-Ok-clause-beside
+returns-in-Ok-clause-beside g c = rw (← c.self.view_is, c.new.ensures, c.new-entry.ensures) c.in-Ok.ensures.deferred
+
+pub returns-in-Err-clause-same : goal.returns-in-Err-clause-same
+returns-in-Err-clause-same g c =
+    let v = c.in-Err.ensures.filled.2 in
+    rw (← c.self.view_is) (refl, ap (λ x. x.last_stamp) v, ap (λ x. length x.rows) v)
+
+pub returns-in-Err-clause-origin : goal.returns-in-Err-clause-origin
+returns-in-Err-clause-origin g c = rw (← c.self.view_is) refl
+
+pub returns-in-Err-clause-begun : goal.returns-in-Err-clause-begun
+returns-in-Err-clause-begun g c = rw (← c.self.view_is) (λ i s d x. x)
+
+pub returns-in-Err-clause-refused : goal.returns-in-Err-clause-refused
+returns-in-Err-clause-refused g c =
+    rw (← c.self.view_is)
+    (c.in-Err.ensures.filled.1, same_slots _ c.fill.new.self c.in-Err.ensures.filled.2 c.in-Err.ensures.kept)

@@ -35,3 +35,39 @@ returns-in-Some-clause-deferred g c = sets_then c.steps.invariant.3 c.in-Rests.e
 
 pub returns-in-None-clause-deferred : goal.returns-in-None-clause-deferred
 returns-in-None-clause-deferred g c = sets_then c.steps.invariant.3 c.in-Rests.ensures.deferred
+
+pub returns-in-Gave-clause-same : goal.returns-in-Gave-clause-same
+returns-in-Gave-clause-same g c =
+    let was = c.steps.invariant.0.1 in
+    let step = c.in-Gave.ensures.same in
+    (step.0 ∙ was.0, step.1 ∙ was.1, step.2 ∙ was.2)
+
+pub returns-in-Gave-clause-origin : goal.returns-in-Gave-clause-origin
+returns-in-Gave-clause-origin g c = c.in-Gave.ensures.origin ∙ c.steps.invariant.1
+
+pub returns-in-Gave-clause-begun : goal.returns-in-Gave-clause-begun
+returns-in-Gave-clause-begun g c = λ i s d b. c.in-Gave.ensures.begun i s d (c.steps.invariant.2 i s d b)
+
+pub returns-in-Some-clause-same : goal.returns-in-Some-clause-same
+returns-in-Some-clause-same g c =
+    let was = c.steps.invariant.0.1 in
+    let step = c.in-Rests.ensures.same in
+    (step.0 ∙ was.0, step.1 ∙ was.1, step.2 ∙ was.2)
+
+pub returns-in-Some-clause-origin : goal.returns-in-Some-clause-origin
+returns-in-Some-clause-origin g c = c.in-Rests.ensures.origin ∙ c.steps.invariant.1
+
+pub returns-in-Some-clause-begun : goal.returns-in-Some-clause-begun
+returns-in-Some-clause-begun g c = λ i s d b. c.in-Rests.ensures.begun i s d (c.steps.invariant.2 i s d b)
+
+pub returns-in-None-clause-same : goal.returns-in-None-clause-same
+returns-in-None-clause-same g c =
+    let was = c.steps.invariant.0.1 in
+    let step = c.in-Rests.ensures.same in
+    (step.0 ∙ was.0, step.1 ∙ was.1, step.2 ∙ was.2)
+
+pub returns-in-None-clause-origin : goal.returns-in-None-clause-origin
+returns-in-None-clause-origin g c = c.in-Rests.ensures.origin ∙ c.steps.invariant.1
+
+pub returns-in-None-clause-begun : goal.returns-in-None-clause-begun
+returns-in-None-clause-begun g c = λ i s d b. c.in-Rests.ensures.begun i s d (c.steps.invariant.2 i s d b)

@@ -1,9 +1,15 @@
-use Rattle.std.proofs.Common.{ap, ◌∙◌, arith, subst}
+use Rattle.std.proofs.Common.{ℕ, ◌+◌, ◌-◌, ◌≤◌, ap, ◌∙◌, arith, subst}
 use Rattle.dq_core.specs.Deferring.{given_at, DefersValues}
 use Rattle.dq_core.specs.Pieces.{IsPieceBy}
 use Rattle.dq_core.proofs.PieceSteps.{piece_init, piece_more, out_due, piece_out, piece_waiting, piece_idle}
 use Rattle.dq_core.proofs.Settings.{stays_as, sets_then}
 use Rattle.dq_core.proofs.queue.DelayCore.poll_some_deferring.Goals as goal
+
+in_all : (x y z made more most : ℕ) → x ≤ y + more → y ≤ z + made → more ≤ most - made → made ≤ most → x ≤ z + most
+in_all x y z made more most a b d e = omega arith
+
+up_to : (y z made most : ℕ) → y ≤ z + made → made ≤ most → y ≤ z + most
+up_to y z made most a b = omega arith
 
 pub loop-made-init : goal.loop-made-init
 loop-made-init g c = (
@@ -67,3 +73,78 @@ pub returns-in-None-clause-deferred : goal.returns-in-None-clause-deferred
 returns-in-None-clause-deferred g c =
     sets_then c.loop-made.invariant.5
     (subst (λ p. DefersValues c.loop-made.self (given_at p) c.look_then_step-progress.new.self) c.in-Rests.is c.look_then_step-progress.ensures.deferred)
+
+pub returns-in-Gave-clause-noted : goal.returns-in-Gave-clause-noted
+returns-in-Gave-clause-noted g c = c.look_then_step-progress.ensures.noted ∙ c.loop-made.invariant.1.2
+
+pub returns-in-Gave-clause-same : goal.returns-in-Gave-clause-same
+returns-in-Gave-clause-same g c =
+    let was = c.loop-made.invariant.1.1 in
+    let step = c.look_then_step-progress.ensures.same in
+    (step.0 ∙ was.0, step.1 ∙ was.1, step.2 ∙ was.2)
+
+pub returns-in-Gave-clause-origin : goal.returns-in-Gave-clause-origin
+returns-in-Gave-clause-origin g c = c.look_then_step-progress.ensures.origin ∙ c.loop-made.invariant.2
+
+pub returns-in-Gave-clause-begun : goal.returns-in-Gave-clause-begun
+returns-in-Gave-clause-begun g c = λ i s d b. c.look_then_step-progress.ensures.begun i s d (c.loop-made.invariant.3 i s d b)
+
+pub returns-in-Gave-clause-few_steps : goal.returns-in-Gave-clause-few_steps
+returns-in-Gave-clause-few_steps g c =
+    let step = c.look_then_step-progress.ensures in
+    in_all _ _ _ c.loop-made.made _ c.args.most step.few_steps c.loop-made.invariant.4 step.few c.loop-made.invariant.0
+
+pub returns-in-Some-clause-noted : goal.returns-in-Some-clause-noted
+returns-in-Some-clause-noted g c = c.look_then_step-progress.ensures.noted ∙ c.loop-made.invariant.1.2
+
+pub returns-in-Some-clause-same : goal.returns-in-Some-clause-same
+returns-in-Some-clause-same g c =
+    let was = c.loop-made.invariant.1.1 in
+    let step = c.look_then_step-progress.ensures.same in
+    (step.0 ∙ was.0, step.1 ∙ was.1, step.2 ∙ was.2)
+
+pub returns-in-Some-clause-origin : goal.returns-in-Some-clause-origin
+returns-in-Some-clause-origin g c = c.look_then_step-progress.ensures.origin ∙ c.loop-made.invariant.2
+
+pub returns-in-Some-clause-begun : goal.returns-in-Some-clause-begun
+returns-in-Some-clause-begun g c = λ i s d b. c.look_then_step-progress.ensures.begun i s d (c.loop-made.invariant.3 i s d b)
+
+pub returns-in-Some-clause-few_steps : goal.returns-in-Some-clause-few_steps
+returns-in-Some-clause-few_steps g c =
+    let step = c.look_then_step-progress.ensures in
+    in_all _ _ _ c.loop-made.made _ c.args.most step.few_steps c.loop-made.invariant.4 step.few c.loop-made.invariant.0
+
+pub returns-in-None-clause-noted : goal.returns-in-None-clause-noted
+returns-in-None-clause-noted g c = c.look_then_step-progress.ensures.noted ∙ c.loop-made.invariant.1.2
+
+pub returns-in-None-clause-same : goal.returns-in-None-clause-same
+returns-in-None-clause-same g c =
+    let was = c.loop-made.invariant.1.1 in
+    let step = c.look_then_step-progress.ensures.same in
+    (step.0 ∙ was.0, step.1 ∙ was.1, step.2 ∙ was.2)
+
+pub returns-in-None-clause-origin : goal.returns-in-None-clause-origin
+returns-in-None-clause-origin g c = c.look_then_step-progress.ensures.origin ∙ c.loop-made.invariant.2
+
+pub returns-in-None-clause-begun : goal.returns-in-None-clause-begun
+returns-in-None-clause-begun g c = λ i s d b. c.look_then_step-progress.ensures.begun i s d (c.loop-made.invariant.3 i s d b)
+
+pub returns-in-None-clause-few_steps : goal.returns-in-None-clause-few_steps
+returns-in-None-clause-few_steps g c =
+    let step = c.look_then_step-progress.ensures in
+    in_all _ _ _ c.loop-made.made _ c.args.most step.few_steps c.loop-made.invariant.4 step.few c.loop-made.invariant.0
+
+pub returns-clause-noted : goal.returns-clause-noted
+returns-clause-noted g c = c.loop-made.invariant.1.2
+
+pub returns-clause-same : goal.returns-clause-same
+returns-clause-same g c = c.loop-made.invariant.1.1
+
+pub returns-clause-origin : goal.returns-clause-origin
+returns-clause-origin g c = c.loop-made.invariant.2
+
+pub returns-clause-begun : goal.returns-clause-begun
+returns-clause-begun g c = c.loop-made.invariant.3
+
+pub returns-clause-few_steps : goal.returns-clause-few_steps
+returns-clause-few_steps g c = up_to _ _ c.loop-made.made c.args.most c.loop-made.invariant.4 c.loop-made.invariant.0

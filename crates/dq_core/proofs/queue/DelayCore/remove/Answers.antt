@@ -1,4 +1,5 @@
-use Rattle.std.proofs.Common.{ap, ◌∙◌, refl, Some}
+use Rattle.std.proofs.Common.{ap, ◌∙◌, refl, Some, length}
+use Rattle.std.proofs.lemmas.List.{length-set}
 use Rattle.dq_core.specs.Words.{finished_counts}
 use Rattle.dq_core.specs.Slots.{shown}
 use Rattle.dq_core.proofs.Ways.{core_of}
@@ -59,3 +60,32 @@ once_near-stamp-requires-clause-linked g c =
     let b = core_of s.shard s.noted s.wheel s.slots (g.W.Words.known s.words) (g.W.Words.counts s.words) s.words in
     let found = rw (← c.self.view_is) at c.in-Some.ensures in
     found_linked b c.self.invariant.0 c.args.entry.now c.in-Some.index found
+
+pub returns-in_default-finish-clause-same : goal.returns-in_default-finish-clause-same
+returns-in_default-finish-clause-same g c = rw (← c.self.view_is) (refl, refl, refl)
+
+pub returns-in_default-finish-clause-origin : goal.returns-in_default-finish-clause-origin
+returns-in_default-finish-clause-origin g c = rw (← c.self.view_is) c.in_default-finish.ensures.origin
+
+pub returns-in_default-finish-clause-begun : goal.returns-in_default-finish-clause-begun
+returns-in_default-finish-clause-begun g c = rw (← c.self.view_is) c.in_default-finish.ensures.begun
+
+pub returns-in_default-finish-clause-deferred : goal.returns-in_default-finish-clause-deferred
+returns-in_default-finish-clause-deferred g c = rw (← c.self.view_is) refl
+
+pub returns-in_default-finish-clause-refused : goal.returns-in_default-finish-clause-refused
+returns-in_default-finish-clause-refused g c = rw (← c.self.view_is) (record { slots = refl; wheel = refl; noted = refl })
+
+pub returns-clause-same : goal.returns-clause-same
+returns-clause-same g c =
+    let v = c.vacate-held.ensures.vacated in
+    rw (← c.self.view_is) (refl, ap (λ x. x.last_stamp) v, ap (λ x. length x.rows) v ∙ length-set _ _ _)
+
+pub returns-clause-origin : goal.returns-clause-origin
+returns-clause-origin g c = rw (← c.self.view_is) c.in-Some-finish.ensures.origin
+
+pub returns-clause-begun : goal.returns-clause-begun
+returns-clause-begun g c = rw (← c.self.view_is) c.in-Some-finish.ensures.begun
+
+pub returns-clause-deferred : goal.returns-clause-deferred
+returns-clause-deferred g c = rw (← c.self.view_is) c.vacate-held.ensures.deferred

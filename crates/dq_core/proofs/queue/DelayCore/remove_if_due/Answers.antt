@@ -1,4 +1,5 @@
-use Rattle.std.proofs.Common.{ap, ◌∙◌, refl, Some}
+use Rattle.std.proofs.Common.{ap, ◌∙◌, refl, Some, length}
+use Rattle.std.proofs.lemmas.List.{length-set}
 use Rattle.dq_core.specs.Words.{finished_counts}
 use Rattle.dq_core.specs.Slots.{shown}
 use Rattle.dq_core.proofs.Ways.{core_of}
@@ -46,3 +47,41 @@ once_near-stamp-requires-clause-linked g c =
     let b = core_of s.shard s.noted s.wheel s.slots (g.W.Words.known s.words) (g.W.Words.counts s.words) s.words in
     let found = rw (← c.self.view_is) at c.in-Some.ensures in
     found_linked b c.self.invariant.0 c.args.entry.now c.in-Some.index found
+
+pub returns-in-StillLive-clause-same : goal.returns-in-StillLive-clause-same
+returns-in-StillLive-clause-same g c = rw (← c.self.view_is) (refl, refl, refl)
+
+pub returns-in-StillLive-clause-origin : goal.returns-in-StillLive-clause-origin
+returns-in-StillLive-clause-origin g c = rw (← c.self.view_is) c.in-StillLive.ensures.origin
+
+pub returns-in-StillLive-clause-begun : goal.returns-in-StillLive-clause-begun
+returns-in-StillLive-clause-begun g c = rw (← c.self.view_is) c.in-StillLive.ensures.begun
+
+pub returns-in-StillLive-clause-deferred : goal.returns-in-StillLive-clause-deferred
+returns-in-StillLive-clause-deferred g c = rw (← c.self.view_is) refl
+
+pub returns-in-LookCancelled-clause-same : goal.returns-in-LookCancelled-clause-same
+returns-in-LookCancelled-clause-same g c = rw (← c.self.view_is) (refl, refl, refl)
+
+pub returns-in-LookCancelled-clause-origin : goal.returns-in-LookCancelled-clause-origin
+returns-in-LookCancelled-clause-origin g c = rw (← c.self.view_is) c.in-LookCancelled.ensures.origin
+
+pub returns-in-LookCancelled-clause-begun : goal.returns-in-LookCancelled-clause-begun
+returns-in-LookCancelled-clause-begun g c = rw (← c.self.view_is) c.in-LookCancelled.ensures.begun
+
+pub returns-in-LookCancelled-clause-deferred : goal.returns-in-LookCancelled-clause-deferred
+returns-in-LookCancelled-clause-deferred g c = rw (← c.self.view_is) refl
+
+pub returns-clause-same : goal.returns-clause-same
+returns-clause-same g c =
+    let v = c.vacate-held.ensures.vacated in
+    rw (← c.self.view_is) (refl, ap (λ x. x.last_stamp) v, ap (λ x. length x.rows) v ∙ length-set _ _ _)
+
+pub returns-clause-origin : goal.returns-clause-origin
+returns-clause-origin g c = rw (← c.self.view_is) c.in-LookRemoved.ensures.origin
+
+pub returns-clause-begun : goal.returns-clause-begun
+returns-clause-begun g c = rw (← c.self.view_is) c.in-LookRemoved.ensures.begun
+
+pub returns-clause-deferred : goal.returns-clause-deferred
+returns-clause-deferred g c = rw (← c.self.view_is) c.vacate-held.ensures.deferred

@@ -1,5 +1,6 @@
 use Rattle.std.proofs.lemmas.Result.{err_from_is_err_and}
-use Rattle.std.proofs.Common.{◌∙◌, refl}
+use Rattle.std.proofs.Common.{◌∙◌, refl, ap, length}
+use Rattle.std.proofs.lemmas.List.{length-set}
 use Rattle.dq_core.specs.Slots.{shown}
 use Rattle.dq_core.proofs.Ways.{core_of}
 use Rattle.dq_core.proofs.Finds.{found_linked, found_cancelled, law_reset, resets, learned_at, below_last, linked_anew}
@@ -53,3 +54,32 @@ once_near-stamp-requires-clause-linked g c =
     let b = core_of s.shard s.noted s.wheel s.slots (g.W.Words.known s.words) (g.W.Words.counts s.words) s.words in
     let found = rw (← c.self.view_is) at c.in-Some.ensures in
     found_linked b c.self.invariant.0 c.args.entry.now c.in-Some.index found
+
+pub returns-in_default-renew-clause-same : goal.returns-in_default-renew-clause-same
+returns-in_default-renew-clause-same g c = rw (← c.self.view_is) (refl, refl, refl)
+
+pub returns-in_default-renew-clause-origin : goal.returns-in_default-renew-clause-origin
+returns-in_default-renew-clause-origin g c = rw (← c.self.view_is) c.in_default-renew.ensures.origin
+
+pub returns-in_default-renew-clause-begun : goal.returns-in_default-renew-clause-begun
+returns-in_default-renew-clause-begun g c = rw (← c.self.view_is) c.in_default-renew.ensures.begun
+
+pub returns-in_default-renew-clause-deferred : goal.returns-in_default-renew-clause-deferred
+returns-in_default-renew-clause-deferred g c = rw (← c.self.view_is) refl
+
+pub returns-in_default-renew-clause-refused : goal.returns-in_default-renew-clause-refused
+returns-in_default-renew-clause-refused g c = rw (← c.self.view_is) (record { slots = refl; wheel = refl; noted = refl })
+
+pub returns-clause-same : goal.returns-clause-same
+returns-clause-same g c =
+    let v = c.raise.ensures.raised in
+    rw (← c.self.view_is) (refl, ap (λ x. x.last_stamp) v, ap (λ x. length x.rows) v ∙ length-set _ _ _)
+
+pub returns-clause-origin : goal.returns-clause-origin
+returns-clause-origin g c = rw (← c.self.view_is) c.in-Some-renew.ensures.origin
+
+pub returns-clause-begun : goal.returns-clause-begun
+returns-clause-begun g c = rw (← c.self.view_is) c.in-Some-renew.ensures.begun
+
+pub returns-clause-deferred : goal.returns-clause-deferred
+returns-clause-deferred g c = rw (← c.self.view_is) c.raise.ensures.deferred

@@ -63,3 +63,33 @@ returns-then-word-tick-clause-deferred g c = rw (← c.self.view_is) (stays _ _)
 
 pub returns-clause-deferred : goal.returns-clause-deferred
 returns-clause-deferred g c = rw (← c.self.view_is) (stays _ _)
+
+pub returns-then-word-tick-clause-same : goal.returns-then-word-tick-clause-same
+returns-then-word-tick-clause-same g c = rw (← c.self.view_is) (refl, refl, refl)
+
+pub returns-then-word-tick-clause-origin : goal.returns-then-word-tick-clause-origin
+returns-then-word-tick-clause-origin g c = rw (← c.self.view_is) c.look-word.ensures.origin
+
+pub returns-then-word-tick-clause-begun : goal.returns-then-word-tick-clause-begun
+returns-then-word-tick-clause-begun g c = rw (← c.self.view_is) c.look-word.ensures.begun
+
+pub returns-then-word-tick-clause-one_step : goal.returns-then-word-tick-clause-one_step
+returns-then-word-tick-clause-one_step g c = rw (← c.self.view_is) c.look-word.ensures.one_step
+
+pub returns-then-word-tick-clause-noted : goal.returns-then-word-tick-clause-noted
+returns-then-word-tick-clause-noted g c = rw (← c.self.view_is) refl
+
+pub returns-clause-same : goal.returns-clause-same
+returns-clause-same g c = rw (← c.self.view_is) (refl, refl, refl)
+
+pub returns-clause-origin : goal.returns-clause-origin
+returns-clause-origin g c = rw (← c.self.view_is) c.look-word.ensures.origin
+
+pub returns-clause-begun : goal.returns-clause-begun
+returns-clause-begun g c = rw (← c.self.view_is) c.look-word.ensures.begun
+
+pub returns-clause-one_step : goal.returns-clause-one_step
+returns-clause-one_step g c = rw (← c.self.view_is) c.look-word.ensures.one_step
+
+pub returns-clause-noted : goal.returns-clause-noted
+returns-clause-noted g c = rw (← c.self.view_is) refl

@@ -1,4 +1,5 @@
-use Rattle.std.proofs.Common.{ap, ◌∙◌, refl}
+use Rattle.std.proofs.Common.{ap, ◌∙◌, refl, length}
+use Rattle.std.proofs.lemmas.List.{length-set}
 use Rattle.dq_core.specs.Words.{settled_counts}
 use Rattle.dq_core.specs.declared.words.Settled.TheVariants.{SettledExpired}
 use Rattle.dq_core.proofs.Ways.{core_of}
@@ -53,3 +54,52 @@ returns-in-SettledCancelled-clause-deferred g c = rw (← c.self.view_is) c.defe
 
 pub returns-in-Later-clause-deferred : goal.returns-in-Later-clause-deferred
 returns-in-Later-clause-deferred g c = rw (← c.self.view_is) (stays _ _)
+
+pub returns-in-SettledExpired-clause-same : goal.returns-in-SettledExpired-clause-same
+returns-in-SettledExpired-clause-same g c =
+    let v = c.vacate-gone.ensures.vacated in
+    rw (← c.self.view_is) (refl, ap (λ x. x.last_stamp) v, ap (λ x. length x.rows) v ∙ length-set _ _ _)
+
+pub returns-in-SettledExpired-clause-origin : goal.returns-in-SettledExpired-clause-origin
+returns-in-SettledExpired-clause-origin g c = rw (← c.self.view_is) c.in-SettledExpired.ensures.origin
+
+pub returns-in-SettledExpired-clause-begun : goal.returns-in-SettledExpired-clause-begun
+returns-in-SettledExpired-clause-begun g c = rw (← c.self.view_is) c.in-SettledExpired.ensures.begun
+
+pub returns-in-SettledExpired-clause-one_step : goal.returns-in-SettledExpired-clause-one_step
+returns-in-SettledExpired-clause-one_step g c = rw (← c.self.view_is) c.in-SettledExpired.ensures.one_step
+
+pub returns-in-SettledExpired-clause-noted : goal.returns-in-SettledExpired-clause-noted
+returns-in-SettledExpired-clause-noted g c = rw (← c.self.view_is) refl
+
+pub returns-in-Later-clause-same : goal.returns-in-Later-clause-same
+returns-in-Later-clause-same g c = rw (← c.self.view_is) (refl, refl, refl)
+
+pub returns-in-Later-clause-origin : goal.returns-in-Later-clause-origin
+returns-in-Later-clause-origin g c = rw (← c.self.view_is) c.in-Later.ensures.origin
+
+pub returns-in-Later-clause-begun : goal.returns-in-Later-clause-begun
+returns-in-Later-clause-begun g c = rw (← c.self.view_is) c.in-Later.ensures.begun
+
+pub returns-in-Later-clause-one_step : goal.returns-in-Later-clause-one_step
+returns-in-Later-clause-one_step g c = rw (← c.self.view_is) c.in-Later.ensures.one_step
+
+pub returns-in-Later-clause-noted : goal.returns-in-Later-clause-noted
+returns-in-Later-clause-noted g c = rw (← c.self.view_is) refl
+
+pub returns-in-SettledCancelled-clause-same : goal.returns-in-SettledCancelled-clause-same
+returns-in-SettledCancelled-clause-same g c =
+    let v = c.defer.ensures.vacated in
+    rw (← c.self.view_is) (refl, ap (λ x. x.last_stamp) v, ap (λ x. length x.rows) v ∙ length-set _ _ _)
+
+pub returns-in-SettledCancelled-clause-origin : goal.returns-in-SettledCancelled-clause-origin
+returns-in-SettledCancelled-clause-origin g c = rw (← c.self.view_is) c.in-SettledCancelled.ensures.origin
+
+pub returns-in-SettledCancelled-clause-begun : goal.returns-in-SettledCancelled-clause-begun
+returns-in-SettledCancelled-clause-begun g c = rw (← c.self.view_is) c.in-SettledCancelled.ensures.begun
+
+pub returns-in-SettledCancelled-clause-one_step : goal.returns-in-SettledCancelled-clause-one_step
+returns-in-SettledCancelled-clause-one_step g c = rw (← c.self.view_is) c.in-SettledCancelled.ensures.one_step
+
+pub returns-in-SettledCancelled-clause-noted : goal.returns-in-SettledCancelled-clause-noted
+returns-in-SettledCancelled-clause-noted g c = rw (← c.self.view_is) refl

@@ -1,9 +1,12 @@
-use Rattle.std.proofs.Common.{◌∙◌, refl, ap, arith}
+use Rattle.std.proofs.Common.{ℕ, ◌+◌, ◌≤◌, ◌∙◌, refl, ap, arith}
 use Rattle.dq_core.proofs.PieceSteps.{arrives_on, step_arrived, step_rests}
 use Rattle.dq_core.proofs.Steps.{step_advanced, advanced_on, rests_at}
 use Rattle.dq_core.proofs.WheelSteps.{goes_on}
 use Rattle.dq_core.proofs.Settings.{stays, stays_as}
 use Rattle.dq_core.proofs.queue.DelayCore.step.Goals as goal
+
+one_more : (n : ℕ) → n ≤ n + 1
+one_more n = omega arith
 
 pub returns-in-Whole-clause-progress : goal.returns-in-Whole-clause-progress
 returns-in-Whole-clause-progress g c =
@@ -44,3 +47,48 @@ pub returns-clause-deferred : goal.returns-clause-deferred
 returns-clause-deferred g c =
     let same = c.in_default.ensures.settles.0 in
     stays_as _ _ _ _ (ap (λ q. q.slots.rows) same) (ap (λ q. q.deferred) same)
+
+pub returns-in-Whole-clause-same : goal.returns-in-Whole-clause-same
+returns-in-Whole-clause-same g c = rw (← (c.self.view_is ∙ c.in_default.ensures.settles.0)) (refl, refl, refl)
+
+pub returns-in-Whole-clause-origin : goal.returns-in-Whole-clause-origin
+returns-in-Whole-clause-origin g c = rw (← (c.self.view_is ∙ c.in_default.ensures.settles.0)) refl
+
+pub returns-in-Whole-clause-begun : goal.returns-in-Whole-clause-begun
+returns-in-Whole-clause-begun g c = rw (← (c.self.view_is ∙ c.in_default.ensures.settles.0)) (λ i s d x. x)
+
+pub returns-in-Whole-clause-one_step : goal.returns-in-Whole-clause-one_step
+returns-in-Whole-clause-one_step g c = rw (← (c.self.view_is ∙ c.in_default.ensures.settles.0)) (one_more _)
+
+pub returns-in-Whole-clause-noted : goal.returns-in-Whole-clause-noted
+returns-in-Whole-clause-noted g c = rw (← (c.self.view_is ∙ c.in_default.ensures.settles.0)) refl
+
+pub returns-in-InPieces-clause-same : goal.returns-in-InPieces-clause-same
+returns-in-InPieces-clause-same g c = rw (← (c.self.view_is ∙ c.in_default.ensures.settles.0)) (refl, refl, refl)
+
+pub returns-in-InPieces-clause-origin : goal.returns-in-InPieces-clause-origin
+returns-in-InPieces-clause-origin g c = rw (← (c.self.view_is ∙ c.in_default.ensures.settles.0)) refl
+
+pub returns-in-InPieces-clause-begun : goal.returns-in-InPieces-clause-begun
+returns-in-InPieces-clause-begun g c = rw (← (c.self.view_is ∙ c.in_default.ensures.settles.0)) (λ i s d x. x)
+
+pub returns-in-InPieces-clause-one_step : goal.returns-in-InPieces-clause-one_step
+returns-in-InPieces-clause-one_step g c = rw (← (c.self.view_is ∙ c.in_default.ensures.settles.0)) (one_more _)
+
+pub returns-in-InPieces-clause-noted : goal.returns-in-InPieces-clause-noted
+returns-in-InPieces-clause-noted g c = rw (← (c.self.view_is ∙ c.in_default.ensures.settles.0)) refl
+
+pub returns-clause-same : goal.returns-clause-same
+returns-clause-same g c = c.in_default.ensures.same
+
+pub returns-clause-origin : goal.returns-clause-origin
+returns-clause-origin g c = c.in_default.ensures.origin
+
+pub returns-clause-begun : goal.returns-clause-begun
+returns-clause-begun g c = c.in_default.ensures.begun
+
+pub returns-clause-one_step : goal.returns-clause-one_step
+returns-clause-one_step g c = c.in_default.ensures.one_step
+
+pub returns-clause-noted : goal.returns-clause-noted
+returns-clause-noted g c = c.in_default.ensures.noted

@@ -1,4 +1,5 @@
-use Rattle.std.proofs.Common.{sym, ap}
+use Rattle.std.proofs.Common.{◌∙◌, sym, ap}
+use Rattle.dq_words.specs.Keeping.{counts_of}
 use Rattle.dq_words.specs.Plays.{KeeperLoads}
 use Rattle.dq_words.specs.Seats.{Sat}
 use Rattle.dq_words.specs.declared.views.View.{View}
@@ -28,3 +29,12 @@ returns-clause-unused g c =
     let own = ap (λ (s : Sat). s.view) (sym c.self.view_is) in
     let h : KeeperLoads c.args.self.now.view c.keeper_load.new.self.view c.args.index c.keeper_load.result = rw own c.keeper_load.ensures.step in
     unused_at c.args.self.now.view.seen c.args.index c.keeper_load.result _ h.1 (sym c.unpack.ensures)
+
+pub returns-clause-origin : goal.returns-clause-origin
+returns-clause-origin g c = c.keeper_load.ensures.table ∙ ap (λ (s : Sat). s.table) c.self.view_is
+
+pub returns-clause-counts : goal.returns-clause-counts
+returns-clause-counts g c =
+    let own = ap (λ (s : Sat). s.view) (sym c.self.view_is) in
+    let h : KeeperLoads c.args.self.now.view c.keeper_load.new.self.view c.args.index c.keeper_load.result = rw own c.keeper_load.ensures.step in
+    ap (λ (v : View). counts_of v.writes) h.0

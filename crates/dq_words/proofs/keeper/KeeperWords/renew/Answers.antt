@@ -1,4 +1,4 @@
-use Rattle.std.proofs.Common.{sym, ap}
+use Rattle.std.proofs.Common.{◌∙◌, sym, ap}
 use Rattle.dq_words.specs.KeeperCalls.{KeeperRenews}
 use Rattle.dq_words.specs.Seats.{Sat}
 use Rattle.dq_words.proofs.Bridge.{renews_parts}
@@ -22,3 +22,11 @@ returns-clause-begun g c =
     let own = ap (λ (s : Sat). s.view) (sym c.self.view_is) in
     let h : KeeperRenews c.args.self.now.view c.args.index c.args.stamp c.args.when c.renew.result c.renew.new.seat.view = rw own c.renew.ensures.renews in
     renew_stays c.args.self.now.view c.renew.new.seat.view c.args.index c.args.stamp c.args.when c.renew.result h
+
+pub returns-clause-step : goal.returns-clause-step
+returns-clause-step g c =
+    let own = ap (λ (s : Sat). s.view) (sym c.self.view_is) in
+    rw own c.renew.ensures.renews
+
+pub returns-clause-origin : goal.returns-clause-origin
+returns-clause-origin g c = c.renew.ensures.table ∙ ap (λ (s : Sat). s.table) c.self.view_is

@@ -1,4 +1,4 @@
-use Rattle.std.proofs.Common.{sym, ap}
+use Rattle.std.proofs.Common.{◌∙◌, sym, ap}
 use Rattle.dq_words.specs.KeeperCalls.{KeeperSettles}
 use Rattle.dq_words.specs.Seats.{Sat}
 use Rattle.dq_words.proofs.Bridge.{settles_parts}
@@ -28,3 +28,11 @@ returns-clause-one_step g c =
     let own = ap (λ (s : Sat). s.view) (sym c.self.view_is) in
     let h : KeeperSettles c.args.self.now.view c.args.index c.args.stamp c.args.at c.settle.result c.settle.new.seat.view = rw own c.settle.ensures.settles in
     settle_once c.args.self.now.view c.settle.new.seat.view c.args.index c.args.stamp c.args.at c.settle.result h
+
+pub returns-clause-step : goal.returns-clause-step
+returns-clause-step g c =
+    let own = ap (λ (s : Sat). s.view) (sym c.self.view_is) in
+    rw own c.settle.ensures.settles
+
+pub returns-clause-origin : goal.returns-clause-origin
+returns-clause-origin g c = c.settle.ensures.table ∙ ap (λ (s : Sat). s.table) c.self.view_is
