@@ -1,8 +1,11 @@
 pub mod Auditing
+pub mod Handled
 pub mod Headline
+pub mod KeptOrLeft
 pub mod Locked
 pub mod Numbering
 pub mod ParkedLaw
 pub mod Refusing
+pub mod StreamEnds
 pub mod Streamed
 pub mod Summing
